@@ -1,0 +1,54 @@
+// The lines of a file: where each ends, and how many there are.
+use crate::bytes::seek;
+ghost use mathlib.Core.Path.{_≡_};
+ghost use Prim.Native.Nat.{_<_};
+ghost use lib.ListN.{length};
+ghost use Rattle.text.specs.Lines.{lines};
+ghost use Rattle.text.specs.Places.{LineAt};
+
+pub const LF: u8 = 10;
+
+pub const CR: u8 = 13;
+
+// Where a line's text ends, and where the next line begins.
+pub struct Line {
+    pub end: usize,
+    pub next: usize,
+}
+
+// The line that begins at `at`: one CR directly before its LF is not in its text.
+pub fn line_at(file: &[u8], at: usize) -> Line
+    requires { ⌜ at < length (now file) ⌝ }
+    ensures { λ r. ⌜ LineAt (now (file .entry)) at (r .end) (r .next) ⌝ }
+{
+    let e = seek(file, at, LF);
+    if e < file.len() {
+        if at < e {
+            if file[e - 1] == CR {
+                return Line {
+                    end: e - 1,
+                    next: e + 1,
+                };
+            }
+        }
+        return Line {
+            end: e,
+            next: e + 1,
+        };
+    }
+    Line { end: e, next: e }
+}
+
+// How many lines the file has: a last one without LF counts, and so does an empty one.
+pub fn count_lines(file: &[u8]) -> usize
+    ensures { λ r. ⌜ r ≡ length (lines (now (file .entry))) ⌝ }
+{
+    let mut n = 0;
+    let mut at = 0;
+    while at < file.len() {
+        let line = line_at(file, at);
+        n += 1;
+        at = line.next;
+    }
+    n
+}
