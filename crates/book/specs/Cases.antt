@@ -1,0 +1,82 @@
+-- Worked examples of the book, computed. Assumes nothing.
+use Prim.Native.Nat.{ℕ}
+use Prim.Native.String.{String}
+use mathlib.Core.Path.{_≡_, refl}
+use mathlib.Core.Bool.{true, false}
+use mathlib.Core.List.{[], _∷_, map}
+use Rattle.text.specs.Bytes.{bytes, same, begins, isEmpty, any, onFirst, splitOn}
+use Rattle.text.specs.Lines.{startsLf, lines, coded}
+use Rattle.kinds.specs.Index.{written, digits, number, bracketed, indexAt}
+use Rattle.kinds.specs.Values.{isText, isNull}
+use Rattle.kinds.specs.References.{refTo}
+use Rattle.book.specs.Names.{piecesFrom, entryOf, fits, firstOf}
+use Rattle.book.specs.Keys.{keys, keyEntries, keyOf}
+use Rattle.book.specs.Columns.{proteinColumns, peptideColumns, psmColumns, moleculeColumns, columns, required, columnEntries, isOpt, optOf, columnOf}
+use Rattle.book.specs.Ids.{isMeta, declares, declared, indexAfter, idIn, idOf}
+use Rattle.book.specs.Values.{familyNumber, isKept, isFixed, ofKind, cellOfKind}
+use Rattle.book.specs.declared.names.Found.{Found}
+use Rattle.book.specs.declared.names.Found.the-variants.{Unknown, Known}
+use Rattle.book.specs.declared.ids.Id.the-variants.{Nothing, Of}
+
+abbrev key : String → Found
+key name = keyOf (bytes name)
+
+abbrev column : ℕ → String → Found
+column s name = columnOf s (bytes name)
+
+abbrev entryNumber : Found → ℕ
+entryNumber Unknown = 999
+entryNumber (Known e k f i j) = e
+
+-- a key with no index, one and two; its kind is text, its value names no id (84 is `T`, 45 `-`)
+keys-known : (key "mzTab-ID" ≡ Known 3 84 45 0 0) × (key "contact[3]-email" ≡ Known 10 84 45 3 0) × (key "assay[1]-quantification_mod[64]-position" ≡ Known 19 84 45 1 64)
+unfolding keyOf keyEntries keys bytes entryOf piecesFrom firstOf fits indexAt bracketed digits number
+keys-known = (refl, refl, refl)
+
+-- a reference, whose value names a sample (114 is `r`, 83 `S`)
+reference-key : key "assay[2]-sample_ref" ≡ Known 57 114 83 2 0
+unfolding keyOf keyEntries keys bytes entryOf piecesFrom firstOf fits indexAt bracketed digits number
+reference-key = refl
+
+-- a wrong index, a missing one, no name and a name that goes on are unknown
+keys-unknown : (key "study_variable[65]-sample_refs" ≡ Unknown) × (key "uri[01]" ≡ Unknown) × (key "uri" ≡ Unknown) × (key "" ≡ Unknown) × (key "title " ≡ Unknown)
+unfolding keyOf keyEntries keys bytes entryOf piecesFrom firstOf fits indexAt bracketed digits number
+keys-unknown = (refl, refl, refl, refl, refl)
+
+-- a column that names run 7, its last index (68 is `D`, 82 `R`); reliability is text in section 4 (84 is `T`) and not in section 2 (82 is `R`)
+columns-known : (column 1 "search_engine_score[2]_ms_run[7]" ≡ Known 16 68 82 2 7) × (column 4 "reliability" ≡ Known 11 84 45 0 0) × (column 2 "reliability" ≡ Known 8 82 45 0 0)
+unfolding columnOf columnEntries columns proteinColumns peptideColumns psmColumns moleculeColumns isOpt begins bytes entryOf piecesFrom firstOf fits indexAt bracketed digits number
+columns-known = (refl, refl, refl)
+
+-- another section's column is unknown, `opt_` alone too; with a byte more it is known everywhere
+columns-other : (column 3 "taxid" ≡ Unknown) × (column 3 "opt_" ≡ Unknown) × (column 3 "opt_x" ≡ Known 255 84 45 0 0) × (column 5 "charge" ≡ Unknown)
+unfolding columnOf columnEntries columns proteinColumns peptideColumns psmColumns moleculeColumns isOpt optOf begins bytes entryOf piecesFrom firstOf fits indexAt bracketed digits number
+columns-other = (refl, refl, refl, refl)
+
+-- every required column is known in its section, at these entries
+required-known : (map (λ r. entryNumber (column 1 r)) (required 1) ≡ 0 ∷ 1 ∷ 3 ∷ 21 ∷ []) × (map (λ r. entryNumber (column 2 r)) (required 2) ≡ 5 ∷ 0 ∷ 7 ∷ 10 ∷ [])
+    × (map (λ r. entryNumber (column 3 r)) (required 3) ≡ 5 ∷ 6 ∷ 0 ∷ 12 ∷ 7 ∷ []) × (map (λ r. entryNumber (column 4 r)) (required 4) ≡ 7 ∷ 13 ∷ [])
+unfolding required columnOf columnEntries columns proteinColumns peptideColumns psmColumns moleculeColumns isOpt begins bytes entryOf piecesFrom firstOf fits indexAt bracketed digits number
+required-known = (refl, refl, refl, refl)
+
+-- P: `assay[64]` an id, `assay[65]`, `assay[01]`, `assay[0]` not, as a single statement
+pub ids : (idOf (bytes "assay[64]") ≡ Of 1 64) × (idOf (bytes "assay[65]") ≡ Nothing) × (idOf (bytes "assay[01]") ≡ Nothing) × (idOf (bytes "assay[0]") ≡ Nothing)
+unfolding idOf idIn indexAfter begins bytes indexAt bracketed digits number
+ids = (refl, refl, refl, refl)
+
+-- a line of three cells with a known key declares; one of two cells, with an unknown key or another code does not
+lines-declare : (declares 3 1 (bytes "MTD\tms_run[1]-location\tx") ≡ true) × (declares 3 1 (bytes "MTD\tms_run[1]-location") ≡ false)
+    × (declares 3 1 (bytes "MTD\tms_run[1]-place\tx") ≡ false) × (declares 3 1 (bytes "COM\tms_run[1]-location\tx") ≡ false) × (declares 3 2 (bytes "MTD\tms_run[1]-location\tx") ≡ false)
+unfolding declares isMeta coded same splitOn onFirst begins written keyOf keyEntries keys bytes entryOf piecesFrom firstOf fits indexAt bracketed digits number
+lines-declare = (refl, refl, refl, refl, refl)
+
+-- early or late: the sample is declared after the assay that refers to it
+later-declared : declared (bytes "MTD\tassay[1]-sample_ref\tsample[2]\nMTD\tsample[2]-description\tx") 0 2 ≡ true
+unfolding declared any lines startsLf declares isMeta coded same splitOn onFirst begins written keyOf keyEntries keys bytes entryOf piecesFrom firstOf fits indexAt bracketed digits number
+later-declared = refl
+
+-- values: a reference to a sample, a version, and `null`, which stands for missing save in a column that is never null
+values-kind : (ofKind 114 83 (bytes "sample[3]") ≡ true) × (ofKind 114 83 (bytes "assay[3]") ≡ false) × (ofKind 118 45 (bytes "1.0.0") ≡ true) × (ofKind 118 45 (bytes "1.1") ≡ false)
+    × (cellOfKind 87 (bytes "null") ≡ true) × (cellOfKind 75 (bytes "null") ≡ false) × (cellOfKind 82 (bytes "4") ≡ false)
+unfolding ofKind cellOfKind familyNumber isKept isFixed refTo same begins bytes indexAt bracketed digits number isNull isText isEmpty
+values-kind = (refl, refl, refl, refl, refl, refl, refl)

@@ -1,0 +1,89 @@
+-- The metadata keys, a line for each: the letter of its kind, the letter of the family that its value names (`-` none), a space, and the key,
+-- with [n] where an index stands. In the paper's order. The letters are in Book. Assumes nothing.
+use Prim.Native.String.{String}
+use mathlib.Core.List.{List, [], _∷_, map}
+use Rattle.text.specs.Bytes.{Bytes, bytes, begins}
+use mathlib.Core.Bool.{Bool}
+use Rattle.book.specs.Names.{Entry, entryOf, lookupIn}
+use Rattle.book.specs.declared.names.Found.{Found}
+
+-- the known keys
+unfoldable pub keys : List String
+keys =
+    "v- mzTab-version"
+    ∷ "m- mzTab-mode"
+    ∷ "t- mzTab-type"
+    ∷ "T- mzTab-ID"
+    ∷ "T- title"
+    ∷ "T- description"
+    ∷ "T- software[n]-setting[n]"
+    ∷ "T- publication[n]"
+    ∷ "T- contact[n]-name"
+    ∷ "T- contact[n]-affiliation"
+    ∷ "T- contact[n]-email"
+    ∷ "T- uri[n]"
+    ∷ "T- fixed_mod[n]-site"
+    ∷ "T- fixed_mod[n]-position"
+    ∷ "T- variable_mod[n]-site"
+    ∷ "T- variable_mod[n]-position"
+    ∷ "T- ms_run[n]-location"
+    ∷ "T- sample[n]-description"
+    ∷ "T- assay[n]-quantification_mod[n]-site"
+    ∷ "T- assay[n]-quantification_mod[n]-position"
+    ∷ "T- study_variable[n]-description"
+    ∷ "T- cv[n]-label"
+    ∷ "T- cv[n]-full_name"
+    ∷ "T- cv[n]-version"
+    ∷ "T- cv[n]-url"
+    ∷ "T- colunit-protein"
+    ∷ "T- colunit-peptide"
+    ∷ "T- colunit-psm"
+    ∷ "T- colunit-small_molecule"
+    ∷ "P- instrument[n]-name"
+    ∷ "P- instrument[n]-source"
+    ∷ "P- instrument[n]-analyzer[n]"
+    ∷ "P- instrument[n]-detector"
+    ∷ "P- software[n]"
+    ∷ "P- protein_search_engine_score[n]"
+    ∷ "P- peptide_search_engine_score[n]"
+    ∷ "P- psm_search_engine_score[n]"
+    ∷ "P- smallmolecule_search_engine_score[n]"
+    ∷ "P- fixed_mod[n]"
+    ∷ "P- variable_mod[n]"
+    ∷ "P- quantification_method"
+    ∷ "P- protein-quantification_unit"
+    ∷ "P- peptide-quantification_unit"
+    ∷ "P- small_molecule-quantification_unit"
+    ∷ "P- ms_run[n]-format"
+    ∷ "P- ms_run[n]-id_format"
+    ∷ "P- ms_run[n]-fragmentation_method"
+    ∷ "P- custom[n]"
+    ∷ "P- sample[n]-species[n]"
+    ∷ "P- sample[n]-tissue[n]"
+    ∷ "P- sample[n]-cell_type[n]"
+    ∷ "P- sample[n]-disease[n]"
+    ∷ "P- sample[n]-custom[n]"
+    ∷ "P- assay[n]-quantification_reagent"
+    ∷ "P- assay[n]-quantification_mod[n]"
+    ∷ "Q- sample_processing[n]"
+    ∷ "Q- false_discovery_rate"
+    ∷ "rS assay[n]-sample_ref"
+    ∷ "rR assay[n]-ms_run_ref"
+    ∷ "lA study_variable[n]-assay_refs"
+    ∷ "lS study_variable[n]-sample_refs"
+    ∷ []
+
+-- the keys that a file must have: rule 21
+unfoldable pub demanded : List String
+demanded = "mzTab-version" ∷ "mzTab-mode" ∷ "mzTab-type" ∷ "description" ∷ "ms_run[n]-location" ∷ []
+
+unfoldable pub keyEntries : List Entry
+keyEntries = map entryOf (map bytes keys)
+
+-- what the book says of a key
+unfoldable pub keyOf : Bytes → Found
+keyOf name = lookupIn keyEntries name
+
+-- whether a key is one of the `colunit` ones, which may come twice
+unfoldable pub isColunit : Bytes → Bool
+isColunit name = begins (bytes "colunit-") name

@@ -1,0 +1,8 @@
+pub mod Book
+pub mod Names
+pub mod Keys
+pub mod Columns
+pub mod Rows
+pub mod Ids
+pub mod Values
+pub mod Cases

@@ -1,0 +1,174 @@
+// A name looked up in a table of rows.
+use kinds::index::Index;
+use kinds::index::read_index;
+ghost use mathlib.Core.Path.{_≡_};
+ghost use mathlib.Core.List.{[]};
+ghost use lib.ListN.{getD, drop};
+ghost use Rattle.text.specs.Bytes.{begins};
+ghost use Rattle.book.specs.Keys.{isColunit};
+ghost use Rattle.book.specs.Columns.{isOpt};
+ghost use Rattle.book.specs.Names.{pieces, fits as fitsIn, lookupIn, mayFit, SPACE as space};
+ghost use Rattle.book.specs.Rows.{entries};
+
+// The bytes of a row.
+pub const WIDTH: usize = 54;
+
+// Where the name begins in a row: after the letters of its kind and family, and a space.
+const NAME: usize = 3;
+
+const SPACE: u8 = 32;
+
+// Whether a name fits a pattern, with the indices that it has there, 0 for none.
+pub enum Match {
+    Differs,
+    Fits(usize, usize),
+}
+
+// What a table says of a name: its entry there, the letters of its kind and family, and the name's indices, 0 for none.
+pub enum Found {
+    Unknown,
+    Known {
+        entry: usize,
+        kind: u8,
+        family: u8,
+        i: usize,
+        j: usize,
+    },
+}
+
+// Where the pattern has ended: a name that goes on differs.
+fn ended(s: &[u8], b: usize, i: usize, j: usize) -> Match
+    ensures { λ r. ⌜ r ≡ fitsIn [] (drop b (now (s .entry))) i j ⌝ }
+{
+    if b < s.len() {
+        return Match::Differs;
+    }
+    Match::Fits(i, j)
+}
+
+// Whether `s` fits the pattern that stands in the row `p` from `from` on.
+pub fn fits(p: &[u8], from: usize, s: &[u8]) -> Match
+    ensures { λ r. ⌜ r ≡ fitsIn (pieces (drop from (now (p .entry)))) (now (s .entry)) 0 0 ⌝ }
+{
+    let mut a = from;
+    let mut b = 0;
+    let mut i = 0;
+    let mut j = 0;
+    while a < p.len() {
+        let x = p[a];
+        if x == SPACE {
+            return ended(s, b, i, j);
+        }
+        if x == b'[' {
+            let Index::Is(v, w) = read_index(&s[b..]) else {
+                return Match::Differs;
+            };
+            a += 3;
+            b += w;
+            if i == 0 {
+                i = v;
+            } else if j == 0 {
+                j = v;
+            } else {
+                return Match::Differs;
+            }
+        } else {
+            if s.len() <= b {
+                return Match::Differs;
+            }
+            if s[b] != x {
+                return Match::Differs;
+            }
+            a += 1;
+            b += 1;
+        }
+    }
+    ended(s, b, i, j)
+}
+
+// The byte of a name at a place, a space past its end.
+fn byte_of(name: &[u8], i: usize) -> u8
+    ensures { λ r. ⌜ r ≡ getD (now (name .entry)) i space ⌝ }
+{
+    if i < name.len() { name[i] } else { SPACE }
+}
+
+// Whether a pattern that begins with the bytes p and q may fit a name that begins with x and y: an index may stand at either, or the pattern may end there.
+fn may_fit(p: u8, q: u8, x: u8, y: u8) -> bool
+    ensures { λ r. ⌜ r ≡ mayFit p q x y ⌝ }
+{
+    if p != x {
+        return false;
+    }
+    if q == y {
+        return true;
+    }
+    if q == b'[' {
+        return true;
+    }
+    if q == SPACE {
+        return true;
+    }
+    if p == b'[' {
+        return true;
+    }
+    p == SPACE
+}
+
+// What the table says of the name: the first row whose pattern it fits. Rows whose pattern begins with other bytes are passed over at once.
+pub fn lookup(table: &[u8], name: &[u8]) -> Found
+    ensures { λ r. ⌜ r ≡ lookupIn (entries (now (table .entry))) (now (name .entry)) ⌝ }
+{
+    let x = byte_of(name, 0);
+    let y = byte_of(name, 1);
+    let mut at = 0;
+    let mut entry = 0;
+    while WIDTH <= table.len() - at {
+        let next = at + WIDTH;
+        if may_fit(table[at + NAME], table[at + NAME + 1], x, y) {
+            if let Match::Fits(i, j) = fits(&table[at..next], NAME, name) {
+                return Found::Known {
+                    entry,
+                    kind: table[at],
+                    family: table[at + 1],
+                    i,
+                    j,
+                };
+            }
+        }
+        at = next;
+        entry += 1;
+    }
+    Found::Unknown
+}
+
+// Whether the name begins with the word.
+pub fn begins_with(word: &[u8], name: &[u8]) -> bool
+    ensures { λ r. ⌜ r ≡ begins (now (word .entry)) (now (name .entry)) ⌝ }
+{
+    let mut a = 0;
+    while a < word.len() {
+        if name.len() <= a {
+            return false;
+        }
+        if word[a] != name[a] {
+            return false;
+        }
+        a += 1;
+    }
+    true
+}
+
+// Whether the name begins `opt_`.
+pub fn is_opt(name: &[u8]) -> bool
+    ensures { λ r. ⌜ r ≡ isOpt (now (name .entry)) ⌝ }
+{
+    begins_with(b"opt_", name)
+}
+
+// Whether the key is a `colunit` one.
+pub fn is_colunit(name: &[u8]) -> bool
+    ensures { λ r. ⌜ r ≡ isColunit (now (name .entry)) ⌝ }
+{
+    begins_with(b"colunit-", name)
+}
