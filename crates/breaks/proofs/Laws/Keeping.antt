@@ -1,0 +1,85 @@
+-- What is carried along says what the rules ask of the lines above and of the whole file. Assumes nothing.
+use mathlib.Core.Path.{_≡_, refl, sym, ap, subst, _∙_}
+use mathlib.Core.Bool.{Bool, true, false, not, _&&_, _||_}
+use mathlib.Core.List.{List, [], _∷_, _++_}
+use Prim.Native.Nat.{ℕ, suc, _+_, _-_, _*_, _≤_, _<_}
+use native.Mathlib.Omega.{arith}
+use lib.Dec.{eqb, ltb, leb}
+use lib.ListN.{length, getD}
+use borrow.Author.Tests.{eq-eqb, eqb-true}
+use Rattle.text.specs.Bytes.{Bytes, same, any}
+use Rattle.text.specs.Lines.{cells}
+use Rattle.text.proofs.Laws.Tests.{and-both}
+use Rattle.book.specs.Names.{slotOf, lookupIn}
+use Rattle.book.specs.Keys.{keys, keyOf, keyEntries, isColunit}
+use Rattle.book.specs.Ids.{isKnown, declares}
+use Rattle.book.specs.declared.names.Found.{Found}
+use Rattle.book.specs.declared.names.Found.the-variants.{Unknown, Known}
+use Rattle.book.proofs.Laws.Known.{same-slot, slot-below}
+use Rattle.breaks.specs.Sorts.{cell, isMeta}
+use Rattle.breaks.specs.Rules.{isThree, keyFound, sameKey}
+use Rattle.breaks.specs.Machine.{SLOTS, againIn, isSlot, hasSlot, Slots}
+use Rattle.breaks.proofs.Laws.Rowing.{test-eq}
+
+-- THE SAME BYTES are equal
+
+pub same-equal : (a b : Bytes) → same a b ≡ true → a ≡ b
+unfolding same
+same-equal [] [] h = refl
+same-equal [] (y ∷ ys) h = absurd (let z : _≡_ {A = ℕ} 0 1 = cc in omega arith)
+same-equal (x ∷ xs) [] h = absurd (let z : _≡_ {A = ℕ} 0 1 = cc in omega arith)
+same-equal (x ∷ xs) (y ∷ ys) h =
+    let p = and-both (eqb x y) (same xs ys) h in
+    let e : x ≡ y = eqb-true x y (p .0) in
+    let t : xs ≡ ys = same-equal xs ys (p .1) in
+    cc
+
+pub same-self : (a : Bytes) → same a a ≡ true
+unfolding same
+same-self [] = refl
+same-self (x ∷ xs) = rw (eq-eqb x x refl, same-self xs)
+
+-- two tests that agree on every element
+pub any-alike : {A : Type 0} (f g : A → Bool) → ((x : A) → f x ≡ g x) → (xs : List A) → any f xs ≡ any g xs
+unfolding any
+any-alike f g h [] = refl
+any-alike f g h (x ∷ xs) = rw (h x, any-alike f g h xs)
+
+-- KEYS THAT CAME BEFORE: a key has a slot of its own
+
+pub keys-61 : length keyEntries ≡ 61
+unfolding keyEntries keys
+keys-61 = refl
+
+module _ (x : Bytes) (e k f i j : ℕ) (q : keyOf x ≡ Known e k f i j) where
+  -- a key with the same slot is the same
+  slot-equal : (y : Bytes) (e′ k′ f′ i′ j′ : ℕ) → keyOf y ≡ Known e′ k′ f′ i′ j′ → slotOf e′ i′ j′ ≡ slotOf e i j → x ≡ y
+  unfolding keyOf
+  slot-equal y e′ k′ f′ i′ j′ u s = same-slot keyEntries x y e k f i j e′ k′ f′ i′ j′ q u (sym s)
+
+  slot-key : (y : Bytes) → same x y ≡ isSlot (slotOf e i j) (keyOf y)
+  slot-key y = test-eq (same x y) (isSlot (slotOf e i j) (keyOf y)) there (back (keyOf y) refl)
+    where
+      there : same x y ≡ true → isSlot (slotOf e i j) (keyOf y) ≡ true
+      there t = let z : keyOf y ≡ Known e k f i j = subst (λ (b : Bytes). keyOf b ≡ Known e k f i j) (same-equal x y t) q in rw z (eq-eqb (slotOf e i j) (slotOf e i j) refl)
+
+      back : (r : Found) → keyOf y ≡ r → isSlot (slotOf e i j) r ≡ true → same x y ≡ true
+      back Unknown u t = absurd (let z : _≡_ {A = ℕ} 0 1 = cc in omega arith)
+      back (Known e′ k′ f′ i′ j′) u t = subst (λ (b : Bytes). same x b ≡ true) (slot-equal y e′ k′ f′ i′ j′ u (eqb-true (slotOf e′ i′ j′) (slotOf e i j) t)) (same-self x)
+
+  slot-in : slotOf e i j < SLOTS
+  unfolding keyOf
+  slot-in = omega (arith, slot-below keyEntries x e k f i j q .3, keys-61)
+
+-- a line has the key of l exactly where it has its slot
+module _ (l : Bytes) (above : List Bytes) (slots : List Bool) (h : Slots above slots) where
+  again-by : (r : Found) → keyFound l ≡ r → (isKnown r && (not (isColunit (cell 2 l)) && any (sameKey l) above)) ≡ againIn slots (cell 2 l) r
+  unfolding sameKey hasSlot
+  again-by Unknown q = refl
+  again-by (Known e k f i j) q =
+      let alike = any-alike (sameKey l) (hasSlot (slotOf e i j)) (λ m. rw (slot-key (cell 2 l) e k f i j q (cell 2 m))) above in
+      rw (alike, h (slotOf e i j) (slot-in (cell 2 l) e k f i j q))
+
+  -- rule 6, by slots
+  pub again-means : (isKnown (keyFound l) && (not (isColunit (cell 2 l)) && any (sameKey l) above)) ≡ againIn slots (cell 2 l) (keyFound l)
+  again-means = again-by (keyFound l) refl
