@@ -1,0 +1,63 @@
+-- A line judged by its sort: what it puts, and what is carried after it. Assumes nothing.
+use mathlib.Core.Path.{_≡_, refl, sym, ap, _∙_}
+use mathlib.Core.Bool.{Bool, true, false, not, _&&_, _||_, or-false}
+use mathlib.Core.List.{List, []}
+use Prim.Native.Nat.{ℕ, _+_, _≤_, _<_}
+use native.Mathlib.Omega.{arith}
+use lib.Dec.{eqb, ltb}
+use lib.ListN.{length, getD}
+use borrow.Author.Tests.{lt-ltb}
+use Rattle.text.specs.Bytes.{Bytes}
+use Rattle.text.specs.Lines.{cells}
+use Rattle.breaks.specs.Sorts.{sortOf, headerIn, metaIn, header, isHeader, width, controlCell}
+use Rattle.breaks.specs.Breaks.{Break}
+use Rattle.breaks.specs.Places.{Lent, Puts}
+use Rattle.breaks.specs.Rules.{isThree, keyFound, names, nearer}
+use Rattle.breaks.specs.Machine.{Ids, isSlot, hasSlot, SLOTS, Kinds, KindsOf}
+use Rattle.breaks.specs.Carried.{sortState, sortBreaks, lineBreaks, Follows}
+use Rattle.breaks.specs.declared.state.State.{State}
+use Rattle.breaks.specs.declared.sorts.Sort.{Sort}
+use Rattle.breaks.specs.declared.sorts.Sort.the-variants.{Silent, Unknown, Meta, Header, Row}
+use Rattle.breaks.proofs.Laws.Sorting.{header-section}
+
+module _ (ids : Ids) (s : State) (kinds : List ℕ) (slots : List Bool) (n : ℕ) (l : Bytes) (σ : Sort) (e : sortOf l ≡ σ) where
+  pub line-puts : {m : ℕ} {o o' : Lent} → Puts (sortBreaks σ ids s kinds slots (controlCell l) n (cells l)) m o o' → m ≤ 1300 → Puts (lineBreaks ids s kinds slots n l) 1300 o o'
+  line-puts h k = record { does = λ rest. rw e (h .does rest); most = omega (arith, h .most) }
+
+-- a line that is no metadata line has no slot
+no-slot : (l : Bytes) {σ : Sort} → sortOf l ≡ σ → metaIn σ ≡ false → (i : ℕ) → hasSlot i l ≡ false
+unfolding hasSlot
+no-slot l e z i = rw (e, z)
+
+module _ {s : State} {kinds : List ℕ} {slots : List Bool} {l : Bytes} {σ : Sort} (e : sortOf l ≡ σ) (kp : length kinds ≡ 256) (sp : length slots ≡ SLOTS) where
+  -- neither header nor metadata line: kinds and slots stay
+  pub follows-kept : headerIn σ ≡ 0 → metaIn σ ≡ false → Follows s kinds slots l (sortState σ s (width l)) kinds slots
+  follows-kept z m = record {
+    state = rw e;
+    columns = λ l₀ h. rw (e, z) h;
+    keys = λ i h. sym (ap (λ (t : Bool). getD slots i false || t) (no-slot l e m i) ∙ or-false (getD slots i false));
+    kind-places = kp;
+    key-places = sp;
+  }
+
+-- a metadata line marks its slot
+pub follows-meta : {s : State} {kinds : List ℕ} {slots slots' : List Bool} {l : Bytes} → sortOf l ≡ Meta → length kinds ≡ 256
+    → ((i : ℕ) → i < SLOTS → getD slots' i false ≡ (getD slots i false || hasSlot i l)) → length slots' ≡ SLOTS → Follows s kinds slots l s kinds slots'
+follows-meta e kp k sp = record {
+  state = rw e;
+  columns = λ l₀ h. rw e h;
+  keys = k;
+  kind-places = kp;
+  key-places = sp;
+}
+
+-- a header keeps the kinds of its columns
+pub follows-header : {s : State} {kinds kinds' : List ℕ} {slots : List Bool} {l : Bytes} (h : ℕ) → sortOf l ≡ Header h → length slots ≡ SLOTS
+    → (length (cells l) ≤ 256 → KindsOf h (names l) kinds') → length kinds' ≡ 256 → Follows s kinds slots l (sortState (Header h) s (width l)) kinds' slots
+follows-header {slots = slots} {l = l} h e sp k kp = record {
+  state = rw e;
+  columns = λ l₀ q. rw (e, lt-ltb 0 h (header-section l h e .0), e) k;
+  keys = λ i q. sym (ap (λ (t : Bool). getD slots i false || t) (no-slot l e refl i) ∙ or-false (getD slots i false));
+  kind-places = kp;
+  key-places = sp;
+}
