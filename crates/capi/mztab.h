@@ -1,0 +1,45 @@
+/* The reader of mzTab 1.0 for hosts in C, or any language that calls C.
+ *
+ * Every call ends, on every file and every number, and touches nothing but what is named here. No call keeps a pointer, allocates, or
+ * needs set-up; calls may run at the same time as long as they do not share a place that is written.
+ *
+ * A `file` is a pointer to bytes and their count. The pointer is not null, also where the count is 0, and the bytes do not change during
+ * the call. Each pointer that is written to (`number`, `length`, ..) is not null and aligned, and none points into the file or at another.
+ *
+ * The number that every call writes: 0 the answer was given; 1 the file is longer than 16,777,216 bytes; 2 the section is not 1 to 4;
+ * 3 no such row; 4 no such cell. They are tried in this order.
+ */
+#ifndef MZTAB_H
+#define MZTAB_H
+
+#include <stddef.h>
+#include <stdint.h>
+
+#ifdef __cplusplus
+extern "C" {
+#endif
+
+/* Shows a cell as a part of the file. Sections: 1 protein, 2 peptide, 3 PSM, 4 small molecule. Row 0 is the section's first header, row r
+ * its r-th line with the row code, whatever breaks the file has. Column c is cell c + 1 of that line (cell 1 is the line code); column 0 is
+ * refused with 4. The answer is where the view starts in the file; *length is how many bytes it has: file[answer .. answer + *length].
+ * In a refusal both are 0. */
+size_t mztab_cell(const uint8_t *file, size_t file_length, uint32_t section, uint32_t row, uint32_t column, uint32_t *number, size_t *length);
+
+/* Reads a cell, found as by mztab_cell. The answer is the case: 0 missing (`null`), 1 whole, 2 decimal, 3 infinite (`INF`), 4 not a number (`NaN`),
+ * 5 long decimal (more than 15 digits), 6 text (all else, an empty cell too). *line and *cell say where it stands. A whole has its value in *whole. A
+ * decimal has its signed numerals in *whole, its places after the dot in *places, and in *double the numerals divided once by ten to the places as IEEE
+ * 754 binary64, negated last for a minus. What a case does not carry is written 0; a refused reading has line 0, cell 0 and missing. */
+uint32_t mztab_reading(const uint8_t *file, size_t file_length, uint32_t section, uint32_t row, uint32_t column, uint32_t *number, uint32_t *line,
+                       uint32_t *cell, int64_t *whole, uint32_t *places, double *decimal);
+
+/* Judges a file by the 21 rules. The answer is the count of all breaks, 0 for an accepted file. The first of them that fit are written to places, three
+ * numbers each: rule, line, cell; in order of line, then cell, then rule. places is a pointer to places_length numbers, not null also where that is 0.
+ * A place that no whole break fills is left as it was. Of a file that is too long the count is 0, *number is 1 and no place is written. The call needs
+ * some 400 KB of stack. */
+uint32_t mztab_judge(const uint8_t *file, size_t file_length, uint32_t *places, size_t places_length, uint32_t *number);
+
+#ifdef __cplusplus
+}
+#endif
+
+#endif

@@ -1,0 +1,2 @@
+-- The law that the proofs cite.
+pub mod Laws

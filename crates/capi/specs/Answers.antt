@@ -1,0 +1,28 @@
+-- What the calls for hosts give back, by what the library finds. Assumes nothing.
+use Prim.Native.Nat.{ℕ, _+_, _≤_}
+use mathlib.Core.Path.{_≡_}
+use lib.ListN.{length, take, drop}
+use Rattle.text.specs.Bytes.{Bytes}
+use lib.IntN.{ℤ}
+use lib.Ieee.{Float}
+use Rattle.kinds.specs.Reading.{numberOf, wholeOf, placesOf, doubleOf}
+use Rattle.mztab.specs.Shown.{Sought}
+use Rattle.mztab.specs.Readings.{Told}
+
+-- `mztab_cell`: the number, where the view starts and how long it is; and that the bytes which stand there are the view
+pub record CellAt (file : Bytes) (s : Sought) (number start size : ℕ) : Type 0 where
+  pub says : number ≡ s .number
+  pub from : start ≡ s .start
+  pub long : size ≡ length (s .view)
+  pub ends : start + size ≤ length file
+  pub views : take size (drop start file) ≡ s .view
+
+-- `mztab_reading`: the number, the case and what it carries, the line and the cell
+pub record ReadAs (t : Told) (number case line cell : ℕ) (whole : ℤ) (places : ℕ) (double : Float) : Type 0 where
+  pub says : number ≡ t .number
+  pub is : case ≡ numberOf (t .reading .value)
+  pub on : line ≡ t .reading .line
+  pub at : cell ≡ t .reading .cell
+  pub wholes : whole ≡ wholeOf (t .reading .value)
+  pub placed : places ≡ placesOf (t .reading .value)
+  pub doubles : double ≡ doubleOf (t .reading .value)

@@ -1,0 +1,80 @@
+// What each case of a reading is to a host: its number, and the values that it carries.
+use kinds::reading::Value;
+ghost use mathlib.Core.Path.{_≡_};
+ghost use Rattle.kinds.specs.Reading.{numberOf, wholeOf, placesOf, doubleOf};
+
+// 0 missing, 1 whole, 2 decimal, 3 infinite, 4 not a number, 5 long decimal, 6 text.
+pub fn number_of(value: Value) -> u32
+    ensures { λ r. ⌜ r ≡ numberOf value ⌝ }
+{
+    match value {
+        Value::Missing => 0,
+        Value::Whole(_) => 1,
+        Value::Decimal {
+            numerals: _,
+            places: _,
+            double: _,
+        } => 2,
+        Value::Infinite => 3,
+        Value::NotANumber => 4,
+        Value::LongDecimal => 5,
+        Value::Text => 6,
+    }
+}
+
+// The value of a whole, the signed numerals of a decimal, 0 for any other.
+pub fn whole_of(value: Value) -> i64
+    ensures { λ r. ⌜ r ≡ wholeOf value ⌝ }
+{
+    match value {
+        Value::Missing => 0,
+        Value::Whole(n) => n,
+        Value::Decimal {
+            numerals,
+            places: _,
+            double: _,
+        } => numerals,
+        Value::Infinite => 0,
+        Value::NotANumber => 0,
+        Value::LongDecimal => 0,
+        Value::Text => 0,
+    }
+}
+
+// The places of a decimal, 0 for any other.
+pub fn places_of(value: Value) -> u32
+    ensures { λ r. ⌜ r ≡ placesOf value ⌝ }
+{
+    match value {
+        Value::Missing => 0,
+        Value::Whole(_) => 0,
+        Value::Decimal {
+            numerals: _,
+            places,
+            double: _,
+        } => places,
+        Value::Infinite => 0,
+        Value::NotANumber => 0,
+        Value::LongDecimal => 0,
+        Value::Text => 0,
+    }
+}
+
+// The double of a decimal, 0.0 for any other.
+pub fn double_of(value: Value) -> f64
+    ensures { λ r. ⌜ r ≡ doubleOf value ⌝ }
+{
+    match value {
+        Value::Missing => 0.0,
+        Value::Whole(_) => 0.0,
+        Value::Decimal {
+            numerals: _,
+            places: _,
+            double,
+        } => double,
+        Value::Infinite => 0.0,
+        Value::NotANumber => 0.0,
+        Value::LongDecimal => 0.0,
+        Value::Text => 0.0,
+    }
+}

@@ -1,0 +1,4 @@
+-- Laws over plain lists and positions, with no code in them.
+pub mod Rowing
+pub mod Placing
+pub mod Scanned

@@ -1,0 +1,101 @@
+-- Places that answer what is sought, by the tests that lead to each answer. Assumes nothing.
+use mathlib.Core.Path.{_≡_, refl, sym, ap, _∙_}
+use mathlib.Core.Bool.{true, false}
+use mathlib.Core.Option.{Option, none, some}
+use Prim.Native.Nat.{ℕ, _+_, _-_, _≤_, _<_}
+use native.Mathlib.Omega.{arith}
+use lib.ListN.{length, take, drop, length-take, length-drop}
+use borrow.Author.Tests.{lt-ltb, le-ltb, eq-eqb, ne-eqb}
+use Rattle.text.specs.Bytes.{Bytes, bytes, same, is}
+use Rattle.text.specs.Lines.{LIMIT, TAB, LF}
+use Rattle.text.specs.Codes.{isSection}
+use Rattle.text.specs.Places.{part, after}
+use Rattle.text.proofs.Laws.Parts.{part-part}
+use Rattle.mztab.specs.Rows.{Line, lineOf, rowOf, columnOf}
+use Rattle.mztab.specs.Shown.{Sought, refused, refusal, startOf, soughtRow, soughtCell, sought, Shown, given, shown, orElse, Placed}
+use Rattle.mztab.specs.Readings.{told, unread, readingOf}
+use Rattle.mztab.specs.declared.cells.Place.{Place}
+use Rattle.kinds.specs.Reading.{valueOf}
+use Rattle.kinds.specs.declared.reading.Value.{Value}
+
+-- a refusal's place
+pub placed-refused : (f : Bytes) {s : Sought} {n : ℕ} {p : Place} → p ≡ refusal n → refused n ≡ s → Placed f s p
+placed-refused f {s} {n} {p} e q = record {
+  says = ap (λ (x : Place). x .number) e ∙ ap (λ (x : Sought). x .number) q;
+  on = ap (λ (x : Place). x .line) e ∙ ap (λ (x : Sought). x .line) q;
+  at = ap (λ (x : Place). x .cell) e ∙ ap (λ (x : Sought). x .cell) q;
+  from = ap (λ (x : Place). x .start) e ∙ ap (λ (x : Sought). x .start) q;
+  starts = rw e (omega arith);
+  ends = rw e (omega arith);
+  views = rw e (ap (λ (x : Sought). x .view) q);
+}
+
+-- what a place says and shows is the answer
+pub placed-shown : {f : Bytes} {s : Sought} {p : Place} → Placed f s p → given (p .number) (part (p .start) (p .end) f) ≡ shown s
+placed-shown h = rw (h .says, h .views)
+
+-- the stand-in, by whether the cell is `null`
+module _ (n : ℕ) (v other : Bytes) (s : Shown) (e : given n v ≡ s) where
+  pub or-null : is v "null" ≡ true → given n other ≡ orElse other s
+  unfolding orElse
+  or-null t = rw (← e, t)
+
+  pub or-kept : is v "null" ≡ false → given n v ≡ orElse other s
+  unfolding orElse
+  or-kept t = rw (← e, t)
+
+module _ (f : Bytes) (section row column : ℕ) where
+  pub sought-long : LIMIT < length f → refused 1 ≡ sought f section row column
+  unfolding sought
+  sought-long h = rw (lt-ltb LIMIT (length f) h)
+
+  module _ (fits : length f ≤ LIMIT) where
+    pub sought-nowhere : isSection section ≡ false → refused 2 ≡ sought f section row column
+    unfolding sought
+    sought-nowhere h = rw (le-ltb LIMIT (length f) fits, h)
+
+    module _ (of : isSection section ≡ true) where
+      -- past the first tests, the row decides
+      sought-in : sought f section row column ≡ soughtRow f (rowOf f section row) column
+      unfolding sought
+      sought-in = rw (le-ltb LIMIT (length f) fits, of)
+
+      pub sought-no-row : rowOf f section row ≡ none → refused 3 ≡ sought f section row column
+      sought-no-row e = rw (sought-in, e)
+
+      -- and in a row, the column
+      module _ (l : Line) (here : rowOf f section row ≡ some l) where
+        pub sought-no-cell : columnOf (l .text) column ≡ none → refused 4 ≡ sought f section row column
+        sought-no-cell e = rw (sought-in, here, e)
+
+        sought-cell : (view : Bytes) → columnOf (l .text) column ≡ some view → record { number = 0; line = l .line; cell = column + 1; start = startOf f l column; view = view } ≡ sought f section row column
+        sought-cell view e = rw (sought-in, here, e)
+
+      -- a cell's place, from the place of its line and its place in the line
+      pub placed-cell :
+          (n a e from to : ℕ) → a ≤ e → e ≤ length f → a ≡ after LF (n - 1) f → rowOf f section row ≡ some (lineOf n (part a e f))
+          → from ≤ to → to ≤ length (part a e f) → from ≡ after TAB column (part a e f) → columnOf (part a e f) column ≡ some (part from to (part a e f))
+          → Placed f (sought f section row column) (record { number = 0; line = n; cell = column + 1; start = a + from; end = a + to })
+      placed-cell n a e from to ae ef at here ft tl after-tabs cell =
+          let q = sought-cell (lineOf n (part a e f)) here (part from to (part a e f)) cell in
+          let k : to ≤ e - a = omega (arith, length-take (e - a) (drop a f), length-drop a f) in
+          let j : a + to - (a + from) ≡ to - from = omega arith in
+          record {
+            says = ap (λ (x : Sought). x .number) q;
+            on = ap (λ (x : Sought). x .line) q;
+            at = ap (λ (x : Sought). x .cell) q;
+            from = omega arith ∙ ap (λ (x : Sought). x .start) q;
+            starts = omega arith;
+            ends = omega arith;
+            views = rw (j, ← part-part f a (e - a) from (to - from) (omega arith)) (ap (λ (x : Sought). x .view) q);
+          }
+
+-- a reading, by whether the place is a refusal's
+module _ {f : Bytes} {s : Sought} {p : Place} (h : Placed f s p) where
+  pub placed-unread : (p .number ≡ 0 → ⊥) → told (p .number) unread ≡ readingOf s
+  unfolding readingOf
+  placed-unread ne = rw (← h .says, ne-eqb (p .number) 0 ne)
+
+  pub placed-read : (v : Value) → v ≡ valueOf (part (p .start) (p .end) f) → p .number ≡ 0 → told (p .number) (record { line = p .line; cell = p .cell; value = v }) ≡ readingOf s
+  unfolding readingOf
+  placed-read v e z = rw (e, h .views, h .on, h .at, ← h .says, eq-eqb (p .number) 0 z)

@@ -1,0 +1,12 @@
+-- `mztab::cells::cell` meets its contract: `locate` gives the number and the part. Assumes nothing.
+use borrow.Author.Needs.{needs}
+use Rattle.mztab.proofs.Laws.Placing.{placed-shown}
+use Rattle.mztab.proofs.cells.cell.Statement.{statement}
+use Rattle.mztab.proofs.cells.cell.Tie as tie
+
+returns : tie.Need-returns
+returns c = placed-shown (c .before .locate .ensures)
+
+pub cell-spec : {M : Type 1} → statement M
+cell-spec =
+    tie.close (tie.spec (λ c κs. search needs) (λ c. search needs) (λ c. search needs) (λ c. search needs) returns)

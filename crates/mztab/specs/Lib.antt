@@ -1,0 +1,6 @@
+pub mod Rows
+pub mod Shown
+pub mod Readings
+pub mod Judged
+pub mod Outcomes
+pub mod Cases

@@ -1,0 +1,124 @@
+// The cell calls: one function finds the place, and each call shows it in its own way.
+use crate::records::Reading;
+use crate::rows::Row;
+use crate::rows::row_of;
+use kinds::reading::Value;
+use kinds::reading::read;
+use text::LIMIT;
+use text::Part;
+use text::bytes::same_bytes;
+use text::cells::nth_cell;
+use text::codes::is_section;
+ghost use mathlib.Core.Path.{_≡_};
+ghost use Rattle.mztab.specs.Rows.{FindsColumn};
+ghost use Rattle.mztab.specs.Readings.{told, readingOf};
+ghost use Rattle.mztab.specs.Shown.{Placed, given, refusal, sought, shown, orElse};
+
+// A number, the numbers of a line and a cell, and a part of the file: of a refusal line 0, cell 0 and the first zero bytes.
+pub struct Place {
+    pub number: u32,
+    pub line: u32,
+    pub cell: u32,
+    pub start: usize,
+    pub end: usize,
+}
+
+// Nothing is shown, and the number says why.
+fn refused(number: u32) -> Place
+    ensures { λ r. ⌜ r ≡ refusal number ⌝ }
+{
+    Place {
+        number,
+        line: 0,
+        cell: 0,
+        start: 0,
+        end: 0,
+    }
+}
+
+// Column c of a line is its cell c + 1; there is no column 0.
+fn column_of(line: &[u8], column: u32) -> Part
+    ensures { λ r. ⌜ FindsColumn (now (line .entry)) column r ⌝ }
+{
+    if column == 0 {
+        return Part::Nothing;
+    }
+    nth_cell(line, column as usize)
+}
+
+// Where the cell stands, or what is refused: tried in the order 1, 2, 3, 4.
+pub fn locate(file: &[u8], section: u32, row: u32, column: u32) -> Place
+    ensures { λ r. ⌜ Placed (now (file .entry)) (sought (now (file .entry)) section row column) r ⌝ }
+{
+    if LIMIT < file.len() {
+        return refused(1);
+    }
+    if !is_section(section) {
+        return refused(2);
+    }
+    let Row::On(line, a, e) = row_of(file, section, row) else {
+        return refused(3);
+    };
+    let Part::At(from, to) = column_of(&file[a..e], column) else {
+        return refused(4);
+    };
+    Place {
+        number: 0,
+        line,
+        cell: column + 1,
+        start: a + from,
+        end: a + to,
+    }
+}
+
+// The plain cell call: shows the very bytes that stand there, or the empty view with the number of the refusal.
+pub fn cell<'a>(file: &'a [u8], section: u32, row: u32, column: u32, number: &mut u32) -> &'a [u8]
+    ensures { λ r. ⌜ given (now (number .exit)) (now r) ≡ shown (sought (now (file .entry)) section row column) ⌝ }
+{
+    let place = locate(file, section, row, column);
+    let start = place.start;
+    let end = place.end;
+    *number = place.number;
+    &file[start..end]
+}
+
+// The second cell call: shows the cell, or where it is `null` the stand-in that the caller lent.
+pub fn cell_or<'a>(
+    file: &'a [u8],
+    section: u32,
+    row: u32,
+    column: u32,
+    stand_in: &'a [u8],
+    number: &mut u32,
+) -> &'a [u8]
+    ensures { λ r. ⌜ given (now (number .exit)) (now r) ≡ orElse (now («stand_in» .entry)) (shown (sought (now (file .entry)) section row column)) ⌝ }
+{
+    let view = cell(file, section, row, column, number);
+    if same_bytes(view, b"null") {
+        return stand_in;
+    }
+    view
+}
+
+// The reading call: the cell's line, its number and what it says; a refused one has line 0, cell 0 and missing.
+pub fn reading(file: &[u8], section: u32, row: u32, column: u32, number: &mut u32) -> Reading
+    ensures { λ r. ⌜ told (now (number .exit)) r ≡ readingOf (sought (now (file .entry)) section row column) ⌝ }
+{
+    let place = locate(file, section, row, column);
+    *number = place.number;
+    if place.number != 0 {
+        return Reading {
+            line: 0,
+            cell: 0,
+            value: Value::Missing,
+        };
+    }
+    let start = place.start;
+    let end = place.end;
+    let value = read(&file[start..end]);
+    Reading {
+        line: place.line,
+        cell: place.cell,
+        value,
+    }
+}

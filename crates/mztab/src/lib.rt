@@ -1,0 +1,5 @@
+// The public calls: the library over lent bytes.
+pub mod cells;
+pub mod judged;
+pub mod records;
+pub mod rows;

@@ -1,0 +1,9 @@
+// The records that calls give back.
+use kinds::reading::Value;
+
+// A cell's line and number, and what it says.
+pub struct Reading {
+    pub line: u32,
+    pub cell: u32,
+    pub value: Value,
+}
