@@ -1,0 +1,27 @@
+-- `cells_run::number` is safe and ends: every place stays within its slice. Assumes nothing.
+use Prim.Native.Nat.{ℕ, _+_, _*_, _-_, _≤_, _<_}
+use lib.ListN.{length}
+use borrow.Author.Needs.{needs}
+use Rattle.cells_run.proofs.number.Statement.{statement}
+use Rattle.cells_run.proofs.number.Tie as tie
+
+abbrev Inv-loop : tie.InvT-loop
+Inv-loop digits v₀ i₀ v i = (i ≤ length digits) × (v < 10000000000)
+
+abbrev μ-loop : tie.MeasureT-loop
+μ-loop digits v₀ i₀ v i = length digits - i
+
+pub number-spec : {M : Type 1} → statement M
+number-spec =
+    tie.close
+    (tie.spec
+    Inv-loop
+    μ-loop
+    (λ c. search needs)
+    (λ c. search needs)
+    (λ c κs. search needs)
+    (λ c. search needs)
+    (λ c. search needs)
+    (λ c. search needs)
+    (λ c. search needs)
+    (λ c. search needs))

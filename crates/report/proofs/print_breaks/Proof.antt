@@ -1,0 +1,61 @@
+use Prim.Native.Nat.{ℕ, _+_, _*_, _-_, _≤_, _<_}
+use lib.ListN.{length}
+use borrow.Author.Needs.{needs}
+use Rattle.report.proofs.print_breaks.Statement.{statement}
+use Rattle.report.proofs.print_breaks.Tie as tie
+use Rattle.report.proofs.print_breaks.Reads as reads
+use Rattle.report.proofs.print_breaks.Lts as lts
+use Rattle.report.proofs.print_break.Reads as print-break-reads
+
+abbrev Inv-loop : tie.InvT-loop
+Inv-loop places count k₀ k = (k ≤ 4096) × (k ≤ count)
+
+abbrev μ-loop : tie.MeasureT-loop
+μ-loop places count k₀ k = count - k
+
+-- src/lib.rt:27:5
+loop-holds : tie.Need-loop-holds Inv-loop μ-loop
+loop-holds c = search needs
+
+-- src/lib.rt:29:13
+returns : tie.Need-returns Inv-loop μ-loop
+returns c = search needs
+
+-- src/lib.rt:31:29
+mul-print-break : tie.Need-mul-print-break Inv-loop μ-loop
+mul-print-break c = search needs
+
+-- src/lib.rt:31:9
+print-break-requires : tie.Need-print-break-requires Inv-loop μ-loop
+print-break-requires c κs = search needs
+
+-- src/lib.rt:32:9
+add-k : tie.Need-add-k Inv-loop μ-loop
+add-k c = search needs
+
+-- src/lib.rt:27:5
+loop-less : tie.Need-loop-less Inv-loop μ-loop
+loop-less c = search needs
+
+-- src/lib.rt:27:5
+loop-again : tie.Need-loop-again Inv-loop μ-loop
+loop-again c = search needs
+
+-- src/lib.rt:25:1
+returns-2 : tie.Need-returns-2 Inv-loop μ-loop
+returns-2 c = search needs
+
+pub print-breaks-spec : {M : Type 1} → statement M
+print-breaks-spec =
+    tie.close
+    (tie.spec
+    Inv-loop
+    μ-loop
+    loop-holds
+    returns
+    mul-print-break
+    print-break-requires
+    add-k
+    loop-less
+    loop-again
+    returns-2)

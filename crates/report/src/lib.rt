@@ -1,0 +1,49 @@
+// What the judging call gives of a file, printed: OK, or FAULTS and the count and then line, cell and rule of the first 4,096 breaks.
+use mztab::judged::judge_places;
+ghost use Prim.Native.Nat.{_≤_};
+
+// How many breaks are printed.
+const SHOWN: usize = 4096;
+
+fn print_number(n: u32) {
+    io::print_decimal(1, n as u64);
+}
+
+// The break that stands at `at`: rule, line and cell, printed as line, cell and rule.
+fn print_break(places: &[u32; 12288], at: usize)
+    requires { ⌜ at ≤ 12285 ⌝ }
+{
+    print_number(places[at + 1]);
+    io::write_all(1, b" ");
+    print_number(places[at + 2]);
+    io::write_all(1, b" ");
+    print_number(places[at]);
+    io::write_all(1, b"\n");
+}
+
+// The first breaks of a list of `count`, in order.
+fn print_breaks(places: &[u32; 12288], count: usize) {
+    let mut k = 0;
+    while k < count {
+        if k == SHOWN {
+            return;
+        }
+        print_break(places, 3 * k);
+        k += 1;
+    }
+}
+
+// Prints what the judging call gives of the file, each line ended by LF.
+pub fn print_judged(file: &[u8]) {
+    let mut places = [0u32; 12288];
+    let mut number: u32 = 0;
+    let count = judge_places(file, &mut places, &mut number);
+    if count == 0 {
+        io::write_all(1, b"OK\n");
+        return;
+    }
+    io::write_all(1, b"FAULTS ");
+    print_number(count);
+    io::write_all(1, b"\n");
+    print_breaks(&places, count as usize);
+}
