@@ -1,0 +1,48 @@
+//! `expect MODE`: reads all of standard input, prints what is to be expected.
+
+use std::io::{self, Read, Write};
+use std::process::ExitCode;
+
+use independent::{cases, printing};
+
+const MODES: &str = "judge, judges, cells, kinds, names, doubles, \
+    make-judges, make-cells, make-kinds, make-names";
+
+fn main() -> ExitCode {
+    let mode = std::env::args().nth(1).unwrap_or_default();
+    let Some(out) = printed(&mode) else {
+        eprintln!("expect MODE, with MODE one of {MODES}");
+        return ExitCode::from(2);
+    };
+    match io::stdout().write_all(&out) {
+        Ok(()) => ExitCode::SUCCESS,
+        Err(error) => {
+            eprintln!("{error}");
+            ExitCode::FAILURE
+        }
+    }
+}
+
+fn printed(mode: &str) -> Option<Vec<u8>> {
+    match mode {
+        "judge" => Some(printing::judged(&input()).into_bytes()),
+        "judges" => Some(printing::judges(&input()).into_bytes()),
+        "cells" => Some(printing::cells(&input())),
+        "kinds" => Some(printing::kinds(&input()).into_bytes()),
+        "names" => Some(printing::names(&input()).into_bytes()),
+        "doubles" => Some(printing::doubles(&input()).into_bytes()),
+        "make-judges" => Some(cases::judges_input()),
+        "make-cells" => Some(cases::cells_input()),
+        "make-kinds" => Some(cases::kinds_input()),
+        "make-names" => Some(cases::names_input()),
+        _ => None,
+    }
+}
+
+fn input() -> Vec<u8> {
+    let mut bytes = Vec::new();
+    io::stdin()
+        .read_to_end(&mut bytes)
+        .expect("standard input is read");
+    bytes
+}

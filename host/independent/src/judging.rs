@@ -1,0 +1,460 @@
+//! "The 21 rules". Each rule has a function named after it.
+
+use std::collections::HashSet;
+
+use crate::kinds;
+use crate::lines::{cells, code, key_and_value, lines, Code};
+use crate::names::{self, Known};
+use crate::LIMIT;
+
+/// "A break is a line, a cell and a rule."
+#[derive(Clone, Copy, Debug, PartialEq, Eq, PartialOrd, Ord, Hash)]
+pub struct Break {
+    pub line: u32,
+    pub cell: u32,
+    pub rule: u32,
+}
+
+/// "A header has over 256 cells" breaks rule 11.
+const WIDEST_HEADER: usize = 256;
+
+/// All breaks of the file by line, cell and rule, each once; nothing for a file
+/// over the limit.
+pub fn judge(file: &[u8]) -> Option<Vec<Break>> {
+    if file.len() > LIMIT {
+        return None;
+    }
+    let ids = Ids::declared_in(file);
+    let mut above = Above::default();
+    let mut breaks = Vec::new();
+    let mut number = 0;
+    for line in lines(file) {
+        number += 1;
+        let mut report = Report {
+            line: number,
+            breaks: &mut breaks,
+        };
+        judge_line(line, &ids, &mut above, &mut report);
+    }
+    // Rule 21 is reported at "line N + 1 of an N-line file".
+    rule_21(
+        &above,
+        &mut Report {
+            line: number + 1,
+            breaks: &mut breaks,
+        },
+    );
+    breaks.sort();
+    breaks.dedup();
+    Some(breaks)
+}
+
+/// Where the breaks of one line go.
+struct Report<'r> {
+    line: u32,
+    breaks: &'r mut Vec<Break>,
+}
+
+impl Report<'_> {
+    fn add(&mut self, cell: usize, rule: u32) {
+        let cell = u32::try_from(cell).expect("a line has fewer cells than a file has bytes");
+        self.breaks.push(Break {
+            line: self.line,
+            cell,
+            rule,
+        });
+    }
+}
+
+/// The declared ids: "four families of ids, each with indices 1 to 64".
+#[derive(Default)]
+struct Ids {
+    set: HashSet<(char, u32)>,
+}
+
+impl Ids {
+    /// "An id is declared if any MTD line of the file, early or late, has three
+    /// cells and a known key beginning with it."
+    fn declared_in(file: &[u8]) -> Ids {
+        let mut ids = Ids::default();
+        for line in lines(file) {
+            if let Some((key, _)) = key_and_value(line) {
+                if let Some(id) = names::declares(key) {
+                    ids.set.insert(id);
+                }
+            }
+        }
+        ids
+    }
+
+    fn has(&self, family: char, index: u32) -> bool {
+        self.set.contains(&(family, index))
+    }
+}
+
+/// What the lines above the one now judged hold.
+#[derive(Default)]
+struct Above<'a> {
+    /// The keys of the three-cell MTD lines.
+    keys: HashSet<&'a [u8]>,
+    /// A header or row of any section.
+    table_line: bool,
+    /// The sections that have a header.
+    headers: [bool; 4],
+    /// The nearest header.
+    nearest: Option<Header>,
+    /// The five pieces of required metadata.
+    required: [bool; 5],
+}
+
+/// What rows need of the nearest header above them.
+struct Header {
+    section: u32,
+    cells: usize,
+    /// The kind of each cell's column, from cell 2 on. Empty where rule 11 is
+    /// broken.
+    kinds: Vec<char>,
+    breaks_11: bool,
+}
+
+fn judge_line<'a>(line: &'a [u8], ids: &Ids, above: &mut Above<'a>, report: &mut Report) {
+    match code(line) {
+        // "An empty line, and a line whose cell 1 is exactly COM, is judged by
+        // no rule."
+        Code::Empty | Code::Comment => return,
+        Code::Unknown => rule_2(report),
+        Code::Metadata => judge_metadata(line, ids, above, report),
+        Code::Header(section) => judge_header(section, line, ids, above, report),
+        Code::Row(section) => judge_row(section, line, above, report),
+    }
+    rule_1(line, report);
+}
+
+/// rule 1: "a byte below 32 (tabs apart) or 127 in the line; at the cell of the
+/// first"
+fn rule_1(line: &[u8], report: &mut Report) {
+    for (k, cell) in cells(line).enumerate() {
+        if cell.iter().any(|b| *b < 32 || *b == 127) {
+            report.add(k + 1, 1);
+            return;
+        }
+    }
+}
+
+/// rule 2: "unknown line code"
+fn rule_2(report: &mut Report) {
+    report.add(1, 2);
+}
+
+fn judge_metadata<'a>(line: &'a [u8], ids: &Ids, above: &mut Above<'a>, report: &mut Report) {
+    rule_4(above, report);
+    match key_and_value(line) {
+        // "3 stops 5 to 8"
+        None => rule_3(report),
+        Some((key, value)) => {
+            match names::key(key) {
+                // "5 stops 6 to 8"
+                None => rule_5(report),
+                Some(known) => {
+                    rule_6(key, above, report);
+                    rules_7_and_8(&known, value, ids, report);
+                }
+            }
+            note_key(key, above);
+        }
+    }
+}
+
+/// rule 3: "an MTD line has not three cells"
+fn rule_3(report: &mut Report) {
+    report.add(1, 3);
+}
+
+/// rule 4: "an MTD line stands after a header or row of any section"
+fn rule_4(above: &Above, report: &mut Report) {
+    if above.table_line {
+        report.add(1, 4);
+    }
+}
+
+/// rule 5: "unknown key; cell 2"
+fn rule_5(report: &mut Report) {
+    report.add(2, 5);
+}
+
+/// rule 6: "key, a `colunit` one apart, already on an earlier three-cell MTD
+/// line; cell 2"
+fn rule_6(key: &[u8], above: &Above, report: &mut Report) {
+    if !key.starts_with(b"colunit") && above.keys.contains(key) {
+        report.add(2, 6);
+    }
+}
+
+fn rules_7_and_8(known: &Known, value: &[u8], ids: &Ids, report: &mut Report) {
+    // "7 stops 8"
+    if !value_is_of_its_kind(known, value) {
+        rule_7(report);
+    } else {
+        rule_8(known, value, ids, report);
+    }
+}
+
+/// rule 7: "value not of its kind; cell 3"
+fn rule_7(report: &mut Report) {
+    report.add(3, 7);
+}
+
+/// rule 8: "value names an undeclared id; cell 3"
+fn rule_8(known: &Known, value: &[u8], ids: &Ids, report: &mut Report) {
+    let named = ids_of_value(known, value);
+    if named.iter().any(|index| !ids.has(known.family, *index)) {
+        report.add(3, 8);
+    }
+}
+
+/// The kinds of the metadata keys. "In metadata `null` is plain text."
+fn value_is_of_its_kind(known: &Known, value: &[u8]) -> bool {
+    match known.kind {
+        'v' => value == b"1.0" || value == b"1.0.0",
+        'm' => value == b"Summary" || value == b"Complete",
+        't' => value == b"Quantification" || value == b"Identification",
+        'T' => kinds::text(value),
+        'P' => kinds::parameter(value),
+        'Q' => kinds::parameter_list(value),
+        'r' => kinds::reference(names::word(known.family), value) != 0,
+        'l' => kinds::reference_list(names::word(known.family), value).is_some(),
+        other => unreachable!("no key is of kind {other}"),
+    }
+}
+
+/// The indices that a value of its kind names, of the family its key asks for.
+fn ids_of_value(known: &Known, value: &[u8]) -> Vec<u32> {
+    match known.kind {
+        'r' => vec![kinds::reference(names::word(known.family), value)],
+        'l' => kinds::reference_list(names::word(known.family), value).unwrap_or_default(),
+        _ => vec![],
+    }
+}
+
+/// Notes the key of a three-cell MTD line for rules 6 and 21.
+fn note_key<'a>(key: &'a [u8], above: &mut Above<'a>) {
+    above.keys.insert(key);
+    if let Some(place) = required_place(key) {
+        above.required[place] = true;
+    }
+}
+
+/// Which of the five pieces of required metadata a key is.
+fn required_place(key: &[u8]) -> Option<usize> {
+    match key {
+        b"mzTab-version" => Some(0),
+        b"mzTab-mode" => Some(1),
+        b"mzTab-type" => Some(2),
+        b"description" => Some(3),
+        _ if is_run_location(key) => Some(4),
+        _ => None,
+    }
+}
+
+/// "any ms_run[n]-location"
+fn is_run_location(key: &[u8]) -> bool {
+    match key.strip_prefix(b"ms_run").and_then(kinds::index) {
+        Some((_, rest)) => rest == b"-location",
+        None => false,
+    }
+}
+
+fn judge_header(section: u32, line: &[u8], ids: &Ids, above: &mut Above, report: &mut Report) {
+    rule_9(section, above, report);
+    rule_10(section, above, report);
+    let count = cells(line).count();
+    let breaks_11 = count > WIDEST_HEADER;
+    let mut kinds = Vec::new();
+    if breaks_11 {
+        // "11 stops 12 to 16"
+        rule_11(report);
+    } else {
+        // "Cell 1 of a header is no column name."
+        let columns: Vec<&[u8]> = cells(line).skip(1).collect();
+        let known: Vec<Option<Known>> = columns
+            .iter()
+            .map(|name| names::column(section, name))
+            .collect();
+        rule_12(&known, report);
+        rule_13(&columns, report);
+        rule_14(&columns, report);
+        rule_15(&known, ids, report);
+        rule_16(section, &columns, report);
+        kinds = known.into_iter().map(kind_of_column).collect();
+    }
+    above.table_line = true;
+    above.headers[section as usize - 1] = true;
+    above.nearest = Some(Header {
+        section,
+        cells: count,
+        kinds,
+        breaks_11,
+    });
+}
+
+/// rule 9: "an earlier line is a header of the same section"
+fn rule_9(section: u32, above: &Above, report: &mut Report) {
+    if above.headers[section as usize - 1] {
+        report.add(1, 9);
+    }
+}
+
+/// rule 10: "an earlier header is of a later section"
+fn rule_10(section: u32, above: &Above, report: &mut Report) {
+    let later = &above.headers[section as usize..];
+    if later.iter().any(|there| *there) {
+        report.add(1, 10);
+    }
+}
+
+/// rule 11: "a header has over 256 cells"
+fn rule_11(report: &mut Report) {
+    report.add(1, 11);
+}
+
+/// rule 12: "column name unknown in its section; its cell"
+fn rule_12(known: &[Option<Known>], report: &mut Report) {
+    for (k, column) in known.iter().enumerate() {
+        if column.is_none() {
+            report.add(k + 2, 12);
+        }
+    }
+}
+
+/// rule 13: "column name already in this header; its cell"
+fn rule_13(columns: &[&[u8]], report: &mut Report) {
+    let mut seen = HashSet::new();
+    for (k, name) in columns.iter().enumerate() {
+        if !seen.insert(*name) {
+            report.add(k + 2, 13);
+        }
+    }
+}
+
+/// rule 14: "name not beginning `opt_` after one that does; its cell"
+fn rule_14(columns: &[&[u8]], report: &mut Report) {
+    let mut optional_seen = false;
+    for (k, name) in columns.iter().enumerate() {
+        if name.starts_with(b"opt_") {
+            optional_seen = true;
+        } else if optional_seen {
+            report.add(k + 2, 14);
+        }
+    }
+}
+
+/// rule 15: "known column names an undeclared assay, study variable or run; its
+/// cell"
+fn rule_15(known: &[Option<Known>], ids: &Ids, report: &mut Report) {
+    for (k, column) in known.iter().enumerate() {
+        let id = column.as_ref().and_then(names::named_id);
+        if let Some((family, index)) = id {
+            if !ids.has(family, index) {
+                report.add(k + 2, 15);
+            }
+        }
+    }
+}
+
+/// rule 16: "one required column or more absent"
+fn rule_16(section: u32, columns: &[&[u8]], report: &mut Report) {
+    let absent = |name: &&str| !columns.contains(&name.as_bytes());
+    if names::required(section).iter().any(absent) {
+        report.add(1, 16);
+    }
+}
+
+/// "Cells under an unknown column are text."
+fn kind_of_column(column: Option<Known>) -> char {
+    match column {
+        Some(known) => known.kind,
+        None => 'T',
+    }
+}
+
+fn judge_row(section: u32, line: &[u8], above: &mut Above, report: &mut Report) {
+    above.table_line = true;
+    match &above.nearest {
+        // "17 stops 18 to 20"
+        None => rule_17(report),
+        Some(header) if header.section != section => rule_17(report),
+        // "11 stops ... 18 to 20 for rows under it"
+        Some(header) if header.breaks_11 => {}
+        Some(header) => judge_row_under(header, line, report),
+    }
+}
+
+/// rule 17: "the nearest header above is not the row's own section's, or there
+/// is none"
+fn rule_17(report: &mut Report) {
+    report.add(1, 17);
+}
+
+fn judge_row_under(header: &Header, line: &[u8], report: &mut Report) {
+    if cells(line).count() != header.cells {
+        // "18 stops 19 and 20"
+        rule_18(report);
+        return;
+    }
+    for (k, cell) in cells(line).enumerate().skip(1) {
+        if cell.is_empty() {
+            // "19 stops 20 at its cell"
+            rule_19(k + 1, report);
+        } else {
+            rule_20(header.kinds[k - 1], cell, k + 1, report);
+        }
+    }
+}
+
+/// rule 18: "a row has another number of cells than that header"
+fn rule_18(report: &mut Report) {
+    report.add(1, 18);
+}
+
+/// rule 19: "empty cell in a row; that cell"
+fn rule_19(at: usize, report: &mut Report) {
+    report.add(at, 19);
+}
+
+/// rule 20: "row's cell, from 2 on, not of its column's kind; that cell"
+fn rule_20(kind: char, cell: &[u8], at: usize, report: &mut Report) {
+    if !cell_is_of_its_kind(kind, cell) {
+        report.add(at, 20);
+    }
+}
+
+/// The kinds of the columns. "In table cells `null` stands for missing in every
+/// column, except protein `accession`, peptide and PSM `sequence`, and
+/// `PSM_ID`, where it is not of the kind."
+fn cell_is_of_its_kind(kind: char, cell: &[u8]) -> bool {
+    if cell == b"null" {
+        return kind != 'K';
+    }
+    match kind {
+        'T' | 'K' => kinds::text(cell),
+        'W' => kinds::whole(cell),
+        'R' => cell == b"1" || cell == b"2" || cell == b"3",
+        'U' => cell == b"0" || cell == b"1",
+        'D' => kinds::decimal(cell),
+        'L' => kinds::decimal_list(cell),
+        'N' => kinds::window(cell),
+        'Q' => kinds::parameter_list(cell),
+        other => unreachable!("no column is of kind {other}"),
+    }
+}
+
+/// rule 21: "required metadata absent from the three-cell MTD lines; [...]
+/// cells 1 to 5 stand for mzTab-version, mzTab-mode, mzTab-type, description,
+/// any ms_run[n]-location"
+fn rule_21(above: &Above, report: &mut Report) {
+    for (place, there) in above.required.iter().enumerate() {
+        if !there {
+            report.add(place + 1, 21);
+        }
+    }
+}

@@ -1,0 +1,20 @@
+//! A validator and reader of mzTab 1.0 files over lent bytes, written from the
+//! paper's words alone, rule by rule. Simple before fast.
+//!
+//! The words in quotation marks in the comments are the paper's.
+
+#![forbid(unsafe_code)]
+
+pub mod cases;
+pub mod judging;
+pub mod kinds;
+pub mod lines;
+pub mod names;
+pub mod printing;
+pub mod reading;
+
+pub use judging::{judge, Break};
+pub use reading::{cell, cell_or, read, reading, Reading};
+
+/// "A file is at most 16,777,216 bytes."
+pub const LIMIT: usize = 16_777_216;

@@ -1,0 +1,224 @@
+//! What the binary prints in each of its modes, as bytes.
+
+use crate::{cell, cell_or, judge, kinds, names, read, reading, Break, Reading};
+
+/// The byte that ends each file or case where several stand in one input.
+pub const END: u8 = 30;
+
+/// "It reads standard input up to 65,536 bytes; beyond, it prints `TOO LONG`."
+pub const JUDGE_INPUT: usize = 65_536;
+
+/// "for each of the first 4,096 breaks line, cell and rule"
+pub const SHOWN: usize = 4_096;
+
+/// As the program `judge` prints.
+pub fn judged(file: &[u8]) -> String {
+    if file.len() > JUDGE_INPUT {
+        return "TOO LONG\n".to_string();
+    }
+    verdict(file)
+}
+
+/// `OK`, or `FAULTS` and the count and the first breaks.
+pub fn verdict(file: &[u8]) -> String {
+    match judge(file) {
+        None => "TOO LONG\n".to_string(),
+        Some(breaks) if breaks.is_empty() => "OK\n".to_string(),
+        Some(breaks) => faults(&breaks),
+    }
+}
+
+fn faults(breaks: &[Break]) -> String {
+    let mut out = format!("FAULTS {}\n", breaks.len());
+    for Break { line, cell, rule } in breaks.iter().take(SHOWN) {
+        out += &format!("{line} {cell} {rule}\n");
+    }
+    out
+}
+
+/// Several files, each ended by the byte 30; a line `.` after each verdict.
+pub fn judges(input: &[u8]) -> String {
+    let mut out = String::new();
+    for file in pieces(input, END) {
+        out += &verdict(file);
+        out += ".\n";
+    }
+    out
+}
+
+/// Several cases, each ended by the byte 30: questions, a line `.`, the file.
+pub fn cells(input: &[u8]) -> Vec<u8> {
+    let mut out = Vec::new();
+    for case in pieces(input, END) {
+        let (questions, file) = questions_and_file(case);
+        for question in questions {
+            out.extend(answer(file, question));
+        }
+        out.extend(b".\n");
+    }
+    out
+}
+
+type Question = (u32, u32, u32);
+
+fn questions_and_file(case: &[u8]) -> (Vec<Question>, &[u8]) {
+    let mut questions = Vec::new();
+    let mut rest = case;
+    loop {
+        let at = rest
+            .iter()
+            .position(|b| *b == b'\n')
+            .expect("a line of a case ends with LF");
+        let line = &rest[..at];
+        rest = &rest[at + 1..];
+        if line == b"." {
+            return (questions, rest);
+        }
+        questions.push(question(line));
+    }
+}
+
+fn question(line: &[u8]) -> Question {
+    let line = std::str::from_utf8(line).expect("a question is plain numbers");
+    let numbers: Vec<u32> = line
+        .split(' ')
+        .map(|n| n.parse().expect("a question is plain numbers"))
+        .collect();
+    assert_eq!(numbers.len(), 3, "a question is section, row and column");
+    (numbers[0], numbers[1], numbers[2])
+}
+
+/// `NUMBER <VIEW> <VIEW_OR> LINE CELL READING`
+fn answer(file: &[u8], (section, row, column): Question) -> Vec<u8> {
+    let plain = cell(file, section, row, column);
+    let with_stand_in = cell_or(file, section, row, column, b"-");
+    let record = reading(file, section, row, column);
+    let number = plain.err().unwrap_or(0);
+    assert_eq!(number, with_stand_in.err().unwrap_or(0));
+    assert_eq!(number, record.err().unwrap_or(0));
+    // "A refused reading has line 0, cell 0 and missing."
+    let (line, at, read) = record.unwrap_or((0, 0, Reading::Missing));
+    let mut out = format!("{number} <").into_bytes();
+    out.extend(plain.unwrap_or(&[]));
+    out.extend(b"> <");
+    out.extend(with_stand_in.unwrap_or(&[]));
+    out.extend(format!("> {line} {at} {}\n", reading_text(&read)).into_bytes());
+    out
+}
+
+pub fn reading_text(reading: &Reading) -> String {
+    match reading {
+        Reading::Missing => "missing".to_string(),
+        Reading::Whole(value) => format!("whole {value}"),
+        Reading::Decimal {
+            numerals, places, ..
+        } => format!("decimal {numerals} {places}"),
+        Reading::Infinite => "infinite".to_string(),
+        Reading::NotANumber => "nan".to_string(),
+        Reading::LongDecimal => "long".to_string(),
+        Reading::Text => "text".to_string(),
+    }
+}
+
+/// One line for each value: the kinds, the references, the lists, the reading.
+pub fn kinds(input: &[u8]) -> String {
+    each_line(input, kinds_of)
+}
+
+pub fn kinds_of(value: &[u8]) -> String {
+    let seven = [
+        kinds::text(value),
+        kinds::whole(value),
+        kinds::decimal(value),
+        kinds::decimal_list(value),
+        kinds::window(value),
+        kinds::parameter(value),
+        kinds::parameter_list(value),
+    ];
+    let indices: Vec<String> = names::FAMILIES
+        .iter()
+        .map(|(_, word)| kinds::reference(word, value).to_string())
+        .collect();
+    let lists: String = names::FAMILIES
+        .iter()
+        .map(|(_, word)| bit(kinds::reference_list(word, value).is_some()))
+        .collect();
+    let seven: String = seven.into_iter().map(bit).collect();
+    format!(
+        "{seven} {} {lists} {}",
+        indices.join(" "),
+        reading_text(&read(value))
+    )
+}
+
+fn bit(yes: bool) -> char {
+    if yes {
+        '1'
+    } else {
+        '0'
+    }
+}
+
+/// One line for each name: as key, as column of each section, what it declares.
+pub fn names(input: &[u8]) -> String {
+    each_line(input, names_of)
+}
+
+pub fn names_of(name: &[u8]) -> String {
+    let fields = [
+        known_text(names::key(name)),
+        known_text(names::column(1, name)),
+        known_text(names::column(2, name)),
+        known_text(names::column(3, name)),
+        known_text(names::column(4, name)),
+        declared_text(names::declares(name)),
+    ];
+    fields.join(" ; ")
+}
+
+fn known_text(known: Option<names::Known>) -> String {
+    match known {
+        None => "-".to_string(),
+        Some(k) => format!("{}{} {} {}", k.kind, k.family, k.i, k.j),
+    }
+}
+
+fn declared_text(id: Option<(char, u32)>) -> String {
+    match id {
+        None => "-".to_string(),
+        Some((family, index)) => format!("{family} {index}"),
+    }
+}
+
+/// One line for each value: the reading, and of a decimal the double's bits.
+pub fn doubles(input: &[u8]) -> String {
+    each_line(input, double_of)
+}
+
+pub fn double_of(value: &[u8]) -> String {
+    let reading = read(value);
+    let text = reading_text(&reading);
+    match reading {
+        Reading::Decimal { double, .. } => format!("{text} {:016x}", double.to_bits()),
+        _ => text,
+    }
+}
+
+fn each_line(input: &[u8], print: fn(&[u8]) -> String) -> String {
+    let mut out = String::new();
+    for line in pieces(input, b'\n') {
+        out += &print(line);
+        out += "\n";
+    }
+    out
+}
+
+/// The pieces that the byte ends; what stands after the last such byte is one
+/// more piece if it is not empty.
+fn pieces(input: &[u8], end: u8) -> Vec<&[u8]> {
+    let mut all: Vec<&[u8]> = input.split(|b| *b == end).collect();
+    if all.last() == Some(&(&[] as &[u8])) {
+        all.pop();
+    }
+    all
+}

@@ -1,0 +1,383 @@
+//! The cases written by hand against what the library says.
+
+use independent::cases::{self, cells, judging, kinds, names};
+use independent::{cell, cell_or, judge, printing, read, reading, Break, Reading, LIMIT};
+
+fn show(file: &[u8]) -> String {
+    String::from_utf8_lossy(file).replace('\t', "→")
+}
+
+fn check(case: &judging::Case) {
+    let found = judge(&case.file).expect("within the limit");
+    let found: Vec<_> = found.iter().map(|b| (b.line, b.cell, b.rule)).collect();
+    assert_eq!(found, case.breaks, "{}:\n{}", case.label, show(&case.file));
+}
+
+/// All cases whose label begins so.
+fn check_all(beginning: &str, at_least: usize) {
+    let all = judging::all();
+    let some: Vec<_> = all
+        .iter()
+        .filter(|c| c.label.starts_with(beginning))
+        .collect();
+    assert!(some.len() >= at_least, "{}", some.len());
+    some.into_iter().for_each(check);
+}
+
+macro_rules! rules {
+    ($($name:ident $beginning:literal $at_least:literal;)*) => {
+        $(#[test] fn $name() { check_all($beginning, $at_least); })*
+    };
+}
+
+// Every rule on either side, and every "stops" that it takes part in.
+rules! {
+    rule_1 "rule 1:" 10;
+    rule_2 "rule 2:" 4;
+    rule_3_and_3_stops_5_to_8 "rule 3:" 11;
+    rule_4 "rule 4:" 8;
+    rule_5_and_5_stops_6_to_8 "rule 5:" 11;
+    rule_6 "rule 6:" 9;
+    rule_7_and_7_stops_8 "rule 7:" 30;
+    rule_8 "rule 8:" 14;
+    rule_9 "rule 9:" 9;
+    rule_10 "rule 10:" 7;
+    rule_11_and_11_stops_12_to_16_and_18_to_20 "rule 11:" 12;
+    rule_12 "rule 12:" 12;
+    rule_13 "rule 13:" 10;
+    rule_14 "rule 14:" 8;
+    rule_15 "rule 15:" 11;
+    rule_16 "rule 16:" 20;
+    rule_17_and_17_stops_18_to_20 "rule 17:" 11;
+    rule_18_and_18_stops_19_and_20 "rule 18:" 8;
+    rule_19_and_19_stops_20_at_its_cell "rule 19:" 8;
+    rule_20 "rule 20:" 100;
+    rule_21 "rule 21:" 13;
+}
+
+#[test]
+fn every_file_has_its_breaks() {
+    let all = judging::all();
+    assert!(all.len() >= 120, "{}", all.len());
+    all.iter().for_each(check);
+}
+
+#[test]
+fn every_rule_is_broken_and_kept_somewhere() {
+    let all = judging::all();
+    for rule in 1..=21 {
+        let broken = all
+            .iter()
+            .filter(|c| c.breaks.iter().any(|b| b.2 == rule))
+            .count();
+        assert!(broken >= 3, "rule {rule}");
+    }
+    assert!(all.iter().filter(|c| c.breaks.is_empty()).count() >= 60);
+}
+
+#[test]
+fn every_question_has_its_answer() {
+    let mut expected = Vec::new();
+    let mut questions = 0;
+    for case in cells::all() {
+        for (_, line) in case.questions {
+            questions += 1;
+            expected.extend(line);
+            expected.push(b'\n');
+        }
+        expected.extend(b".\n");
+    }
+    assert!(questions >= 60 && cells::all().len() >= 20, "{questions}");
+    let printed = printing::cells(&cases::cells_input());
+    assert_eq!(show(&printed), show(&expected));
+    assert_eq!(printed, expected);
+}
+
+#[test]
+fn every_value_has_its_kinds() {
+    assert!(kinds::all().len() >= 200);
+    for (value, line) in kinds::all() {
+        assert_eq!(printing::kinds_of(&value), line, "{}", show(&value));
+    }
+}
+
+#[test]
+fn every_name_is_known_as_the_paper_says() {
+    for (name, line) in names::EVERY {
+        assert_eq!(printing::names_of(name.as_bytes()), *line, "{name}");
+    }
+    for name in names::NEAR {
+        assert_eq!(
+            printing::names_of(name.as_bytes()),
+            names::UNKNOWN,
+            "{name}"
+        );
+    }
+}
+
+/// The two writings-out of the lists have the same names, no more, no less.
+#[test]
+fn the_lists_are_the_same() {
+    let mut listed: Vec<String> = Vec::new();
+    for (pattern, _, _) in independent::names::KEYS {
+        listed.push(pattern.replacen("[n]", "[3]", 1).replacen("[n]", "[5]", 1));
+    }
+    for (_, pattern, _, _) in independent::names::COLUMNS {
+        listed.push(pattern.replacen("[n]", "[3]", 1).replacen("[n]", "[5]", 1));
+    }
+    listed.sort();
+    listed.dedup();
+    let mut written: Vec<String> = names::EVERY
+        .iter()
+        .map(|(name, _)| name.to_string())
+        .filter(|name| !name.starts_with("opt_"))
+        .collect();
+    written.sort();
+    assert_eq!(listed, written);
+}
+
+/// A variant is known only where its indices are such, its bytes the same.
+#[test]
+fn the_variants_of_names() {
+    let unknown = |name: &str| printing::names_of(name.as_bytes()) == names::UNKNOWN;
+    for (name, line) in names::EVERY {
+        if !name.contains("[3]") {
+            continue;
+        }
+        if name.starts_with("opt_") {
+            continue;
+        }
+        for good in ["[1]", "[9]", "[10]", "[60]", "[63]", "[64]"] {
+            let other = name.replacen("[3]", good, 1);
+            assert!(!unknown(&other), "{other}");
+            let number = good.trim_matches(['[', ']']);
+            let expected = line
+                .replace(" 3 ", &format!(" {number} "))
+                .replace(" S 3", &format!(" S {number}"));
+            let expected = ["A", "V", "R"].iter().fold(expected, |text, family| {
+                text.replace(&format!("; {family} 3"), &format!("; {family} {number}"))
+            });
+            assert_eq!(printing::names_of(other.as_bytes()), expected, "{other}");
+        }
+        for bad in [
+            "[0]",
+            "[00]",
+            "[01]",
+            "[65]",
+            "[99]",
+            "[100]",
+            "[064]",
+            "[]",
+            "[ ]",
+            "[ 1]",
+            "[1 ]",
+            "[a]",
+            "[-1]",
+            "[+1]",
+            "1]",
+            "[1",
+            "1",
+            "[1][1]",
+            "[4294967297]",
+        ] {
+            let other = name.replacen("[3]", bad, 1);
+            assert!(unknown(&other), "{other}");
+        }
+    }
+    assert!(names::all().len() > 5_000, "{}", names::all().len());
+}
+
+#[test]
+fn doubles_of_decimals() {
+    let cases: [(&str, f64); 12] = [
+        ("0.1", 0.1),
+        ("-0.1", -0.1),
+        ("0.0", 0.0),
+        ("-0.0", -0.0),
+        ("-0000000000", -0.0),
+        ("1234567890", 1_234_567_890.0),
+        ("999999999999999", 999_999_999_999_999.0),
+        ("0.00000000000001", 1e-14),
+        ("12345678901234.5", 12_345_678_901_234.5),
+        ("3.24159265358979", 3.241_592_653_589_79),
+        ("-1123.2", -1123.2),
+        ("99999.9999999999", 99_999.999_999_999_9),
+    ];
+    for (value, expected) in cases {
+        match read(value.as_bytes()) {
+            // One exact division of exact numbers is the nearest double, as the
+            // compiler's own reading of the same literal is.
+            Reading::Decimal { double, .. } => {
+                assert_eq!(double.to_bits(), expected.to_bits(), "{value}")
+            }
+            other => panic!("{value} {other:?}"),
+        }
+    }
+    assert_eq!(
+        printing::doubles(b"0.5\n-0.0\n7\nnull\n\nINF"),
+        "decimal 5 1 3fe0000000000000\n\
+         decimal 0 1 8000000000000000\nwhole 7\nmissing\ntext\ninfinite\n"
+    );
+}
+
+#[test]
+fn the_double_is_the_nearest() {
+    // A plain pseudo-random walk over numerals and places.
+    let mut state: u64 = 88_172_645_463_325_252;
+    for _ in 0..100_000 {
+        state ^= state << 13;
+        state ^= state >> 7;
+        state ^= state << 17;
+        let digits = 2 + (state >> 60) as u32 % 14;
+        let numerals = (state >> 4) % 10u64.pow(digits);
+        let places = 1 + (state >> 40) as usize % (digits as usize - 1);
+        let text = format!("{numerals:0width$}", width = digits as usize);
+        let text = format!(
+            "{}.{}",
+            &text[..text.len() - places],
+            &text[text.len() - places..]
+        );
+        match read(text.as_bytes()) {
+            Reading::Decimal {
+                numerals: n,
+                places: p,
+                double,
+            } => {
+                assert_eq!((n as u64, p as usize), (numerals, places), "{text}");
+                assert_eq!(
+                    double.to_bits(),
+                    text.parse::<f64>().unwrap().to_bits(),
+                    "{text}"
+                );
+            }
+            other => panic!("{text} {other:?}"),
+        }
+    }
+}
+
+#[test]
+fn the_limit() {
+    let mut file = vec![b'x'; LIMIT];
+    assert_eq!(judge(&file).map(|b| b.len()), Some(6));
+    assert_eq!(cell(&file, 1, 0, 1), Err(3));
+    file.push(b'x');
+    assert_eq!(judge(&file), None);
+    assert_eq!(cell(&file, 1, 1, 1), Err(1));
+    assert_eq!(cell(&file, 0, 1, 0), Err(1));
+    assert_eq!(cell_or(&file, 5, 1, 1, b"-"), Err(1));
+    assert_eq!(reading(&file, 1, 1, 1), Err(1));
+    assert_eq!(printing::verdict(&file), "TOO LONG\n");
+}
+
+#[test]
+fn the_limit_of_the_program() {
+    let long = vec![b'\n'; 65_536];
+    assert!(printing::judged(&long).starts_with("FAULTS 5\n65537 1 21\n"));
+    let longer = vec![b'\n'; 65_537];
+    assert_eq!(printing::judged(&longer), "TOO LONG\n");
+    assert!(printing::verdict(&longer).starts_with("FAULTS 5\n65538 1 21\n"));
+}
+
+#[test]
+fn what_the_program_prints() {
+    let example = &judging::all()[0];
+    assert_eq!(example.label, "the paper's example");
+    assert_eq!(
+        printing::judged(&example.file),
+        "FAULTS 3\n7 6 15\n8 6 19\n9 2 20\n"
+    );
+    let fine = judging::all()
+        .into_iter()
+        .find(|c| c.label == "the five alone")
+        .unwrap();
+    assert_eq!(printing::judged(&fine.file), "OK\n");
+}
+
+#[test]
+fn the_first_4096_are_shown() {
+    let file = b"x\n".repeat(5_000);
+    let printed = printing::judged(&file);
+    let lines: Vec<&str> = printed.lines().collect();
+    assert_eq!(lines[0], "FAULTS 5005");
+    assert_eq!(lines.len(), 4_097);
+    assert_eq!(lines[4_096], "4096 1 2");
+}
+
+#[test]
+fn several_files_in_one_input() {
+    assert_eq!(printing::judges(b""), "");
+    let one = "FAULTS 5\n1 1 21\n1 2 21\n1 3 21\n1 4 21\n1 5 21\n.\n";
+    assert_eq!(printing::judges(b"\x1e"), one);
+    assert_eq!(printing::judges(b"\x1e\x1e"), one.repeat(2));
+    let two = "FAULTS 5\n2 1 21\n2 2 21\n2 3 21\n2 4 21\n2 5 21\n.\n";
+    assert_eq!(printing::judges(b"\x1e\n"), format!("{one}{two}"));
+    assert_eq!(printing::judges(b"\n\x1eCOM"), two.repeat(2));
+}
+
+#[test]
+fn breaks_have_an_order() {
+    let a = Break {
+        line: 1,
+        cell: 9,
+        rule: 20,
+    };
+    let b = Break {
+        line: 2,
+        cell: 1,
+        rule: 2,
+    };
+    let c = Break {
+        line: 2,
+        cell: 1,
+        rule: 4,
+    };
+    let d = Break {
+        line: 2,
+        cell: 2,
+        rule: 1,
+    };
+    assert!(a < b && b < c && c < d);
+    for case in judging::all() {
+        let found = judge(&case.file).unwrap();
+        assert!(found.windows(2).all(|pair| pair[0] < pair[1]));
+    }
+}
+
+/// The stand-in may be empty, long, or `null` itself.
+#[test]
+fn stand_ins() {
+    let file = b"PRT\tnull\tx\n";
+    assert_eq!(cell_or(file, 1, 1, 1, b""), Ok(b"" as &[u8]));
+    assert_eq!(cell_or(file, 1, 1, 1, b"null"), Ok(b"null" as &[u8]));
+    assert_eq!(
+        cell_or(file, 1, 1, 1, b"not known"),
+        Ok(b"not known" as &[u8])
+    );
+    assert_eq!(cell_or(file, 1, 1, 2, b"not known"), Ok(b"x" as &[u8]));
+    assert_eq!(cell_or(file, 1, 1, 3, b"not known"), Err(4));
+}
+
+/// Every byte value alone as one more cell of a metadata line, rule 1.
+#[test]
+fn rule_1_over_all_bytes() {
+    let head = judging::all()
+        .into_iter()
+        .find(|c| c.label == "the five alone")
+        .unwrap()
+        .file;
+    for byte in 0..=255u8 {
+        let file = [head.as_slice(), b"MTD\ttitle\ta", &[byte], b"b\n"].concat();
+        let found: Vec<_> = judge(&file)
+            .unwrap()
+            .iter()
+            .map(|b| (b.line, b.cell, b.rule))
+            .collect();
+        let expected: Vec<(u32, u32, u32)> = match byte {
+            9 => vec![(6, 1, 3)],
+            10 => vec![(7, 1, 2)],
+            0..=31 | 127 => vec![(6, 3, 1)],
+            _ => vec![],
+        };
+        assert_eq!(found, expected, "byte {byte}");
+    }
+}
