@@ -1,0 +1,116 @@
+/* How long `mztab_judge` takes: on ordinary files of 16 MB and 1 MB beside `mawk` and `wc -l` on the same file in the same run, and on the hostile files of
+ * tests/host.c of 16 MB and 4 MB. Best of five each; of fewer where one file takes over ten seconds in all. Fails where a count is wrong. */
+#define HOSTILE_FILES_ONLY
+#include "../tests/host.c"
+#include <fcntl.h>
+#include <spawn.h>
+#include <sys/wait.h>
+#include <time.h>
+
+enum { TRIES = 5 };
+extern char **environ;
+static int wrong;
+
+static double now(void) {
+    struct timespec t;
+    clock_gettime(CLOCK_MONOTONIC, &t);
+    return (double)t.tv_sec * 1e3 + (double)t.tv_nsec / 1e6;
+}
+
+/* Six metadata lines, a protein header of eight columns, and rows of some 100 bytes: nothing is broken. */
+static struct want ordinary(size_t n) {
+    static const char *const names[8] = {"Alcohol dehydrogenase 1", "Enolase 2, cytosolic", "Heat shock protein SSA1", "60S ribosomal protein L3",
+                                         "Pyruvate kinase 1", "Elongation factor 1-alpha", "Actin", "Transaldolase, NQM1-like"};
+    begin(n);
+    put("MTD\tmzTab-version\t1.0.0\nMTD\tmzTab-mode\tSummary\nMTD\tmzTab-type\tQuantification\nMTD\tdescription\tYeast check\n"
+        "MTD\tms_run[1]-location\tfile:///a.mzML\nMTD\tassay[1]-ms_run_ref\tms_run[1]\n"
+        "PRH\taccession\tdescription\ttaxid\tdatabase\tsearch_engine\tbest_search_engine_score[1]\tnum_psms_ms_run[1]\tprotein_abundance_assay[1]\n");
+    for (;;) {
+        char row[256];
+        sprintf(row, "PRT\tP%05u\t%s\t4932\tUniProtKB\t[MS, MS:1001207, Mascot, ]\t%u.%02u\t%u\t%u.%u\n", (unsigned)draw(100000), names[draw(8)],
+                (unsigned)draw(200), (unsigned)draw(100), (unsigned)draw(300), (unsigned)draw(1000000), (unsigned)draw(1000));
+        if (at + strlen(row) > n) break;
+        put(row);
+    }
+    fill('\n', n);
+    return want(0, 0, 0, 0);
+}
+
+/* Milliseconds of the best judging of the first n bytes. */
+static double judge(const char *name, size_t n, struct want w) {
+    static uint32_t places[3 * 4096];
+    double best = 1e18, spent = 0;
+    for (int i = 0; i < TRIES && spent < 1e4; i++) {
+        uint32_t number = 77;
+        double t = now();
+        uint32_t count = mztab_judge(file, n, places, 3 * 4096, &number);
+        t = now() - t;
+        spent += t;
+        if (t < best) best = t;
+        if (number != 0 || count != w.count || (count && (places[0] != w.rule || places[1] != w.line || places[2] != w.cell))) {
+            printf("WRONG %s, %zu bytes: %u breaks, not %u\n", name, n, count, w.count);
+            wrong = 1;
+        }
+    }
+    return best;
+}
+
+/* Milliseconds of the best run of a program, its start included; below 0 where it is not installed. */
+static double program(char *const argv[]) {
+    double best = 1e18;
+    for (int i = 0; i < TRIES; i++) {
+        posix_spawn_file_actions_t quiet;
+        posix_spawn_file_actions_init(&quiet);
+        posix_spawn_file_actions_addopen(&quiet, 1, "/dev/null", O_WRONLY, 0);
+        posix_spawn_file_actions_addopen(&quiet, 2, "/dev/null", O_WRONLY, 0);
+        pid_t pid;
+        int status = -1;
+        double t = now();
+        int no = posix_spawnp(&pid, argv[0], &quiet, NULL, argv, environ);
+        if (!no) waitpid(pid, &status, 0);
+        t = now() - t;
+        posix_spawn_file_actions_destroy(&quiet);
+        if (no || status != 0) return -1;
+        if (t < best) best = t;
+    }
+    return best;
+}
+
+static void beside(const char *name, char *const argv[], double per_byte) {
+    double t = program(argv);
+    if (t < 0) printf("%-30s %10s\n", name, "not installed");
+    else printf("%-30s %10.2f %10.3f %22.2f\n", name, t, t * 1e6 / LIMIT, t * 1e6 / LIMIT / per_byte);
+}
+
+int main(void) {
+    file = malloc(LIMIT + 1);
+    if (!file) return 2;
+    printf("%-30s %10s %10s %10s %11s\n", "mztab_judge, 16 MB", "ms", "ns a byte", "at 4 MB", "to ordinary");
+    struct want w = ordinary(LIMIT);
+    char path[] = "/tmp/mztab-bench-XXXXXX";
+    int fd = mkstemp(path);
+    if (fd < 0 || write(fd, file, LIMIT) != (ssize_t)LIMIT) {
+        perror("write");
+        return 2;
+    }
+    double t = judge("ordinary rows", LIMIT, w), usual = t * 1e6 / LIMIT;
+    size_t quarter = LIMIT / 4, mega = LIMIT / 16;
+    double t4 = judge("ordinary rows", quarter, ordinary(quarter));
+    printf("%-30s %10.2f %10.3f %10.3f %11.2f\n", "ordinary rows", t, usual, t4 * 1e6 / (double)quarter, 1.0);
+    double t1 = judge("ordinary rows", mega, ordinary(mega));
+    printf("%-30s %10.2f %10.3f %22.2f\n", "ordinary rows, 1 MB", t1, t1 * 1e6 / (double)mega, t1 * 1e6 / (double)mega / usual);
+    char *awk[] = {"mawk", "-F\t", "{n+=NF} END{print n}", path, NULL}, *wc[] = {"wc", "-l", path, NULL};
+    beside("mawk, cells of ordinary rows", awk, usual);
+    beside("wc -l of ordinary rows", wc, usual);
+    close(fd);
+    unlink(path);
+    for (int i = 0; i < FILES; i++) {
+        double small = judge(HOSTILE[i].name, quarter, HOSTILE[i].make(quarter)) * 1e6 / (double)quarter;
+        t = judge(HOSTILE[i].name, LIMIT, HOSTILE[i].make(LIMIT));
+        double ns = t * 1e6 / LIMIT;
+        printf("%-30s %10.2f %10.3f %10.3f %11.2f%s%s\n", HOSTILE[i].name, t, ns, small, ns / usual, ns > 4 * usual ? "  slow" : "",
+               ns > 2 * small && t > 1 ? "  not linear" : "");
+        fflush(stdout);
+    }
+    return wrong;
+}

@@ -1,0 +1,686 @@
+/* Tests the library from C, through its header and libcapi.a. tests/run builds and runs it; it reads no file and takes no words.
+ *
+ * Hostile files are judged on a stack of 2 MB. With HOSTILE_FILES_ONLY defined there is nothing but the making of these files, for the benchmark. */
+#define _GNU_SOURCE
+#include <pthread.h>
+#include <stdio.h>
+#include <stdlib.h>
+#include <string.h>
+#include <sys/mman.h>
+#include <unistd.h>
+#include "../crates/capi/mztab.h"
+
+#define LIMIT ((size_t)16777216)
+
+/* ---- files, of any size from some hundred bytes on */
+
+/* What judging is to answer: the count of all breaks, and the first of them. */
+struct want {
+    uint32_t count, rule, line, cell;
+};
+
+static uint8_t *file; /* room for LIMIT + 1 bytes */
+static size_t size, at;
+
+static void begin(size_t n) { size = n; at = 0; }
+
+static void put(const char *text) {
+    size_t n = strlen(text);
+    memcpy(file + at, text, n);
+    at += n;
+}
+
+static void fill(uint8_t b, size_t end) {
+    memset(file + at, b, end - at);
+    at = end;
+}
+
+/* The text over and over, as often as it fits before the end; answers how often. */
+static uint32_t over(const char *text, size_t end) {
+    size_t n = strlen(text);
+    uint32_t k = 0;
+    for (; at + n <= end; k++) {
+        memcpy(file + at, text, n);
+        at += n;
+    }
+    return k;
+}
+
+static struct want want(uint32_t count, uint32_t rule, uint32_t line, uint32_t cell) {
+    struct want w = {count, rule, line, cell};
+    return w;
+}
+
+/* Nothing is broken but that the required metadata is absent: fills with LF. The file has one line so far, without its LF, or `lines` whole ones. */
+static struct want absent(uint32_t lines) {
+    uint32_t ends = (uint32_t)(size - at);
+    fill('\n', size);
+    return want(5, 21, (lines ? lines : ends == 0) + ends + 1, 1);
+}
+
+/* Whole lines, and LF after them. Every one breaks `each` rules, the first of them so. */
+static struct want every(const char *text, uint32_t each, uint32_t rule, uint32_t cell) {
+    uint32_t n = over(text, size);
+    fill('\n', size);
+    return want(n * each + 5, rule, 1, cell);
+}
+
+/* A line of the code and then of names, tabs before each; f writes name k. */
+static char *line_of(const char *code, uint32_t names, void (*f)(char *, uint32_t)) {
+    static char line[16384];
+    strcpy(line, code);
+    for (uint32_t k = 0; k < names; k++) {
+        strcat(line, "\t");
+        f(line + strlen(line), k);
+    }
+    return strcat(line, "\n");
+}
+
+static void opt_name(char *s, uint32_t k) { sprintf(s, "opt_%03u", k); }
+static void no_name(char *s, uint32_t k) { (void)k; *s = 0; }
+static void null_cell(char *s, uint32_t k) { (void)k; strcpy(s, "null"); }
+
+/* The four required columns of a protein table are the last four of 255. */
+static const char *const REQUIRED[4] = {"accession", "description", "database", "search_engine"};
+
+static void last_opt_name(char *s, uint32_t k) {
+    if (k < 4) strcpy(s, REQUIRED[k]);
+    else opt_name(s, k);
+}
+
+/* 192 columns that name a run, 59 that name none, and the required ones. */
+static void known_name(char *s, uint32_t k) {
+    static const char *const runs[3] = {"num_psms_ms_run", "num_peptides_distinct_ms_run", "num_peptides_unique_ms_run"};
+    if (k < 192) sprintf(s, "%s[%u]", runs[k / 64], k % 64 + 1);
+    else if (k < 251) sprintf(s, "best_search_engine_score[%u]", k - 191);
+    else strcpy(s, REQUIRED[k - 251]);
+}
+
+/* 256 names of 16 bytes with the same sum of bytes times powers of 33: `aB` and `b!` have the same. */
+static void like_name(char *s, uint32_t k) {
+    for (int b = 0; b < 8; b++)
+        memcpy(s + 2 * b, k >> b & 1 ? "aB" : "b!", 2);
+    s[16] = 0;
+}
+
+static struct want tabs(size_t n) { begin(n); fill('\t', n); return want(6, 2, 1, 1); }
+static struct want ends(size_t n) { begin(n); fill('\n', n); return want(5, 21, (uint32_t)n + 1, 1); }
+static struct want returns(size_t n) { begin(n); fill('\r', n); return want(7, 1, 1, 1); }
+static struct want one_line(size_t n) { begin(n); fill('x', n); return want(6, 2, 1, 1); }
+static struct want x_lines(size_t n) { begin(n); return every("x\n", 1, 2, 1); }
+static struct want control_lines(size_t n) { begin(n); return every("\001\n", 2, 1, 1); }
+static struct want mtd_lines(size_t n) { begin(n); return every("MTD\tx\ty\n", 1, 5, 2); }
+static struct want unknown_keys(size_t n) { begin(n); return every("MTD\tsample[9]-\ta\n", 1, 5, 2); }
+static struct want prt_lines(size_t n) { begin(n); return every("PRT\n", 1, 17, 1); }
+
+static struct want com_lines(size_t n) {
+    begin(n);
+    uint32_t lines = over("COM\n", n);
+    return absent(lines);
+}
+
+static struct want com_line(size_t n) { begin(n); put("COM\t"); fill('x', n); return absent(0); }
+
+/* All but the first break one rule more. */
+static struct want and_again(struct want w, uint32_t lines) { w.count += lines - 1; return w; }
+
+static struct want same_key(size_t n) {
+    begin(n);
+    uint32_t lines = over("MTD\ttitle\ta\n", n);
+    fill('\n', n);
+    return want(lines - 1 + 5, 6, 2, 2);
+}
+
+static struct want headers(const char *line, uint32_t each, uint32_t rule, uint32_t cell) {
+    struct want w = every(line, each, rule, cell);
+    return and_again(w, (w.count - 5) / each);
+}
+
+static struct want prh_lines(size_t n) { begin(n); return headers("PRH\n", 1, 16, 1); }
+static struct want opt_headers(size_t n) { begin(n); return headers(line_of("PRH", 255, opt_name), 1, 16, 1); }
+static struct want wide_headers(size_t n) { begin(n); return headers(line_of("PRH", 256, opt_name), 1, 11, 1); }
+static struct want known_headers(size_t n) { begin(n); return headers(line_of("PRH", 255, known_name), 192, 15, 2); }
+static struct want nameless_headers(size_t n) { begin(n); return headers(line_of("PRH", 255, no_name), 1 + 255 + 254, 16, 1); }
+static struct want like_headers(size_t n) { begin(n); return headers(line_of("PRH", 255, like_name), 1 + 255, 16, 1); }
+
+/* 255 names of 60,000 bytes, fewer in a small file: all equal, or alike up to their last 16 bytes. */
+static struct want long_names(size_t n, int alike) {
+    size_t most = (n - 4) / 255 - 1, length = most < 60000 ? most : 60000;
+    begin(n);
+    put("PRH");
+    for (uint32_t k = 0; k < 255; k++) {
+        put("\t");
+        fill('a', at + length);
+        if (alike) like_name((char *)file + at - 16, k);
+    }
+    fill('\n', n);
+    return want(1 + 255 + (alike ? 0 : 254) + 5, 16, 1, 1);
+}
+
+static struct want equal_names(size_t n) { return long_names(n, 0); }
+static struct want alike_names(size_t n) { return long_names(n, 1); }
+
+/* Quotation marks in the third field of a parameter: closed where they are even. */
+static struct want marks(size_t n, size_t odd) {
+    begin(n);
+    put("MTD\tsoftware[1]\t[,,");
+    size_t count = n - at - 3;
+    fill('"', at + count - (count % 2 != odd));
+    put(",]");
+    struct want w = absent(0);
+    return odd ? want(6, 7, 1, 3) : w;
+}
+
+static struct want closed_marks(size_t n) { return marks(n, 0); }
+static struct want open_marks(size_t n) { return marks(n, 1); }
+
+static struct want long_index(size_t n) {
+    begin(n);
+    put("MTD\tsample[");
+    fill('1', n - 4);
+    put("]\ta\n");
+    return want(6, 5, 1, 2);
+}
+
+static struct want references(size_t n) {
+    begin(n);
+    put("MTD\tstudy_variable[1]-assay_refs\t");
+    over("assay[1], assay[64],", n - 8);
+    put("assay[2]");
+    absent(0);
+    return want(6, 8, 1, 3);
+}
+
+static struct want parameters(size_t n) {
+    begin(n);
+    put("MTD\tfalse_discovery_rate\t");
+    over("[,,a,]|", n - 6);
+    put("[,,a,]");
+    return absent(0);
+}
+
+static struct want digits(size_t n) {
+    begin(n);
+    put("PRH\taccession\tdescription\tdatabase\tsearch_engine\tbest_search_engine_score[1]\nPRT\ta\tb\tc\tnull\t");
+    fill('7', n);
+    return want(5, 21, 3, 1);
+}
+
+static struct want decimals(size_t n) {
+    begin(n);
+    put("PEH\tsequence\taccession\tcharge\tmass_to_charge\tretention_time\nPEP\ta\tb\t1\t1.5\t");
+    over("1|", n - 2);
+    fill('1', n);
+    return want(5, 21, 3, 1);
+}
+
+static struct want empty_cells(size_t n) {
+    begin(n);
+    put(line_of("PRH", 255, last_opt_name));
+    struct want w = every(line_of("PRT", 255, no_name), 255, 19, 2);
+    w.line = 2;
+    return w;
+}
+
+/* In each row the accession alone may not be null. */
+static struct want null_cells(size_t n) {
+    begin(n);
+    put(line_of("PRH", 255, known_name));
+    struct want w = every(line_of("PRT", 255, null_cell), 1, 15, 2);
+    w.count += 192;
+    return w;
+}
+
+static struct want short_rows(size_t n) {
+    begin(n);
+    put("PRH\taccession\n");
+    over("PRT\tx\n", n);
+    fill('\n', n);
+    return want(1 + 5, 16, 1, 1);
+}
+
+static const struct hostile {
+    const char *name;
+    struct want (*make)(size_t);
+} HOSTILE[] = {
+    {"tabs alone", tabs},
+    {"LF alone", ends},
+    {"CR alone", returns},
+    {"one line of x", one_line},
+    {"x lines", x_lines},
+    {"lines of a control byte", control_lines},
+    {"marks in a parameter, even", closed_marks},
+    {"marks in a parameter, odd", open_marks},
+    {"one key repeated", same_key},
+    {"unknown keys", unknown_keys},
+    {"key with a long index", long_index},
+    {"MTD x y lines", mtd_lines},
+    {"reference list", references},
+    {"parameter list", parameters},
+    {"PRH lines", prh_lines},
+    {"headers of 255 opt_ names", opt_headers},
+    {"headers of 256 names", wide_headers},
+    {"headers of 255 known names", known_headers},
+    {"headers of 255 empty names", nameless_headers},
+    {"headers of 255 like names", like_headers},
+    {"255 equal names of 60,000", equal_names},
+    {"255 like names of 60,000", alike_names},
+    {"one cell of digits", digits},
+    {"decimal list", decimals},
+    {"rows of empty cells", empty_cells},
+    {"rows of null", null_cells},
+    {"rows of two cells", short_rows},
+    {"PRT lines without header", prt_lines},
+    {"COM lines", com_lines},
+    {"one COM line", com_line},
+};
+
+enum { FILES = sizeof HOSTILE / sizeof HOSTILE[0] };
+
+/* The next number of a fixed linear congruential generator, below n. */
+static uint64_t seed = 20120515;
+
+static uint64_t draw(uint64_t n) {
+    seed = seed * 6364136223846793005u + 1442695040888963407u;
+    return (seed >> 11) % n;
+}
+
+#ifndef HOSTILE_FILES_ONLY
+
+/* ---- checks */
+
+#define MARK 0xDEADBEEFu
+#define COUNT(a) (sizeof(a) / sizeof(a)[0])
+
+static unsigned checks, failed, group_checks, group_failed;
+
+static void check(int ok, const char *what, unsigned long long detail) {
+    checks++;
+    if (!ok) {
+        failed++;
+        printf("FAIL %s (%llu)\n", what, detail);
+    }
+}
+
+static void group(const char *name) {
+    printf("%-34s %6u checks, %u failed\n", name, checks - group_checks, failed - group_failed);
+    fflush(stdout);
+    group_checks = checks;
+    group_failed = failed;
+}
+
+static int marked(const uint32_t *places, size_t n) {
+    for (size_t i = 0; i < n; i++)
+        if (places[i] != MARK) return 0;
+    return 1;
+}
+
+static void mark(uint32_t *places, size_t n) {
+    for (size_t i = 0; i < n; i++)
+        places[i] = MARK;
+}
+
+/* A cell call, with its outcome. */
+struct view {
+    size_t start, length;
+    uint32_t number;
+};
+
+static struct view cell(const uint8_t *f, size_t n, uint32_t section, uint32_t row, uint32_t column) {
+    struct view v = {0, 77, 77};
+    v.start = mztab_cell(f, n, section, row, column, &v.number, &v.length);
+    return v;
+}
+
+/* A reading call, with its outcome. */
+struct read {
+    uint32_t kind, number, line, cell, places;
+    int64_t whole;
+    double decimal;
+};
+
+static struct read reading(const uint8_t *f, size_t n, uint32_t section, uint32_t row, uint32_t column) {
+    struct read r = {77, 77, 77, 77, 77, 77, 77.0};
+    r.kind = mztab_reading(f, n, section, row, column, &r.number, &r.line, &r.cell, &r.whole, &r.places, &r.decimal);
+    return r;
+}
+
+static int same_double(double a, double b) { return memcmp(&a, &b, sizeof a) == 0; }
+
+static int refused_view(struct view v, uint32_t number) { return v.number == number && v.start == 0 && v.length == 0; }
+
+static int bare(struct read r) { return r.whole == 0 && r.places == 0 && same_double(r.decimal, 0.0); }
+
+static int refused_reading(struct read r, uint32_t number) {
+    return r.number == number && r.kind == 0 && r.line == 0 && r.cell == 0 && bare(r);
+}
+
+/* ---- the groups */
+
+static const char EXAMPLE[] =
+    "MTD\tmzTab-version\t1.0.0\nMTD\tmzTab-mode\tSummary\nMTD\tmzTab-type\tIdentification\nMTD\tdescription\tYeast check\n"
+    "MTD\tms_run[1]-location\tfile:///a.mzML\n\nPRH\taccession\tdescription\tdatabase\tsearch_engine\tnum_psms_ms_run[2]\n"
+    "PRT\tY1\tnull\tdb\tnull\t\nPRT\tnull\tx\tdb\tnull\t4\n";
+
+static const uint32_t EXAMPLE_BREAKS[9] = {15, 7, 6, 19, 8, 6, 20, 9, 2};
+
+static void limits(void) {
+    uint32_t places[18], number = 77;
+    begin(LIMIT + 1);
+    put("PRH\taccession\nPRT\t12.5\nCOM\t");
+    fill(' ', LIMIT + 1);
+    mark(places, COUNT(places));
+    uint32_t count = mztab_judge(file, LIMIT, places, COUNT(places), &number);
+    check(number == 0, "limit: judged", number);
+    check(count == 6, "limit: count", count);
+    check(places[0] == 16 && places[1] == 1 && places[2] == 1 && places[15] == 21 && places[16] == 4 && places[17] == 5, "limit: breaks", 0);
+    mark(places, COUNT(places));
+    number = 77;
+    count = mztab_judge(file, LIMIT + 1, places, COUNT(places), &number);
+    check(number == 1, "over the limit: number", number);
+    check(count == 0, "over the limit: count", count);
+    check(marked(places, COUNT(places)), "over the limit: places", 0);
+
+    struct view v = cell(file, LIMIT, 1, 1, 1);
+    check(v.number == 0 && v.start == 18 && v.length == 4, "limit: cell", v.number);
+    check(refused_view(cell(file, LIMIT, 1, 2, 1), 3), "limit: no such row", 0);
+    check(refused_view(cell(file, LIMIT + 1, 1, 1, 1), 1), "over the limit: cell", 0);
+    struct read r = reading(file, LIMIT, 1, 1, 1);
+    check(r.number == 0 && r.kind == 2 && r.line == 2 && r.cell == 2 && r.whole == 125 && r.places == 1 && r.decimal == 12.5, "limit: reading", r.number);
+    check(refused_reading(reading(file, LIMIT + 1, 1, 1, 1), 1), "over the limit: reading", 0);
+    group("limits");
+}
+
+static void lists(void) {
+    const uint8_t *f = (const uint8_t *)EXAMPLE;
+    for (size_t n = 0; n <= 12; n++) {
+        uint32_t places[16], number = 77;
+        mark(places, COUNT(places));
+        uint32_t count = mztab_judge(f, sizeof EXAMPLE - 1, places, n, &number);
+        size_t whole = n / 3 < 3 ? n / 3 : 3;
+        check(number == 0, "list: number", n);
+        check(count == 3, "list: the count is of all", n);
+        check(memcmp(places, EXAMPLE_BREAKS, whole * 3 * sizeof places[0]) == 0, "list: the first breaks", n);
+        check(marked(places + whole * 3, COUNT(places) - whole * 3), "list: no place besides", n);
+    }
+    /* a file of no bytes, and comments: the required metadata is absent */
+    uint32_t places[15], number = 77;
+    check(mztab_judge(f, 0, places, 15, &number) == 5 && number == 0, "no bytes: count", number);
+    for (uint32_t k = 0; k < 5; k++)
+        check(places[3 * k] == 21 && places[3 * k + 1] == 1 && places[3 * k + 2] == k + 1, "no bytes: break", k);
+    check(mztab_judge((const uint8_t *)"COM", 3, places, 15, &number) == 5 && places[1] == 2, "COM", 0);
+    group("lent lists");
+
+    /* every break of a long list, with one place too few for the last, and just enough */
+    size_t n = (size_t)1 << 20, all = 3 * (n / 2 + 5);
+    uint32_t *long_list = malloc(all * sizeof *long_list);
+    if (!long_list) exit(2);
+    x_lines(n);
+    for (size_t less = 0; less < 2; less++) {
+        mark(long_list, all);
+        uint32_t count = mztab_judge(file, n, long_list, all - less, &number);
+        check(count == n / 2 + 5 && number == 0, "long list: count", count);
+        int ok = 1;
+        for (uint32_t k = 0; k < n / 2; k++)
+            ok = ok && long_list[3 * k] == 2 && long_list[3 * k + 1] == k + 1 && long_list[3 * k + 2] == 1;
+        for (uint32_t k = 0; k < 5 - less; k++)
+            ok = ok && long_list[3 * (n / 2 + k)] == 21 && long_list[3 * (n / 2 + k) + 1] == n / 2 + 1 && long_list[3 * (n / 2 + k) + 2] == k + 1;
+        check(ok, "long list: breaks", less);
+        check(!less || marked(long_list + all - 3, 3), "long list: the break that does not fit", less);
+    }
+    free(long_list);
+    group("a long lent list");
+}
+
+/* A page between two that may not be touched. */
+static uint8_t *page(size_t length) {
+    uint8_t *p = mmap(NULL, 3 * length, PROT_NONE, MAP_PRIVATE | MAP_ANONYMOUS, -1, 0);
+    if (p == MAP_FAILED || mprotect(p + length, length, PROT_READ | PROT_WRITE)) {
+        perror("mmap");
+        exit(2);
+    }
+    return p + length;
+}
+
+/* The example at either edge of a page, and each front part of it: a byte touched outside is a fault. */
+static void edges(void) {
+    size_t length = 65536, n = sizeof EXAMPLE - 1;
+    uint8_t *f = page(length), *l = page(length);
+    uint32_t last = 0;
+    for (size_t part = 0; part <= n; part++) {
+        uint32_t count[2];
+        for (int high = 0; high < 2; high++) {
+            uint8_t *here = high ? f + length - part : f;
+            uint32_t *places = (uint32_t *)(high ? l + length - 36 : l);
+            uint32_t number = 77;
+            memcpy(here, EXAMPLE, part);
+            mark(places, 9);
+            count[high] = mztab_judge(here, part, places, 9, &number);
+            check(number == 0, "edges: judged", part);
+            for (uint32_t row = 0; row < 3; row++) {
+                struct view v = cell(here, part, 1, row, 5);
+                struct read r = reading(here, part, 1, row, 5);
+                check(v.number == r.number && v.start + v.length <= part, "edges: cell", part);
+            }
+            check(memcmp(here, EXAMPLE, part) == 0, "edges: the file is as it was", part);
+        }
+        check(count[0] == count[1], "edges: the same", part);
+        last = count[0];
+    }
+    check(last == 3, "edges: the example", last);
+    munmap(f - length, 3 * length);
+    munmap(l - length, 3 * length);
+    group("edges of a page");
+}
+
+static void views(void) {
+    const uint8_t *f = (const uint8_t *)EXAMPLE;
+    size_t n = sizeof EXAMPLE - 1;
+    static const char *const cells[3][5] = {
+        {"accession", "description", "database", "search_engine", "num_psms_ms_run[2]"}, {"Y1", "null", "db", "null", ""}, {"null", "x", "db", "null", "4"}};
+    static const uint32_t kinds[3][5] = {{6, 6, 6, 6, 6}, {6, 0, 6, 0, 6}, {0, 6, 6, 0, 1}};
+    for (uint32_t row = 0; row < 3; row++)
+        for (uint32_t column = 1; column <= 5; column++) {
+            const char *text = cells[row][column - 1];
+            struct view v = cell(f, n, 1, row, column);
+            check(v.number == 0 && v.length == strlen(text) && memcmp(f + v.start, text, v.length) == 0, "view", row * 10 + column);
+            check(v.start > 0 && f[v.start - 1] == '\t' && (f[v.start + v.length] == '\t' || f[v.start + v.length] == '\n'), "view: where", row * 10 + column);
+            struct read r = reading(f, n, 1, row, column);
+            check(r.number == 0 && r.kind == kinds[row][column - 1], "reading: case", row * 10 + column);
+            check(r.line == row + 7 && r.cell == column + 1, "reading: where", row * 10 + column);
+            check(r.kind == 1 ? r.whole == 4 && r.places == 0 && same_double(r.decimal, 0.0) : bare(r), "reading: carries", row * 10 + column);
+        }
+    group("views");
+}
+
+static void refusals(void) {
+    const uint8_t *f = (const uint8_t *)EXAMPLE;
+    size_t n = sizeof EXAMPLE - 1;
+    static const uint32_t sections[] = {0, 1, 2, 3, 4, 5, 6, 255, 256, 257, 0x7FFFFFFF, 0x80000000, 0xFFFFFFFF};
+    static const uint32_t rows[] = {0, 1, 2, 3, 4, 255, 0x7FFFFFFF, 0x80000000, 0xFFFFFFFF};
+    static const uint32_t columns[] = {0, 1, 5, 6, 7, 255, 256, 0x7FFFFFFF, 0x80000000, 0xFFFFFFFE, 0xFFFFFFFF};
+    begin(LIMIT + 1);
+    put(EXAMPLE);
+    fill('\n', LIMIT + 1);
+    for (size_t s = 0; s < COUNT(sections); s++)
+        for (size_t r = 0; r < COUNT(rows); r++)
+            for (size_t c = 0; c < COUNT(columns); c++) {
+                uint32_t section = sections[s], row = rows[r], column = columns[c];
+                /* of the example: rows 0 to 2 of section 1, columns 1 to 5 of each */
+                uint32_t number = section < 1 || section > 4 ? 2 : section != 1 || row > 2 ? 3 : column < 1 || column > 5 ? 4 : 0;
+                unsigned long long which = s * 10000 + r * 100 + c;
+                struct view v = cell(f, n, section, row, column);
+                struct read d = reading(f, n, section, row, column);
+                check(v.number == number, "refusal: number of cell", which);
+                check(d.number == number, "refusal: number of reading", which);
+                if (number) {
+                    check(refused_view(v, number), "refusal: empty view", which);
+                    check(refused_reading(d, number), "refusal: empty reading", which);
+                }
+                check(refused_view(cell(file, LIMIT + 1, section, row, column), 1), "too long: cell", which);
+                check(refused_reading(reading(file, LIMIT + 1, section, row, column), 1), "too long: reading", which);
+            }
+    group("refusals in order");
+
+    /* rows of all sections, under no header and among comments; the last line has no LF */
+    static const char all[] = "SML\ta\r\nCOM\nPSM\tb\nPEP\tc\n\nPRT\td\nSMH\te\nPSH\tf\nPEH\tg\nPRH\th\nprt\ti\nPRT \tj\nSML\tk";
+    static const struct { uint32_t section, row, line; char byte; } rows_of[] = {
+        {4, 1, 1, 'a'}, {3, 1, 3, 'b'}, {2, 1, 4, 'c'}, {1, 1, 6, 'd'}, {4, 0, 7, 'e'}, {3, 0, 8, 'f'}, {2, 0, 9, 'g'}, {1, 0, 10, 'h'}, {4, 2, 13, 'k'}};
+    for (size_t i = 0; i < COUNT(rows_of); i++) {
+        struct view v = cell((const uint8_t *)all, sizeof all - 1, rows_of[i].section, rows_of[i].row, 1);
+        struct read r = reading((const uint8_t *)all, sizeof all - 1, rows_of[i].section, rows_of[i].row, 1);
+        check(v.number == 0 && v.length == 1 && all[v.start] == rows_of[i].byte, "sections: cell", i);
+        check(r.number == 0 && r.line == rows_of[i].line && r.cell == 2 && r.kind == 6, "sections: reading", i);
+    }
+    check(refused_view(cell((const uint8_t *)all, sizeof all - 1, 1, 2, 1), 3), "sections: other codes are no rows", 0);
+    check(refused_view(cell((const uint8_t *)all, sizeof all - 1, 4, 3, 1), 3), "sections: no row more", 0);
+    check(refused_view(cell((const uint8_t *)all, sizeof all - 1, 4, 1, 2), 4), "sections: no cell more", 0);
+    group("rows of four sections");
+}
+
+/* A number to read: a minus or none, digits, of which so many are places. */
+struct numeral {
+    int minus;
+    uint64_t digits;
+    uint32_t length, places;
+};
+
+static const char *spelled(struct numeral n) {
+    static char s[40];
+    char d[24];
+    sprintf(d, "%0*llu", (int)n.length, (unsigned long long)n.digits);
+    sprintf(s, "%s%.*s%s%s", n.minus ? "-" : "", (int)(n.length - n.places), d, n.places ? "." : "", d + n.length - n.places);
+    return s;
+}
+
+enum { WIDTH = 8, NUMERALS = 320 };
+
+static void doubles(void) {
+    static const struct numeral fixed[] = {
+        {1, 0, 2, 1}, {0, 0, 2, 1}, {0, 1, 2, 1}, {1, 1, 2, 1}, {0, 11232, 5, 1}, {0, 999999999999999, 15, 0}, {1, 999999999999999, 15, 0},
+        {0, 1, 15, 14}, {1, 1, 15, 14}, {0, 0, 15, 14}, {1, 0, 15, 14}, {0, 999999999999999, 15, 14}, {1, 999999999999999, 15, 14}, {0, 999999999999999, 15, 1},
+        {0, 1000000000, 10, 0}, {1, 1000000000, 10, 0}, {0, 0, 10, 0}, {1, 0, 10, 0}, {0, 1, 10, 0}, {0, 3, 2, 1}, {0, 7, 2, 1}, {0, 333333333333333, 15, 14},
+        {0, 1123, 4, 1}, {0, 5, 2, 1}, {0, 25, 3, 2}, {0, 10, 4, 2}, {1, 123456789, 9, 3}, {0, 900719925474099, 15, 0}, {0, 900719925474099, 15, 7},
+        {0, 314159265358979, 15, 14}, {0, 271828182845904, 15, 14}, {1, 100000000000000, 15, 14}, {0, 562949953421312, 15, 14}, {0, 562949953421313, 15, 13}};
+    static struct numeral all[NUMERALS];
+    uint64_t tens[16] = {1};
+    for (int i = 1; i < 16; i++) tens[i] = tens[i - 1] * 10;
+    for (size_t i = 0; i < NUMERALS; i++)
+        if (i < COUNT(fixed)) all[i] = fixed[i];
+        else {
+            struct numeral n;
+            n.minus = (int)draw(2);
+            n.length = 2 + (uint32_t)draw(14);
+            /* without a dot nine digits and fewer are a whole */
+            n.places = n.length > 9 && draw(4) == 0 ? 0 : 1 + (uint32_t)draw(n.length - 1);
+            n.digits = draw(tens[draw(3) ? n.length : 1 + draw(n.length)]);
+            all[i] = n;
+        }
+    begin(LIMIT);
+    put("PRH\taccession\nCOM\n\n");
+    for (size_t i = 0; i < NUMERALS; i++) {
+        put(i % WIDTH ? "\t" : "PRT\t");
+        put(spelled(all[i]));
+        if (i % WIDTH == WIDTH - 1) put("\r\n");
+    }
+    for (uint32_t i = 0; i < NUMERALS; i++) {
+        struct numeral n = all[i];
+        struct read r = reading(file, at, 1, i / WIDTH + 1, i % WIDTH + 1);
+        double d = (double)n.digits / (double)tens[n.places];
+        if (n.minus) d = -d;
+        check(r.number == 0 && r.kind == 2, "decimal: case", i);
+        check(r.line == 4 + i / WIDTH && r.cell == i % WIDTH + 2, "decimal: where", i);
+        check(r.whole == (n.minus ? -(int64_t)n.digits : (int64_t)n.digits), "decimal: numerals", i);
+        check(r.places == n.places, "decimal: places", i);
+        check(same_double(r.decimal, d), "decimal: double", i);
+        check(same_double(r.decimal, strtod(spelled(n), NULL)), "decimal: nearest double", i);
+    }
+    group("doubles");
+
+    static const struct { const char *text; int64_t value; } wholes[] = {
+        {"0", 0}, {"-0", 0}, {"1", 1}, {"-1", -1}, {"9", 9}, {"10", 10}, {"-10", -10}, {"007", 7}, {"-007", -7}, {"000000000", 0}, {"-000000000", 0},
+        {"000000001", 1}, {"123456789", 123456789}, {"-123456789", -123456789}, {"999999999", 999999999}, {"-999999999", -999999999}, {"100000000", 100000000}};
+    begin(LIMIT);
+    put("PRT");
+    for (size_t i = 0; i < COUNT(wholes); i++) { put("\t"); put(wholes[i].text); }
+    for (uint32_t i = 0; i < COUNT(wholes); i++) {
+        struct read r = reading(file, at, 1, 1, i + 1);
+        check(r.number == 0 && r.kind == 1 && r.whole == wholes[i].value, "whole", i);
+        check(r.places == 0 && same_double(r.decimal, 0.0) && r.line == 1 && r.cell == i + 2, "whole: the rest", i);
+    }
+    group("wholes");
+
+    static const struct { const char *text; uint32_t kind; } others[] = {
+        {"null", 0}, {"INF", 3}, {"NaN", 4}, {"1234567890123456", 5}, {"-1234567890123456", 5}, {"0000000000000000", 5}, {"1.234567890123456", 5},
+        {"-0.000000000000000", 5}, {"123456789012345678901234567890.5", 5}, {"", 6}, {"-", 6}, {".", 6}, {".5", 6}, {"5.", 6}, {"-.5", 6}, {"-5.", 6},
+        {"1,000", 6}, {"--1", 6}, {"1-", 6}, {"+1", 6}, {"1.2.3", 6}, {"1..2", 6}, {"1e5", 6}, {"0x10", 6}, {" 1", 6}, {"1 ", 6}, {"-INF", 6}, {"-NaN", 6},
+        {"inf", 6}, {"nan", 6}, {"NAN", 6}, {"NULL", 6}, {"null ", 6}, {"nul", 6}, {"nulll", 6}, {"NA", 6}, {"1/2", 6}, {"1:2", 6}, {"\xC3\xA9", 6}, {"1|2", 6}};
+    begin(LIMIT);
+    put("SML");
+    for (size_t i = 0; i < COUNT(others); i++) { put("\t"); put(others[i].text); }
+    for (uint32_t i = 0; i < COUNT(others); i++) {
+        struct read r = reading(file, at, 4, 1, i + 1);
+        check(r.number == 0 && r.kind == others[i].kind && r.line == 1 && r.cell == i + 2, "case", i);
+        check(bare(r), "case: carries nothing", i);
+    }
+    group("other cases");
+}
+
+static void *hostile(void *unused) {
+    (void)unused;
+    for (int i = 0; i < FILES; i++) {
+        struct want w = HOSTILE[i].make(LIMIT);
+        uint32_t places[12], number = 77;
+        mark(places, COUNT(places));
+        uint32_t count = mztab_judge(file, LIMIT, places, 10, &number);
+        check(number == 0, HOSTILE[i].name, number);
+        check(count == w.count, HOSTILE[i].name, count);
+        check(places[0] == w.rule && places[1] == w.line && places[2] == w.cell, HOSTILE[i].name, places[0]);
+        check(marked(places + 9, 3), HOSTILE[i].name, 0);
+    }
+    /* the cell calls on the same stack: the last cell of one row */
+    tabs(LIMIT);
+    memcpy(file, "PRT", 3);
+    struct view v = cell(file, LIMIT, 1, 1, LIMIT - 3);
+    check(v.number == 0 && v.start == LIMIT && v.length == 0, "last of tabs", v.start);
+    check(refused_view(cell(file, LIMIT, 1, 1, LIMIT - 2), 4), "beyond the last of tabs", 0);
+    digits(LIMIT);
+    struct read r = reading(file, LIMIT, 1, 1, 5);
+    check(r.number == 0 && r.kind == 5 && r.line == 2 && r.cell == 6 && bare(r), "reading of digits", r.kind);
+    return NULL;
+}
+
+/* On a stack of 2 MB, with pages around it that may not be touched; says how much of it was used. */
+static void on_small_stack(void) {
+    size_t length = (size_t)2 << 20;
+    uint8_t *stack = page(length);
+    memset(stack, 0xA5, length);
+    pthread_attr_t attr;
+    pthread_t thread;
+    if (pthread_attr_init(&attr) || pthread_attr_setstack(&attr, stack, length) || pthread_create(&thread, &attr, hostile, NULL)) {
+        fprintf(stderr, "no thread\n");
+        exit(2);
+    }
+    pthread_join(thread, NULL);
+    size_t free_bytes = 0;
+    while (free_bytes < length && stack[free_bytes] == 0xA5) free_bytes++;
+    check(free_bytes > 0, "stack", free_bytes);
+    group("hostile files of 16 MB, 2 MB stack");
+    printf("%34s %6zu KB of stack used\n", "", (length - free_bytes) / 1024);
+}
+
+int main(void) {
+    file = malloc(LIMIT + 1);
+    if (!file) return 2;
+    limits();
+    lists();
+    edges();
+    views();
+    refusals();
+    doubles();
+    on_small_stack();
+    printf("%u checks, %u failed\n", checks, failed);
+    return failed != 0;
+}
+
+#endif
