@@ -46,7 +46,7 @@ static double ask(size_t size, uint32_t row, uint32_t column) {
 }
 
 static void measure(const char *name, uint32_t row, uint32_t column) {
-    char path[] = "mztab-bench-XXXXXX";
+    char path[] = "target/host/bench-XXXXXX";
     int fd = mkstemp(path);
     if (fd < 0 || write(fd, file, SIZE) != SIZE) { perror("write"); exit(2); }
     double best = 1e9, half = 1e9, best_wc = 1e9;

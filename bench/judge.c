@@ -87,7 +87,7 @@ int main(void) {
     if (!file) return 2;
     printf("%-30s %10s %10s %10s %11s\n", "mztab_judge, 16 MB", "ms", "ns a byte", "at 4 MB", "to ordinary");
     struct want w = ordinary(LIMIT);
-    char path[] = "/tmp/mztab-bench-XXXXXX";
+    char path[] = "target/host/bench-XXXXXX";
     int fd = mkstemp(path);
     if (fd < 0 || write(fd, file, LIMIT) != (ssize_t)LIMIT) {
         perror("write");
