@@ -1,15 +1,15 @@
 -- What the scan carries from line to line, and what it means of the lines above. No public contract cites this file. Assumes nothing.
-use Prim.Native.Nat.{ℕ, _+_, _≤_, _<_}
+use Prim.Native.Nat.{ℕ, suc, _+_, _-_, _≤_, _<_}
 use mathlib.Core.Path.{_≡_}
 use mathlib.Core.Bool.{Bool, true, false, cond, _||_}
 use mathlib.Core.List.{List, [], _∷_}
-use lib.ListN.{length, getD, set}
+use lib.ListN.{length, getD, set, take, drop}
 use lib.Dec.{ltb}
 use Rattle.text.specs.Bytes.{Bytes, any}
-use Rattle.text.specs.Lines.{cells}
+use Rattle.text.specs.Lines.{cells, lines}
 use Rattle.breaks.specs.Sorts.{sortOf, header, isTable, width, controlCell}
-use Rattle.breaks.specs.Breaks.{Break}
-use Rattle.breaks.specs.Rules.{ofSection, ofLater, nearer, nearest}
+use Rattle.breaks.specs.Breaks.{Break, spotAt, each, atLine, atEnd}
+use Rattle.breaks.specs.Rules.{ofSection, ofLater, nearer, nearest, rules, endRules, ENDS}
 use Rattle.breaks.specs.Machine.{Ids, metaBreaks, headBreaks, rowBreaks, unknownBreaks, SLOTS, hasSlot, Slots, Kinds}
 use Rattle.breaks.specs.declared.state.State.{State}
 use Rattle.breaks.specs.declared.sorts.Sort.{Sort}
@@ -62,3 +62,18 @@ pub record Follows (s : State) (kinds : List ℕ) (slots : List Bool) (l : Bytes
   pub keys : (i : ℕ) → i < SLOTS → getD slots' i false ≡ (getD slots i false || hasSlot i l)
   pub kind-places : length kinds' ≡ 256
   pub key-places : length slots' ≡ SLOTS
+
+-- the breaks of the lines after the first n, and those at the end
+abbrev pub from : List Bytes → ℕ → List Break
+from F n = each (length F - n) (suc n) (λ i. atLine rules (spotAt F i) i)
+
+abbrev pub last : List Bytes → List Break
+last F = atEnd endRules ENDS F
+
+-- where a scan stands that has passed n lines: its place in the file, and what it carries
+pub record Scan (file : Bytes) (at n : ℕ) (s : State) (kinds : List ℕ) (slots : List Bool) : Type 0 where
+  pub within : at ≤ length file
+  pub counted : n ≤ at
+  pub passed : n ≤ length (lines file)
+  pub left : lines (drop at file) ≡ drop n (lines file)
+  pub stands : Stands (take n (lines file)) s kinds slots

@@ -1,3 +1,5 @@
 -- Laws over plain lists, with no code in them.
 pub mod Runs
 pub mod Steps
+pub mod Parting
+pub mod Knowing

@@ -1,4 +1,3 @@
 -- Laws over plain lists and positions, with no code in them.
 pub mod Rowing
 pub mod Placing
-pub mod Scanned

@@ -16,12 +16,10 @@ use Rattle.text.proofs.Laws.Lines.{lines-done}
 use Rattle.text.proofs.Laws.Pieces.{onFirst-length}
 use Rattle.breaks.specs.Sorts.{isSilent, width}
 use Rattle.breaks.specs.Breaks.{Break, breakAt, when, Spot, spot, spotAt, Rule, each, atCell, atLine, inLines, atEnd}
-use Rattle.breaks.specs.Rules.{rules, endRules, ENDS, breaks}
-use Rattle.breaks.specs.Places.{Lent, lent, putAll, Puts}
+use Rattle.breaks.specs.Rules.{rules, endRules, breaks}
 use Rattle.breaks.specs.Machine.{Ids}
-use Rattle.breaks.specs.Carried.{lineBreaks, Stands, Follows}
+use Rattle.breaks.specs.Carried.{lineBreaks, Stands, Follows, from, last, Scan}
 use Rattle.breaks.specs.declared.state.State.{State}
-use Rattle.breaks.proofs.Laws.Putting.{put-count}
 use Rattle.breaks.proofs.Laws.Following.{stands-next}
 use Rattle.breaks.proofs.Laws.Lining.{Knows, means}
 
@@ -85,13 +83,6 @@ widths-bound (x ∷ xs) = go (eqb x 10) (eqb x 13 && startsLf xs) (widths-bound 
     go false true h = omega arith
     go false false h = omega (arith, front-widths x (lines xs))
 
--- the breaks from line n + 1 on
-abbrev pub from : List Bytes → ℕ → List Break
-from F n = each (length F - n) (suc n) (λ i. atLine rules (spotAt F i) i)
-
-abbrev pub last : List Bytes → List Break
-last F = atEnd endRules ENDS F
-
 module _ (F : List Bytes) (n : ℕ) {l : Bytes} {ls : List Bytes} (e : drop n F ≡ l ∷ ls) where
   line-here : getD F n [] ≡ l
   line-here =
@@ -132,49 +123,40 @@ breaks-bound b h =
     omega (arith, length-append (inLines rules F) (last F), from-bound F F 0 refl, widths-bound b, each-bound 1 5 1 (atCell endRules (spotAt F (length F + 1)) (length F + 1)) (at-bound endRules (spotAt F (length F + 1)) (length F + 1)), ap (λ (k : ℕ). length (each k 1 (λ i. atLine rules (spotAt F i) i))) z)
 
 -- THE SCAN: where it stands, by the place and the number of lines passed
-pub record Scanned (file : Bytes) (T : Lent) (at n : ℕ) (s : State) (kinds : List ℕ) (slots : List Bool) (o : Lent) : Type 0 where
-  pub within : at ≤ length file
-  pub counted : n ≤ at
-  pub passed : n ≤ length (lines file)
-  pub left : lines (drop at file) ≡ drop n (lines file)
-  pub stands : Stands (take n (lines file)) s kinds slots
-  pub puts : putAll o (from (lines file) n ++ last (lines file)) ≡ T
+pub scan-start : (file : Bytes) {s : State} {kinds : List ℕ} {slots : List Bool} → Stands [] s kinds slots → Scan file 0 0 s kinds slots
+scan-start file st = record { within = omega arith; counted = omega arith; passed = omega arith; left = refl; stands = st }
 
-pub scan-start : (file : Bytes) (ys : List ℕ) {s : State} {kinds : List ℕ} {slots : List Bool} → Stands [] s kinds slots
-    → Scanned file (putAll (lent ys 0) (breaks file)) 0 0 s kinds slots (lent ys 0)
+-- all breaks are those of the lines and those at the end
+pub breaks-left : (file : Bytes) → breaks file ≡ from (lines file) 0 ++ last (lines file)
 unfolding breaks inLines
-scan-start file ys st = record {
-  within = omega arith;
-  counted = omega arith;
-  passed = omega arith;
-  left = refl;
-  stands = st;
-  puts = let z : length (lines file) - 0 ≡ length (lines file) = omega arith in rw z;
-}
+breaks-left file = let z : length (lines file) - 0 ≡ length (lines file) = omega arith in rw z
 
-module _ {file : Bytes} {T : Lent} {at n : ℕ} {s : State} {kinds : List ℕ} {slots : List Bool} {o : Lent} (h : Scanned file T at n s kinds slots o) where
-  -- no more were put than there are
-  pub scan-count : o .count ≤ T .count
-  scan-count = omega (arith, put-count (from (lines file) n ++ last (lines file)) o, ap (λ (x : Lent). x .count) (h .puts))
+module _ {file : Bytes} {at n : ℕ} {s : State} {kinds : List ℕ} {slots : List Bool} (h : Scan file at n s kinds slots) where
+  module _ {end next : ℕ} (line : LineAt file at end next) where
+    ahead : drop n (lines file) ≡ part at end file ∷ lines (drop next file)
+    ahead = sym (h .left) ∙ line .cut
 
-  -- a line further
-  pub scan-step : {end next m : ℕ} {s' : State} {kinds' : List ℕ} {slots' : List Bool} {o' : Lent} {ids : Ids} → Knows (lines file) ids → LineAt file at end next
-      → Puts (lineBreaks ids s kinds slots (n + 1) (part at end file)) m o o' → Follows s kinds slots (part at end file) s' kinds' slots'
-      → Scanned file T next (n + 1) s' kinds' slots' o'
-  scan-step {end} {next} {o' = o'} {ids = ids} k line p af =
-      let F = lines file in
-      let l = part at end file in
-      let e : drop n F ≡ l ∷ lines (drop next file) = sym (h .left) ∙ line .cut in
-      let tail = from F (suc n) ++ last F in
-      record {
-        within = line .within;
-        counted = omega (arith, line .on, h .counted);
-        passed = omega (arith, length-drop n F, ap length e);
-        left = rw (add-one n) (sym (lines-left F n e));
-        stands = rw (add-one n, lines-above F n e) (stands-next (h .stands) af);
-        puts = rw (add-one n) (p .does tail ∙ ap (putAll o) (means k (h .stands) l (n + 1) tail)
-            ∙ rw (add-one n) (ap (putAll o) (sym (ap (λ (bs : List Break). bs ++ last F) (from-next F n e) ∙ append-assoc (atLine rules (spot (take n F) l F) (suc n)) (from F (suc n)) (last F))) ∙ h .puts));
-      }
+    -- a line further
+    pub scan-step : {s' : State} {kinds' : List ℕ} {slots' : List Bool} → Follows s kinds slots (part at end file) s' kinds' slots' → Scan file next (n + 1) s' kinds' slots'
+    scan-step af =
+        let F = lines file in
+        record {
+          within = line .within;
+          counted = omega (arith, line .on, h .counted);
+          passed = omega (arith, length-drop n F, ap length ahead);
+          left = rw (add-one n) (sym (lines-left F n ahead));
+          stands = rw (add-one n, lines-above F n ahead) (stands-next (h .stands) af);
+        }
+
+    -- the breaks of the line, in front of those of the lines after it and those at the end
+    pub scan-left : {ids : Ids} → Knows (lines file) ids
+        → from (lines file) n ++ last (lines file) ≡ lineBreaks ids s kinds slots (n + 1) (part at end file) [] ++ (from (lines file) (n + 1) ++ last (lines file))
+    scan-left k =
+        let F = lines file in
+        let l = part at end file in
+        let bs = atLine rules (spot (take n F) l F) (suc n) in
+        ap (λ (xs : List Break). xs ++ last F) (from-next F n ahead) ∙ append-assoc bs (from F (suc n)) (last F)
+        ∙ rw (add-one n) (ap (λ (xs : List Break). xs ++ (from F (suc n) ++ last F)) (sym (rw (add-one n) at (means k (h .stands) l (n + 1) []) ∙ append-nil bs)))
 
   -- all lines are passed
   pub scan-all : length file ≤ at → n ≡ length (lines file)
@@ -182,9 +164,7 @@ module _ {file : Bytes} {T : Lent} {at n : ℕ} {s : State} {kinds : List ℕ} {
       let none : drop n (lines file) ≡ [] = sym (h .left) ∙ lines-done file at e in
       omega (arith, h .passed, length-drop n (lines file), ap length none)
 
-  pub scan-end : {m : ℕ} {o' : Lent} {f : List Break → List Break} → length file ≤ at → Puts f m o o' → ((rest : List Break) → f rest ≡ last (lines file) ++ rest) → o' ≡ T
-  unfolding putAll each
-  scan-end {o' = o'} e p q =
-      let F = lines file in
-      let z : length F - n ≡ 0 = omega (arith, scan-all e) in
-      p .does [] ∙ ap (putAll o) (q [] ∙ append-nil (last F)) ∙ rw z at (h .puts)
+  -- and what is left are the breaks at the end
+  pub scan-last : length file ≤ at → from (lines file) n ++ last (lines file) ≡ last (lines file)
+  unfolding each
+  scan-last e = let z : length (lines file) - n ≡ 0 = omega (arith, scan-all e) in rw z

@@ -2,12 +2,13 @@
 use mathlib.Core.Path.{_≡_, refl, ap}
 use mathlib.Core.Bool.{false}
 use Prim.Native.Nat.{ℕ}
+use native.Mathlib.Omega.{arith}
 use borrow.Author.Needs.{needs}
 use borrow.Author.Tests.{lt-ltb, le-ltb}
 use lib.ListN.{length, length-replicate}
 use Rattle.text.specs.Lines.{LIMIT}
 use Rattle.mztab.specs.Judged.{judged, ended}
-use Rattle.mztab.proofs.Laws.Scanned.{same-everywhere}
+use Rattle.judging.proofs.Laws.Parting.{midway-start, part-whole, same-everywhere}
 use Rattle.mztab.proofs.judged.judge_places.Statement.{statement}
 use Rattle.mztab.proofs.judged.judge_places.Tie as tie
 
@@ -15,19 +16,20 @@ returns : tie.Need-returns
 unfolding judged
 returns c = rw (lt-ltb LIMIT (length (c .before .before .before .args .file .now)) (c .if1 .taken))
 
-judge-lines-requires : tie.Need-judge-lines-requires
-judge-lines-requires c κs =
-    let at-ids = c .before .before .before .before .before .before in
+judge-part-requires : tie.Need-judge-part-requires
+judge-part-requires c κs =
+    let at-ids = c .before .before .before .before .before .before .before in
     let at-book = at-ids .before .before in
-    (at-book .book .ensures .1, (at-book .before .if1 .left, (at-ids .declared-ids .ensures, (refl, (length-replicate 257725 false, ((λ i. same-everywhere 257725 i false), length-replicate {A = ℕ} 4096 0))))))
+    (omega arith, (at-book .book .ensures .1, (at-book .before .if1 .left, (midway-start (c .before .before .before .before .beginning .ensures) (λ i. same-everywhere 257725 i false), (at-ids .declared-ids .ensures, (refl, (length-replicate 257725 false, length-replicate {A = ℕ} 4096 0)))))))
 
 returns-2 : tie.Need-returns-2
 unfolding judged
 returns-2 c =
     let at-judge = c .before .before .before .before in
-    let at-ids = at-judge .before .before .before .before .before .before .before in
-    let else = at-ids .before .before .before in
-    rw (le-ltb LIMIT (length (else .before .before .before .args .file .now)) (else .if1 .left)) (ap ended (at-judge .judge-lines .ensures))
+    let first = at-judge .before .before .before .before .before in
+    let else = first .before .before .before .before .before .before in
+    let limit = else .if1 .left in
+    rw (le-ltb LIMIT (length (else .before .before .before .args .file .now)) limit) (ap ended (part-whole (first .beginning .ensures) (at-judge .judge-part .ensures .0) limit (omega arith)))
 
 pub judge-places-spec : {M : Type 1} → statement M
 judge-places-spec =
@@ -38,8 +40,9 @@ judge-places-spec =
     (λ c. search needs)
     (λ c κs. search needs)
     (λ c. search needs)
+    (λ c κs. search needs)
     (λ c. search needs)
     (λ c. search needs)
-    judge-lines-requires
+    judge-part-requires
     (λ c. search needs)
     returns-2)

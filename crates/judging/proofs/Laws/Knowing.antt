@@ -1,0 +1,34 @@
+-- What the flags of a file's ids say of it, and what its slots say at its end. Assumes nothing.
+use mathlib.Core.Path.{_≡_, refl, sym, ap, subst, _∙_}
+use mathlib.Core.Bool.{Bool}
+use mathlib.Core.List.{List, [], _++_, append-nil}
+use Prim.Native.Nat.{ℕ, _+_, _≤_}
+use native.Mathlib.Omega.{arith}
+use lib.Seq.{take-all}
+use lib.ListN.{length, take, drop}
+use Rattle.text.specs.Bytes.{Bytes}
+use Rattle.text.specs.Lines.{lines}
+use Rattle.book.specs.Ids.{Declared}
+use Rattle.breaks.specs.Breaks.{Break}
+use Rattle.breaks.specs.Machine.{Slots, idsOf, endBreaks}
+use Rattle.breaks.specs.Carried.{Scan, from, last}
+use Rattle.breaks.specs.declared.state.State.{State}
+use Rattle.breaks.proofs.Laws.Lining.{Knows}
+use Rattle.breaks.proofs.Laws.Ending.{end-means}
+use Rattle.breaks.proofs.Laws.Scanning.{scan-all, scan-last}
+use Rattle.metaline.proofs.Laws.Ids.{value-ids, column-ids, declares-flags}
+
+-- the flags say which ids the file declares
+pub flags-know : (flags : List (List Bool)) (file : Bytes) → Declared flags file → Knows (lines file) (idsOf flags)
+flags-know flags file h =
+    let d = declares-flags flags file h in
+    record { values = value-ids (lines file) (idsOf flags) d; columns = column-ids (lines file) (idsOf flags) d }
+
+-- after the last line, the slots say what is left
+pub end-left : {file : Bytes} {at n : ℕ} {s : State} {kinds : List ℕ} {slots : List Bool} → Scan file at n s kinds slots → length file ≤ at
+    → from (lines file) n ++ last (lines file) ≡ endBreaks slots (n + 1) [] ++ []
+end-left {file} {n = n} {slots = slots} h e =
+    let F = lines file in
+    let all : n ≡ length F = scan-all h e in
+    let keys : Slots F slots = subst (λ (ls : List Bytes). Slots ls slots) (take-all n F (omega arith)) (h .stands .keys) in
+    scan-last h e ∙ sym (append-nil (last F)) ∙ sym (ap (λ (k : ℕ). endBreaks slots (k + 1) []) all ∙ end-means F slots keys []) ∙ sym (append-nil (endBreaks slots (n + 1) []))

@@ -1,0 +1,78 @@
+-- A part of a file's breaks, put from the first place on. Assumes nothing.
+use mathlib.Core.Path.{_≡_, refl, sym, ap, _∙_}
+use mathlib.Core.Bool.{Bool, true, false}
+use mathlib.Core.List.{List, [], _++_}
+use Prim.Native.Nat.{ℕ, zero, suc, _+_, _≤_, _<_}
+use native.Mathlib.Omega.{arith}
+use lib.Seq.{drop-drop, take-all, take-add, take-append-seam, drop-append-seam}
+use lib.ListN.{length, getD, replicate, take, drop, length-append, length-drop}
+use Rattle.text.specs.Bytes.{Bytes}
+use Rattle.text.specs.Lines.{LIMIT}
+use Rattle.breaks.specs.Breaks.{Break}
+use Rattle.breaks.specs.Rules.{breaks}
+use Rattle.breaks.specs.Places.{Lent, lent, putAll, Puts}
+use Rattle.breaks.proofs.Laws.Putting.{put-append, put-count}
+use Rattle.breaks.proofs.Laws.Following.{stands-start}
+use Rattle.breaks.proofs.Laws.Scanning.{scan-start, breaks-left, breaks-bound}
+use Rattle.judging.specs.Parts.{total, beginning, Midway, Parts}
+use Rattle.judging.specs.declared.parts.Stand.{Stand}
+
+-- of the breaks bs, T were put before this part and k in it; those of `rest` are still to come
+pub record Parted (bs : List Break) (T : ℕ) (ys₀ ys : List ℕ) (k : ℕ) (rest : List Break) : Type 0 where
+  pub most : T + k ≤ length bs
+  pub puts : lent ys k ≡ putAll (lent ys₀ 0) (take k (drop T bs))
+  pub left : drop (T + k) bs ≡ rest
+
+pub parted-start : {bs rest : List Break} {T : ℕ} (ys : List ℕ) → T ≤ length bs → drop T bs ≡ rest → Parted bs T ys ys 0 rest
+unfolding putAll
+parted-start {bs} {T = T} ys h e = record { most = omega arith; puts = refl; left = let z : T + 0 ≡ T = omega arith in rw z e }
+
+module _ {bs : List Break} {T : ℕ} {ys₀ ys ys' : List ℕ} {k k' m : ℕ} {rest : List Break} {f : List Break → List Break} (rest' : List Break)
+    (h : Parted bs T ys₀ ys k rest) (p : Puts f m (lent ys k) (lent ys' k')) (e : rest ≡ f [] ++ rest') where
+  put-here : lent ys' k' ≡ putAll (lent ys k) (f [])
+  unfolding putAll
+  put-here = p .does []
+
+  counted : k' ≡ k + length (f [])
+  counted = ap (λ (o : Lent). o .count) put-here ∙ put-count (f []) (lent ys k)
+
+  ahead : drop k (drop T bs) ≡ f [] ++ rest'
+  ahead = drop-drop k T bs ∙ h .left ∙ e
+
+  -- what a call puts comes next
+  pub parted-next : Parted bs T ys₀ ys' k' rest'
+  parted-next = record {
+    most = omega (arith, length-append (f []) rest', length-drop k (drop T bs), length-drop T bs, ap length ahead, counted, h .most);
+    puts = put-here ∙ ap (λ (o : Lent). putAll o (f [])) (h .puts) ∙ sym (put-append (take k (drop T bs)) (f []) (lent ys₀ 0))
+        ∙ ap (putAll (lent ys₀ 0)) (sym (ap (λ (n : ℕ). take n (drop T bs)) counted ∙ take-add k (length (f [])) (drop T bs)
+        ∙ ap (λ (xs : List Break). take k (drop T bs) ++ take (length (f [])) xs) ahead ∙ ap (λ (xs : List Break). take k (drop T bs) ++ xs) (take-append-seam (f []) rest')));
+    left = let z : T + k' ≡ (T + k) + length (f []) = omega (arith, counted) in
+        ap (λ (n : ℕ). drop n bs) z ∙ sym (drop-drop (length (f [])) (T + k) bs) ∙ ap (drop (length (f []))) (h .left ∙ e) ∙ drop-append-seam (f []) rest';
+  }
+
+  -- and where it is the last, all were put
+  pub parted-all : rest' ≡ [] → T + k' ≡ length bs
+  parted-all z = omega (arith, length-drop (T + k') bs, ap length (parted-next .left ∙ z), parted-next .most)
+
+-- a list of one value has it everywhere, also past the end
+pub same-everywhere : {A : Type 0} (n i : ℕ) (a : A) → getD (replicate n a) i a ≡ a
+same-everywhere zero i a = refl
+same-everywhere (suc n) zero a = refl
+same-everywhere (suc n) (suc i) a = same-everywhere n i a
+
+-- before the first line, where no key has come
+pub midway-start : {s : Stand} {file : Bytes} {kinds : List ℕ} {slots : List Bool} → s ≡ beginning → ((i : ℕ) → getD slots i false ≡ false) → Midway file s kinds slots
+midway-start {file = file} {kinds = kinds} {slots = slots} e h = rw e (record { scan = scan-start file (stands-start kinds slots h); most = omega arith; left = breaks-left file })
+
+-- a part with room for more breaks than a file can have is the whole
+pub part-whole : {file : Bytes} {room : ℕ} {s r : Stand} {ys ys' : List ℕ} → s ≡ beginning → Parts file room s r ys ys' → length file ≤ LIMIT → 671088645 < room
+    → lent ys' (r .held) ≡ putAll (lent ys 0) (breaks file)
+part-whole {file} {s = s} {r = r} {ys = ys} b p limit far =
+    p .puts ∙ ap (λ (n : ℕ). putAll (lent ys 0) (take (r .held) (drop n (breaks file)))) none ∙ ap (putAll (lent ys 0)) (take-all (r .held) (breaks file) (all (r .more) refl))
+  where
+    none : total s ≡ 0
+    none = rw b
+
+    all : (t : Bool) → r .more ≡ t → length (breaks file) ≤ r .held
+    all true e = omega (arith, p .full e, p .most, breaks-bound file limit, far)
+    all false e = omega (arith, p .all e, p .before, none)

@@ -1,0 +1,111 @@
+// Judging a file in parts, each of as many breaks as a lent list has room for, or in one.
+use crate::ending::judge_end;
+use crate::lines::judge_line;
+use breaks::state::State;
+use breaks::state::start;
+use text::lines::line_at;
+ghost use mathlib.Core.Path.{_≡_};
+ghost use mathlib.Core.Bool.{true};
+ghost use Prim.Native.Nat.{_≤_};
+ghost use lib.ListN.{length};
+ghost use Rattle.text.specs.Lines.{LIMIT};
+ghost use Rattle.book.specs.Rows.{IsBook};
+ghost use Rattle.book.specs.Ids.{Declared};
+ghost use Rattle.breaks.specs.Machine.{SLOTS};
+ghost use Rattle.judging.specs.Parts.{beginning as first, Midway, Parts};
+
+// Where the judging of a file stands: whether there is more to judge, the place of the next line and how many lines are passed, the breaks of the parts
+// before and of the last one, and the state that stands for the lines passed.
+pub struct Stand {
+    pub more: bool,
+    pub at: usize,
+    pub lines: u32,
+    pub before: u32,
+    pub held: u32,
+    pub state: State,
+}
+
+// Before the first line.
+pub fn beginning() -> Stand
+    ensures { λ r. ⌜ r ≡ first ⌝ }
+{
+    Stand {
+        more: true,
+        at: 0,
+        lines: 0,
+        before: 0,
+        held: 0,
+        state: start(),
+    }
+}
+
+// The next part: judges line after line until `room` breaks are put, and else what is required at the end. The list is written from its first place on; the
+// lists lent besides are what is carried, and room to work in.
+pub fn judge_part(
+    places: &mut [u32],
+    room: u32,
+    book: &[u8],
+    file: &[u8],
+    stand: Stand,
+    flags: &[[bool; 64]; 4],
+    kinds: &mut [u8; 256],
+    slots: &mut [bool],
+    stamps: &mut [u32],
+) -> Stand
+    requires { ⌜ 1 ≤ room ⌝ }
+    requires { ⌜ IsBook (now book) ⌝ }
+    requires { ⌜ length (now file) ≤ LIMIT ⌝ }
+    requires { ⌜ Midway (now file) stand (now kinds) (now slots) ⌝ }
+    requires { ⌜ Declared (now flags) (now file) ⌝ }
+    requires { ⌜ length (now kinds) ≡ 256 ⌝ }
+    requires { ⌜ length (now slots) ≡ SLOTS ⌝ }
+    requires { ⌜ length (now stamps) ≡ 4096 ⌝ }
+    ensures { λ r. ⌜ Parts (now (file .entry)) room stand r (now (places .entry)) (now (places .exit)) ⌝ }
+    ensures { λ r. ⌜ (r .more ≡ true → Midway (now (file .entry)) r (now (kinds .exit)) (now (slots .exit))) ⌝ }
+    ensures { λ r. ⌜ (length (now (kinds .exit)) ≡ 256) × (length (now (slots .exit)) ≡ SLOTS) ⌝ }
+{
+    let before = stand.before + stand.held;
+    let mut state = stand.state;
+    let mut at = stand.at;
+    let mut n = stand.lines;
+    let mut k: u32 = 0;
+    while at < file.len() {
+        if room <= k {
+            return Stand {
+                more: true,
+                at,
+                lines: n,
+                before,
+                held: k,
+                state,
+            };
+        }
+        let line = line_at(file, at);
+        let end = line.end;
+        n += 1;
+        let step = judge_line(
+            places,
+            k,
+            book,
+            &file[at..end],
+            n,
+            state,
+            flags,
+            kinds,
+            slots,
+            stamps,
+        );
+        k = step.count;
+        state = step.state;
+        at = line.next;
+    }
+    let held = judge_end(places, k, n + 1, slots);
+    Stand {
+        more: false,
+        at,
+        lines: n,
+        before,
+        held,
+        state,
+    }
+}
