@@ -110,8 +110,8 @@ isHeaded p = isRow (p .here) && eqb (header (nearest (p .above))) (row (p .here)
 abbrev pub isUnder : Spot → Bool
 isUnder p = isHeaded p && not (isWide (nearest (p .above)))
 
-abbrev pub isEven : Spot → Bool
-isEven p = eqb (width (p .here)) (width (nearest (p .above)))
+abbrev pub isAsWide : Spot → Bool
+isAsWide p = eqb (width (p .here)) (width (nearest (p .above)))
 
 -- the kind of a column's cells: those under an unknown column are text
 abbrev pub kindIn : Found → ℕ
@@ -141,9 +141,9 @@ rules =
     ∷ rule 15 (λ p c. leb 2 c && (isJudged p && columnUndeclared (p .file) (columnFound (header (p .here)) (p .here) c)))
     ∷ rule 16 (λ p c. eqb c 1 && (isJudged p && lacksColumn (header (p .here)) (names (p .here))))
     ∷ rule 17 (λ p c. eqb c 1 && (isRow (p .here) && not (isHeaded p)))
-    ∷ rule 18 (λ p c. eqb c 1 && (isUnder p && not (isEven p)))
-    ∷ rule 19 (λ p c. leb 2 c && ((isUnder p && isEven p) && isEmpty (cell c (p .here))))
-    ∷ rule 20 (λ p c. leb 2 c && ((isUnder p && isEven p) && (not (isEmpty (cell c (p .here))) && not (cellOfKind (columnKind p c) (cell c (p .here))))))
+    ∷ rule 18 (λ p c. eqb c 1 && (isUnder p && not (isAsWide p)))
+    ∷ rule 19 (λ p c. leb 2 c && ((isUnder p && isAsWide p) && isEmpty (cell c (p .here))))
+    ∷ rule 20 (λ p c. leb 2 c && ((isUnder p && isAsWide p) && (not (isEmpty (cell c (p .here))) && not (cellOfKind (columnKind p c) (cell c (p .here))))))
     ∷ []
 
 -- REQUIRED METADATA, at line N + 1: cells 1 to 5 stand for mzTab-version, mzTab-mode, mzTab-type, description, any ms_run[n]-location
