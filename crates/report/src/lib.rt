@@ -9,15 +9,31 @@ fn print_number(n: u32) {
     io::print_decimal(1, n as u64);
 }
 
-// The break that stands at `at`: rule, line and cell, printed as line, cell and rule.
-fn print_break(places: &[u32; 12288], at: usize)
+// A break: its line, cell and rule.
+pub fn print_break(line: u32, cell: u32, rule: u32) {
+    print_number(line);
+    io::write_all(1, b" ");
+    print_number(cell);
+    io::write_all(1, b" ");
+    print_number(rule);
+    io::write_all(1, b"\n");
+}
+
+// The break that stands at `at`: rule, line and cell.
+fn print_places(places: &[u32; 12288], at: usize)
     requires { ⌜ at ≤ 12285 ⌝ }
 {
-    print_number(places[at + 1]);
-    io::write_all(1, b" ");
-    print_number(places[at + 2]);
-    io::write_all(1, b" ");
-    print_number(places[at]);
+    print_break(places[at + 1], places[at + 2], places[at]);
+}
+
+// How many breaks there are: none is OK.
+pub fn print_count(count: u32) {
+    if count == 0 {
+        io::write_all(1, b"OK\n");
+        return;
+    }
+    io::write_all(1, b"FAULTS ");
+    print_number(count);
     io::write_all(1, b"\n");
 }
 
@@ -28,7 +44,7 @@ fn print_breaks(places: &[u32; 12288], count: usize) {
         if k == SHOWN {
             return;
         }
-        print_break(places, 3 * k);
+        print_places(places, 3 * k);
         k += 1;
     }
 }
@@ -38,12 +54,6 @@ pub fn print_judged(file: &[u8]) {
     let mut places = [0u32; 12288];
     let mut number: u32 = 0;
     let count = judge_places(file, &mut places, &mut number);
-    if count == 0 {
-        io::write_all(1, b"OK\n");
-        return;
-    }
-    io::write_all(1, b"FAULTS ");
-    print_number(count);
-    io::write_all(1, b"\n");
+    print_count(count);
     print_breaks(&places, count as usize);
 }

@@ -5,7 +5,6 @@ use Rattle.report.proofs.print_breaks.Statement.{statement}
 use Rattle.report.proofs.print_breaks.Tie as tie
 use Rattle.report.proofs.print_breaks.Reads as reads
 use Rattle.report.proofs.print_breaks.Lts as lts
-use Rattle.report.proofs.print_break.Reads as print-break-reads
 
 abbrev Inv-loop : tie.InvT-loop
 Inv-loop places count k₀ k = (k ≤ 4096) × (k ≤ count)
@@ -22,12 +21,12 @@ returns : tie.Need-returns Inv-loop μ-loop
 returns c = search needs
 
 -- src/lib.rt:31:29
-mul-print-break : tie.Need-mul-print-break Inv-loop μ-loop
-mul-print-break c = search needs
+mul-print-places : tie.Need-mul-print-places Inv-loop μ-loop
+mul-print-places c = search needs
 
 -- src/lib.rt:31:9
-print-break-requires : tie.Need-print-break-requires Inv-loop μ-loop
-print-break-requires c κs = search needs
+print-places-requires : tie.Need-print-places-requires Inv-loop μ-loop
+print-places-requires c κs = search needs
 
 -- src/lib.rt:32:9
 add-k : tie.Need-add-k Inv-loop μ-loop
@@ -53,8 +52,8 @@ print-breaks-spec =
     μ-loop
     loop-holds
     returns
-    mul-print-break
-    print-break-requires
+    mul-print-places
+    print-places-requires
     add-k
     loop-less
     loop-again

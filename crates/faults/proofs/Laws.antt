@@ -1,0 +1,4 @@
+-- Laws over plain lists, with no code in them.
+pub mod Stepping
+pub mod Ending
+pub mod Recording

@@ -1,0 +1,3 @@
+pub mod Records
+pub mod Steps
+pub mod Outcomes

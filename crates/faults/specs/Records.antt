@@ -1,0 +1,30 @@
+-- What the judging call over records gives back: paper 01, 'Calls and what they give back'. Assumes nothing.
+use Prim.Native.Nat.{ℕ}
+use mathlib.Core.Bool.{cond}
+use mathlib.Core.List.{List, map}
+use lib.ListN.{length}
+use lib.Seq.{sets}
+use lib.Dec.{ltb}
+use Rattle.text.specs.Bytes.{Bytes}
+use Rattle.text.specs.Lines.{LIMIT}
+use Rattle.breaks.specs.Breaks.{Break}
+use Rattle.breaks.specs.Rules.{breaks}
+use Rattle.faults.specs.declared.Fault.{Fault}
+
+-- the record of a break
+abbrev pub faultOf : Break → Fault
+faultOf b = record { rule = b .rule; line = b .line; cell = b .cell }
+
+-- the number, the count of all breaks, and the lent list afterwards
+pub record Outcome : Type 0 where
+  pub number : ℕ
+  pub count : ℕ
+  pub faults : List Fault
+
+abbrev pub outcome : ℕ → ℕ → List Fault → Outcome
+outcome n k ys = record { number = n; count = k; faults = ys }
+
+-- a file that is too long is refused, and nothing is written; else all breaks are counted, and those that fit are written, a record each; `sets` past the end of a list
+-- changes nothing
+unfoldable pub judged : Bytes → List Fault → Outcome
+judged file ys = cond (ltb LIMIT (length file)) (outcome 1 0 ys) (outcome 0 (length (breaks file)) (sets ys 0 (map faultOf (breaks file))))

@@ -1,0 +1,62 @@
+// The judging call over a lent list of records.
+pub mod steps;
+
+use steps::begin;
+use steps::next;
+ghost use mathlib.Core.Path.{_≡_};
+ghost use Prim.Native.Nat.{_<_, _≤_, _+_, _*_};
+ghost use lib.ListN.{length};
+ghost use lib.Seq.{sets};
+ghost use Rattle.faults.specs.Records.{outcome, judged};
+ghost use Rattle.faults.specs.Steps.{recordAt, records};
+
+// A break: its rule, and its line and cell in the file.
+#[repr(C)]
+pub struct Fault {
+    pub rule: u32,
+    pub line: u32,
+    pub cell: u32,
+}
+
+// The record whose numbers begin at place j.
+fn record_at(places: &[u32], j: usize) -> Fault
+    requires { ⌜ j + 2 < length (now places) ⌝ }
+    ensures { λ r. ⌜ r ≡ recordAt (now (places .entry)) j ⌝ }
+{
+    Fault {
+        rule: places[j],
+        line: places[j + 1],
+        cell: places[j + 2],
+    }
+}
+
+// n records, from the first of the places to place `at` of the list.
+fn copy_out(places: &[u32], faults: &mut [Fault], at: usize, n: usize)
+    requires { ⌜ (n * 3 ≤ length (now places)) × (at + n ≤ length (now faults)) ⌝ }
+    ensures { λ _. ⌜ now (faults .exit) ≡ sets (now (faults .entry)) at (records (now (places .entry)) 0 n) ⌝ }
+{
+    let mut j = 0;
+    let mut k = at;
+    let end = at + n;
+    while k < end {
+        faults[k] = record_at(places, j);
+        j = j + 3;
+        k = k + 1;
+    }
+}
+
+// All breaks of a file, in order of line, then cell, then rule: their count is the answer, and those that fit are written, a record each. A file over the
+// limit gives number 1 and count 0, and the list stays as it was.
+pub fn judge(file: &[u8], faults: &mut [Fault], number: &mut u32) -> u32
+    ensures { λ r. ⌜ outcome (now (number .exit)) r (now (faults .exit)) ≡ judged (now (file .entry)) (now (faults .entry)) ⌝ }
+{
+    let mut slots = [false; 257725];
+    let mut places = [0u32; 12288];
+    let mut s = begin(file, faults.len());
+    while s.more {
+        s = next(file, s, &mut slots, &mut places);
+        copy_out(&places, faults, s.from, s.fit);
+    }
+    *number = s.number;
+    s.count
+}
