@@ -432,6 +432,37 @@ static void lists(void) {
     group("a long lent list");
 }
 
+/* Whether the first n bytes give the same over places for so many breaks and over as many records: number, count, and every place, marked ones too. */
+static int same_records(size_t n, size_t breaks) {
+    uint32_t *places = malloc(12 * breaks + 12), numbers[2] = {77, 78};
+    struct mztab_fault *faults = malloc(12 * breaks + 12);
+    if (!places || !faults) exit(2);
+    mark(places, 3 * breaks + 3);
+    memcpy(faults, places, 12 * breaks + 12);
+    uint32_t counts[2] = {mztab_judge(file, n, places, 3 * breaks, &numbers[0]), mztab_faults(file, n, faults, breaks, &numbers[1])};
+    int same = counts[0] == counts[1] && numbers[0] == numbers[1] && memcmp(places, faults, 12 * breaks + 12) == 0;
+    free(places);
+    free(faults);
+    return same;
+}
+
+/* The call over records gives what the call over places gives: around its parts of 2,791 to 4,096 breaks, past the last break, and over the limit. */
+static void records(void) {
+    static const size_t lengths[] = {0, 1, 2, 3, 4, 5, 6, 2790, 2791, 2792, 4095, 4096, 4097, 5582, 8192, 524292, 524293, 524294, 600000};
+    check(sizeof(struct mztab_fault) == 12, "records: size", sizeof(struct mztab_fault));
+    memcpy(file, EXAMPLE, sizeof EXAMPLE);
+    for (size_t k = 0; k < 8; k++) check(same_records(sizeof EXAMPLE - 1, k), "records: the example", k);
+    for (size_t k = 0; k < 8; k++) check(same_records(0, k), "records: no bytes", k);
+    x_lines((size_t)1 << 20);
+    for (size_t i = 0; i < COUNT(lengths); i++) check(same_records((size_t)1 << 20, lengths[i]), "records: one-byte lines", lengths[i]);
+    nameless_headers((size_t)1 << 20);
+    for (size_t i = 0; i < COUNT(lengths); i++) check(same_records((size_t)1 << 20, lengths[i]), "records: nameless headers", lengths[i]);
+    ends(LIMIT);
+    file[LIMIT] = 10;
+    for (size_t k = 0; k < 8; k++) check(same_records(LIMIT + 1, k), "records: over the limit", k);
+    group("records as places");
+}
+
 /* A page between two that may not be touched. */
 static uint8_t *page(size_t length) {
     uint8_t *p = mmap(NULL, 3 * length, PROT_NONE, MAP_PRIVATE | MAP_ANONYMOUS, -1, 0);
@@ -637,6 +668,7 @@ static void *hostile(void *unused) {
         check(count == w.count, HOSTILE[i].name, count);
         check(places[0] == w.rule && places[1] == w.line && places[2] == w.cell, HOSTILE[i].name, places[0]);
         check(marked(places + 9, 3), HOSTILE[i].name, 0);
+        check(same_records(LIMIT, 3), HOSTILE[i].name, 3);
     }
     /* the cell calls on the same stack: the last cell of one row */
     tabs(LIMIT);
@@ -674,6 +706,7 @@ int main(void) {
     if (!file) return 2;
     limits();
     lists();
+    records();
     edges();
     views();
     refusals();

@@ -38,6 +38,15 @@ uint32_t mztab_reading(const uint8_t *file, size_t file_length, uint32_t section
  * some 400 KB of stack. */
 uint32_t mztab_judge(const uint8_t *file, size_t file_length, uint32_t *places, size_t places_length, uint32_t *number);
 
+/* A break: its rule, and its line and cell in the file. */
+struct mztab_fault {
+    uint32_t rule, line, cell;
+};
+
+/* The same as mztab_judge over a list of records: the first of all breaks that fit are written to faults, a record each. A record that no break fills is
+ * left as it was. faults is a pointer to faults_length records, not null also where that is 0. The call needs some 500 KB of stack. */
+uint32_t mztab_faults(const uint8_t *file, size_t file_length, struct mztab_fault *faults, size_t faults_length, uint32_t *number);
+
 #ifdef __cplusplus
 }
 #endif

@@ -1,6 +1,8 @@
 // The public calls for hosts in C, Rust and Python: numbers, pointers to them, and byte slices. capi/mztab.h says in words what each does.
 mod values;
 
+use faults::Fault;
+use faults::judge;
 use mztab::cells::locate;
 use mztab::cells::reading;
 use mztab::judged::judge_places;
@@ -12,6 +14,7 @@ ghost use mathlib.Core.Path.{_≡_};
 ghost use Rattle.mztab.specs.Shown.{sought};
 ghost use Rattle.mztab.specs.Judged.{outcome, judged};
 ghost use Rattle.mztab.specs.Readings.{readingOf};
+ghost use Rattle.faults.specs.Records.{outcome as recorded, judged as judgedRecords};
 ghost use Rattle.capi.specs.Answers.{CellAt, ReadAs};
 
 // The judging call over plain places: answers the count of all breaks, and writes those that fit, three places each: rule, line, cell.
@@ -20,6 +23,14 @@ pub extern "C" fn mztab_judge(file: &[u8], places: &mut [u32], number: &mut u32)
     ensures { λ r. ⌜ outcome (now (number .exit)) r (now (places .exit)) ≡ judged (now (file .entry)) (now (places .entry)) ⌝ }
 {
     judge_places(file, places, number)
+}
+
+// The judging call over records: the same, with a record for each break.
+#[no_mangle]
+pub extern "C" fn mztab_faults(file: &[u8], faults: &mut [Fault], number: &mut u32) -> u32
+    ensures { λ r. ⌜ recorded (now (number .exit)) r (now (faults .exit)) ≡ judgedRecords (now (file .entry)) (now (faults .entry)) ⌝ }
+{
+    judge(file, faults, number)
 }
 
 // The plain cell call: answers where the view starts in the file, 0 in a refusal, and writes its length and the number.

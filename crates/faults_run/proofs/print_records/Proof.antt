@@ -1,0 +1,27 @@
+-- `faults_run::print_records` meets its contract. Assumes nothing.
+use Prim.Native.Nat.{ℕ, _-_, _≤_}
+use borrow.Author.Needs.{needs}
+use Rattle.faults_run.proofs.print_records.Statement.{statement}
+use Rattle.faults_run.proofs.print_records.Tie as tie
+
+abbrev Inv-loop : tie.InvT-loop
+Inv-loop count list k₀ k = (k ≤ 4096) × (k ≤ count)
+
+abbrev μ-loop : tie.MeasureT-loop
+μ-loop count list k₀ k = count - k
+
+pub print-records-spec : {M : Type 1} → statement M
+print-records-spec =
+    tie.close
+    (tie.spec
+    Inv-loop
+    μ-loop
+    (λ c. search needs)
+    (λ c. search needs)
+    (λ c. search needs)
+    (λ c. search needs)
+    (λ c κs. search needs)
+    (λ c. search needs)
+    (λ c. search needs)
+    (λ c. search needs)
+    (λ c. search needs))
