@@ -5,4 +5,5 @@ pub mod Known
 pub mod Apart
 pub mod Words
 pub mod Marks
+pub mod Lengths
 pub mod Letters

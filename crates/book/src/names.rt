@@ -3,12 +3,15 @@ use kinds::index::Index;
 use kinds::index::read_index;
 ghost use mathlib.Core.Path.{_≡_};
 ghost use mathlib.Core.List.{[]};
-ghost use lib.ListN.{getD, drop};
+ghost use mathlib.Core.Bool.{true};
+ghost use Prim.Native.Nat.{_≤_};
+ghost use lib.ListN.{length, getD, drop};
 ghost use Rattle.text.specs.Bytes.{begins};
 ghost use Rattle.book.specs.Keys.{isColunit};
 ghost use Rattle.book.specs.Columns.{isOpt};
 ghost use Rattle.book.specs.Names.{pieces, fits as fitsIn, lookupIn, mayFit, SPACE as space};
 ghost use Rattle.book.specs.Rows.{entries};
+ghost use Rattle.book.specs.declared.names.Match.the-variants.{Differs};
 
 // The bytes of a row.
 pub const WIDTH: usize = 54;
@@ -47,7 +50,7 @@ fn ended(s: &[u8], b: usize, i: usize, j: usize) -> Match
 }
 
 // Whether `s` fits the pattern that stands in the row `p` from `from` on.
-pub fn fits(p: &[u8], from: usize, s: &[u8]) -> Match
+fn fits(p: &[u8], from: usize, s: &[u8]) -> Match
     ensures { λ r. ⌜ r ≡ fitsIn (pieces (drop from (now (p .entry)))) (now (s .entry)) 0 0 ⌝ }
 {
     let mut a = from;
@@ -115,6 +118,36 @@ fn may_fit(p: u8, q: u8, x: u8, y: u8) -> bool
     p == SPACE
 }
 
+// Whether the row's pattern is too long for the name: no space stands where the name would end, nor in the two bytes before, and an index has at most a byte more than its `[n]`.
+fn too_long(row: &[u8], name: &[u8]) -> bool
+    requires { ⌜ 54 ≤ length (now row) ⌝ }
+    ensures { λ r. ⌜ (r ≡ true → fitsIn (pieces (drop 3 (now (row .entry)))) (now (name .entry)) 0 0 ≡ Differs) ⌝ }
+{
+    let n = name.len();
+    if WIDTH - NAME <= n {
+        return false;
+    }
+    let end = NAME + n;
+    if row[end] == SPACE {
+        return false;
+    }
+    if row[end - 1] == SPACE {
+        return false;
+    }
+    row[end - 2] != SPACE
+}
+
+// How the name fits the row's pattern. One that is too long is not read, so that many rows that begin like the name cost little.
+fn fits_row(row: &[u8], name: &[u8]) -> Match
+    requires { ⌜ 54 ≤ length (now row) ⌝ }
+    ensures { λ r. ⌜ r ≡ fitsIn (pieces (drop 3 (now (row .entry)))) (now (name .entry)) 0 0 ⌝ }
+{
+    if too_long(row, name) {
+        return Match::Differs;
+    }
+    fits(row, NAME, name)
+}
+
 // What the table says of the name: the first row whose pattern it fits. Rows whose pattern begins with other bytes are passed over at once.
 pub fn lookup(table: &[u8], name: &[u8]) -> Found
     ensures { λ r. ⌜ r ≡ lookupIn (entries (now (table .entry))) (now (name .entry)) ⌝ }
@@ -126,7 +159,7 @@ pub fn lookup(table: &[u8], name: &[u8]) -> Found
     while WIDTH <= table.len() - at {
         let next = at + WIDTH;
         if may_fit(table[at + NAME], table[at + NAME + 1], x, y) {
-            if let Match::Fits(i, j) = fits(&table[at..next], NAME, name) {
+            if let Match::Fits(i, j) = fits_row(&table[at..next], name) {
                 return Found::Known {
                     entry,
                     kind: table[at],

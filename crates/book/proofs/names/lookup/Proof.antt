@@ -52,7 +52,7 @@ returns c =
     let i = m .before .before .before .before .before .before in
     let l = i .before in
     sym (l .loop .inv .2 ∙ from-hit (table l) (name l) (l .loop .at) (l .loop .entry) (whole i) _ _
-    (fitting (table l) (name l) (l .loop .at) _ (m .fits2 .ensures) ∙ k .i .given .1))
+    (fitting (table l) (name l) (l .loop .at) _ (m .fits-row .ensures) ∙ k .i .given .1))
 
 loop-again : tie.Need-loop-again Inv-loop μ-loop
 loop-again c =
