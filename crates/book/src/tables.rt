@@ -49,11 +49,14 @@ fn columns(book: &[u8], section: usize) -> &[u8]
     &book[..0]
 }
 
-// A column of a section. A name that begins `opt_` and has a byte more is text in every section.
+// A column of a section. A name that begins `opt_` and has a byte more is text in every section; an empty one is told without a look at the rows.
 pub fn column(book: &[u8], section: usize, name: &[u8]) -> Found
     requires { ⌜ IsBook (now book) ⌝ }
     ensures { λ r. ⌜ r ≡ columnOf section (now (name .entry)) ⌝ }
 {
+    if name.len() == 0 {
+        return Found::Unknown;
+    }
     if is_opt(name) {
         if name.len() <= 4 {
             return Found::Unknown;
