@@ -1,8 +1,8 @@
 // An index in square brackets, as it stands in keys, columns and references.
 ghost use mathlib.Core.Path.{_≡_};
-ghost use Prim.Native.Nat.{_+_, _≤_, min};
+ghost use Prim.Native.Nat.{_+_, _≤_, _<_};
 ghost use lib.ListN.{length, getD, drop};
-ghost use Rattle.kinds.specs.Index.{digits, number, more, indexAt};
+ghost use Rattle.kinds.specs.Index.{digits, number, indexAt};
 
 // The highest index.
 const MOST: usize = 64;
@@ -13,7 +13,7 @@ pub enum Index {
     Is(usize, usize),
 }
 
-// A run of digits: where it ends, and its number, 65 for all above 64.
+// A run of digits: where it ends, and its number. Where the number is over 64 both are those of the digits that make it so.
 struct Run {
     end: usize,
     n: usize,
@@ -32,19 +32,11 @@ pub fn byte_at(s: &[u8], i: usize) -> usize
     if i < s.len() { wide(s[i]) } else { 0 }
 }
 
-// A number with one digit more, 65 for all above 64.
-fn with_digit(n: usize, d: usize) -> usize
-    requires { ⌜ (n ≤ 65) × ((48 ≤ d) × (d ≤ 57)) ⌝ }
-    ensures { λ r. ⌜ r ≡ min 65 (more n d) ⌝ }
-{
-    let m = n * 10 + (d - 48);
-    if m <= MOST { m } else { MOST + 1 }
-}
-
-// The digits of `s` from its second byte on.
+// The digits of `s` from its second byte on, no further than where their number is over 64: the digits after bring it back no more.
 fn digits_at(s: &[u8]) -> Run
     requires { ⌜ 1 ≤ length (now s) ⌝ }
-    ensures { λ r. ⌜ (r .end ≡ 1 + length (digits (drop 1 (now (s .entry))))) × (r .n ≡ min 65 (number 0 (digits (drop 1 (now (s .entry)))))) ⌝ }
+    ensures { λ r. ⌜ (r .n ≤ 64 → (r .end ≡ 1 + length (digits (drop 1 (now (s .entry))))) × (r .n ≡ number 0 (digits (drop 1 (now (s .entry)))))) ⌝ }
+    ensures { λ r. ⌜ (64 < r .n → 64 < number 0 (digits (drop 1 (now (s .entry))))) ⌝ }
 {
     let mut end = 1;
     let mut n = 0;
@@ -56,7 +48,10 @@ fn digits_at(s: &[u8]) -> Run
         if 57 < d {
             return Run { end, n };
         }
-        n = with_digit(n, d);
+        n = n * 10 + (d - 48);
+        if MOST < n {
+            return Run { end, n };
+        }
         end += 1;
     }
     Run { end, n }
@@ -69,19 +64,19 @@ pub fn read_index(s: &[u8]) -> Index
     if byte_at(s, 0) != 91 {
         return Index::Not;
     }
+    if byte_at(s, 1) == 48 {
+        return Index::Not;
+    }
     let run = digits_at(s);
+    let n = run.n;
+    if MOST < n {
+        return Index::Not;
+    }
     let end = run.end;
     if end <= 1 {
         return Index::Not;
     }
     if byte_at(s, end) != 93 {
-        return Index::Not;
-    }
-    if byte_at(s, 1) == 48 {
-        return Index::Not;
-    }
-    let n = run.n;
-    if MOST < n {
         return Index::Not;
     }
     Index::Is(n, end + 1)

@@ -1,13 +1,13 @@
 -- What the reading of an index says of the text, and the other way round: each index as it is written is read. Assumes nothing.
-use Prim.Native.Nat.{ℕ, zero, suc, _+_, _*_, _-_, _/_, _%_, _≤_, _<_, min}
+use Prim.Native.Nat.{ℕ, zero, suc, _+_, _*_, _-_, _/_, _%_, _≤_, _<_}
 use mathlib.Core.Path.{_≡_, refl, ap, sym, _∙_, subst}
-use mathlib.Core.Bool.{Bool, true, false, cond, not, _&&_}
+use mathlib.Core.Bool.{Bool, true, false, cond, not, _&&_, and-false}
 use mathlib.Core.List.{List, [], _∷_, _++_}
 use native.Mathlib.Omega.{arith}
 use lib.Dec.{eqb, leb, ltb}
 use lib.ListN.{length, getD, drop, drop-of-length-le}
 use lib.Seq.{getD-drop}
-use borrow.Author.Tests.{lt-ltb, le-ltb, le-leb, lt-leb, eq-eqb, ne-eqb, eqb-true, eqb-false, leb-true, leb-false, ltb-true, ltb-false}
+use borrow.Author.Tests.{lt-ltb, le-ltb, le-leb, lt-leb, eq-eqb, ne-eqb, eqb-true, eqb-false, leb-true, ltb-true, ltb-false}
 use Rattle.text.proofs.Laws.Pieces.{drop-step}
 use Rattle.text.proofs.Laws.Tests.{and-both}
 use Rattle.kinds.specs.Index.{written, isDigit, digits, more, number, bracketed, beginsZero, indexAt}
@@ -71,29 +71,15 @@ pub number-nil : (n : ℕ) → number n [] ≡ n
 unfolding number
 number-nil n = refl
 
-number-least : (n m : ℕ) (ds : List ℕ) → m ≤ n → m ≤ number n ds
+-- digits that follow bring a number back no more
+pub number-least : (n m : ℕ) (ds : List ℕ) → m ≤ n → m ≤ number n ds
 unfolding number
 number-least n m [] h = h
 number-least n m (d ∷ ds) h = number-least (more n d) m ds (omega arith)
 
--- above 64 the digits that follow bring nothing back
-number-full : (n : ℕ) (ds : List ℕ) → 65 ≤ n → min 65 (number n ds) ≡ 65
-number-full n ds h = omega (arith, number-least n 65 ds h)
-
-number-capped : (n : ℕ) (ds : List ℕ) → min 65 (number n ds) ≡ min 65 (number (min 65 n) ds)
-number-capped n ds = go (leb 65 n) refl
-  where
-    go : (b : Bool) → leb 65 n ≡ b → min 65 (number n ds) ≡ min 65 (number (min 65 n) ds)
-    go true e =
-        let k : 65 ≤ n = leb-true 65 n e in
-        number-full n ds k ∙ sym (number-full (min 65 n) ds (omega arith))
-    go false e =
-        let k : min 65 n ≡ n = omega (arith, leb-false 65 n e) in
-        rw k
-
-pub number-more : (n d : ℕ) (ds : List ℕ) → min 65 (number n (d ∷ ds)) ≡ min 65 (number (min 65 (more n d)) ds)
+pub number-more : (n d : ℕ) (ds : List ℕ) → number n (d ∷ ds) ≡ number (more n d) ds
 unfolding number
-number-more n d ds = number-capped (more n d) ds
+number-more n d ds = refl
 
 -- a run of digits is the front of its text
 uncons-by : (b : Bool) (x d : ℕ) (r ds : List ℕ) → isDigit x ≡ b → cond b (x ∷ digits r) [] ≡ d ∷ ds
@@ -185,6 +171,14 @@ module _ (s : List ℕ) where
   unfolding indexAt bracketed
   index-unopened h = rw (ne-eqb (getD s 0 0) 91 h)
 
+  pub index-zero : getD s 1 0 ≡ 48 → indexAt s ≡ Not
+  unfolding indexAt
+  index-zero h = rw (eq-eqb (getD s 1 0) 48 h, and-false (bracketed s))
+
+  pub index-over : 64 < number 0 (digits (drop 1 s)) → indexAt s ≡ Not
+  unfolding indexAt
+  index-over h = rw (lt-leb (number 0 (digits (drop 1 s))) 64 h, and-false (bracketed s && not (beginsZero s)))
+
   module _ (opens : getD s 0 0 ≡ 91) (e : ℕ) (ends : e ≡ 1 + length (digits (drop 1 s))) where
     pub index-undigited : e ≤ 1 → indexAt s ≡ Not
     unfolding indexAt bracketed
@@ -195,25 +189,13 @@ module _ (s : List ℕ) where
       unfolding indexAt bracketed
       index-unclosed h = rw (← ends, eq-eqb (getD s 0 0) 91 opens, lt-ltb 1 e some, ne-eqb (getD s e 0) 93 h)
 
-      module _ (closes : getD s e 0 ≡ 93) where
-        brackets : bracketed s ≡ true
-        unfolding bracketed
-        brackets = rw (← ends, eq-eqb (getD s 0 0) 91 opens, lt-ltb 1 e some, eq-eqb (getD s e 0) 93 closes)
+      brackets : getD s e 0 ≡ 93 → bracketed s ≡ true
+      unfolding bracketed
+      brackets closes = rw (← ends, eq-eqb (getD s 0 0) 91 opens, lt-ltb 1 e some, eq-eqb (getD s e 0) 93 closes)
 
-        pub index-zero : getD s 1 0 ≡ 48 → indexAt s ≡ Not
-        unfolding indexAt
-        index-zero h = rw (brackets, eq-eqb (getD s 1 0) 48 h)
-
-        module _ (first : getD s 1 0 ≡ 48 → ⊥) (n : ℕ) (is : n ≡ min 65 (number 0 (digits (drop 1 s)))) where
-          pub index-over : 64 < n → indexAt s ≡ Not
-          unfolding indexAt
-          index-over h = rw (brackets, ne-eqb (getD s 1 0) 48 first, lt-leb (number 0 (digits (drop 1 s))) 64 (omega arith))
-
-          pub index-is : n ≤ 64 → indexAt s ≡ Is n (e + 1)
-          unfolding indexAt
-          index-is h =
-              let same : number 0 (digits (drop 1 s)) ≡ n = omega arith in
-              rw (brackets, ne-eqb (getD s 1 0) 48 first, same, ← ends, le-leb n 64 h)
+      pub index-is : getD s e 0 ≡ 93 → (getD s 1 0 ≡ 48 → ⊥) → (n : ℕ) → n ≡ number 0 (digits (drop 1 s)) → n ≤ 64 → indexAt s ≡ Is n (e + 1)
+      unfolding indexAt
+      index-is closes first n is h = rw (brackets closes, ne-eqb (getD s 1 0) 48 first, ← is, ← ends, le-leb n 64 h)
 
 -- WHAT IS READ is an index as it is written
 pub index-read : (s : List ℕ) (v w : ℕ) → indexAt s ≡ Is v w → Read s v w
@@ -252,15 +234,15 @@ index-written v r lo hi = go (ltb v 10) refl
   where
     -- by the text, its digits, and the number that they write
     from : (s ds : List ℕ) (e : ℕ) → getD s 0 0 ≡ 91 → digits (drop 1 s) ≡ ds → e ≡ 1 + length ds → 1 < e → getD s e 0 ≡ 93
-        → (getD s 1 0 ≡ 48 → ⊥) → v ≡ min 65 (number 0 ds) → indexAt s ≡ Is v (e + 1)
+        → (getD s 1 0 ≡ 48 → ⊥) → v ≡ number 0 ds → indexAt s ≡ Is v (e + 1)
     from s ds e h0 d he some he' first is =
         index-is s h0 e (he ∙ ap (λ (l : List ℕ). 1 + length l) (sym d)) some he' first v
-        (is ∙ ap (λ (l : List ℕ). min 65 (number 0 l)) (sym d)) hi
+        (is ∙ ap (number 0) (sym d)) hi
 
-    one-digit : v ≡ min 65 (number 0 ((48 + v) ∷ []))
+    one-digit : v ≡ number 0 ((48 + v) ∷ [])
     one-digit = omega arith
 
-    two-digits : v ≡ min 65 (number 0 ((48 + v / 10) ∷ (48 + v % 10) ∷ []))
+    two-digits : v ≡ number 0 ((48 + v / 10) ∷ (48 + v % 10) ∷ [])
     two-digits = omega arith
 
     go : (b : Bool) → ltb v 10 ≡ b → indexAt (written v ++ r) ≡ Is v (length (written v))
