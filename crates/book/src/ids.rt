@@ -1,10 +1,10 @@
 // The ids that a file declares.
 use crate::names::Found;
-use crate::names::begins_with;
 use crate::tables::key;
 use kinds::index::Index;
 use kinds::index::read_index;
 use text::Part;
+use text::bytes::begins_with;
 use text::cells::count_cells;
 use text::cells::has_code;
 use text::cells::nth_cell;

@@ -1,12 +1,12 @@
 // A name looked up in a table of rows.
 use kinds::index::Index;
 use kinds::index::read_index;
+use text::bytes::begins_with;
 ghost use mathlib.Core.Path.{_≡_};
 ghost use mathlib.Core.List.{[]};
 ghost use mathlib.Core.Bool.{true};
 ghost use Prim.Native.Nat.{_≤_};
 ghost use lib.ListN.{length, getD, drop};
-ghost use Rattle.text.specs.Bytes.{begins};
 ghost use Rattle.book.specs.Keys.{isColunit};
 ghost use Rattle.book.specs.Columns.{isOpt};
 ghost use Rattle.book.specs.Names.{pieces, fits as fitsIn, lookupIn, mayFit, SPACE as space};
@@ -173,23 +173,6 @@ pub fn lookup(table: &[u8], name: &[u8]) -> Found
         entry += 1;
     }
     Found::Unknown
-}
-
-// Whether the name begins with the word.
-pub fn begins_with(word: &[u8], name: &[u8]) -> bool
-    ensures { λ r. ⌜ r ≡ begins (now (word .entry)) (now (name .entry)) ⌝ }
-{
-    let mut a = 0;
-    while a < word.len() {
-        if name.len() <= a {
-            return false;
-        }
-        if word[a] != name[a] {
-            return false;
-        }
-        a += 1;
-    }
-    true
 }
 
 // Whether the name begins `opt_`.

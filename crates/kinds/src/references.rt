@@ -3,14 +3,13 @@ use crate::index::Index;
 use crate::index::read_index;
 use crate::parameters::COMMA;
 use crate::parameters::SPACE;
-use text::bytes::same_bytes;
+use text::bytes::begins_with;
 use text::bytes::seek;
 ghost use mathlib.Core.Path.{_≡_};
 ghost use mathlib.Core.Bool.{true, cond, _&&_};
 ghost use Prim.Native.Nat.{_-_, _≤_};
 ghost use lib.ListN.{length, drop, set};
 ghost use lib.Dec.{eqb};
-ghost use Rattle.text.specs.Bytes.{begins};
 ghost use Rattle.kinds.specs.References.{refTo, trimmed, isIndex, Tells};
 
 // How many indices a family has.
@@ -22,22 +21,11 @@ pub struct Named {
     pub named: [bool; INDICES],
 }
 
-// Whether s begins with the word.
-fn begins_with(s: &[u8], word: &[u8]) -> bool
-    ensures { λ r. ⌜ r ≡ begins (now (word .entry)) (now (s .entry)) ⌝ }
-{
-    let n = word.len();
-    if s.len() < n {
-        return false;
-    }
-    same_bytes(word, &s[..n])
-}
-
 // The index that s refers to, where s is the word and then an index; 0 where it is not.
 pub fn reference(word: &[u8], s: &[u8]) -> usize
     ensures { λ r. ⌜ r ≡ refTo (now (word .entry)) (now (s .entry)) ⌝ }
 {
-    if !begins_with(s, word) {
+    if !begins_with(word, s) {
         return 0;
     }
     let n = word.len();

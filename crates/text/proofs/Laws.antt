@@ -6,4 +6,5 @@ pub mod Starts
 pub mod Pieces
 pub mod Lines
 pub mod Same
+pub mod Begins
 pub mod Control

@@ -1,14 +1,14 @@
--- Words at the front of a name, by positions; the ids that a name begins with. Assumes nothing.
-use Prim.Native.Nat.{ℕ, zero, suc, _+_, _-_, _≤_, _<_}
+-- Words at the front of a name; the ids that a name begins with. Assumes nothing.
+use Prim.Native.Nat.{ℕ, zero, suc, _+_, _≤_, _<_}
 use mathlib.Core.Path.{_≡_, refl, ap, sym, _∙_, subst}
 use mathlib.Core.Bool.{Bool, true, false, cond, not, _&&_, _||_}
 use mathlib.Core.List.{List, [], _∷_, _++_, map}
 use native.Mathlib.Omega.{arith}
 use lib.Dec.{eqb}
-use lib.ListN.{length, getD, drop, drop-of-length-le}
+use lib.ListN.{length, getD, drop}
 use borrow.Author.Tests.{eq-eqb, ne-eqb, eqb-true, eqb-false, lt-ltb, le-ltb}
 use Rattle.text.specs.Bytes.{bytes, begins}
-use Rattle.text.proofs.Laws.Pieces.{drop-step}
+use Rattle.text.proofs.Laws.Begins.{begins-is, begins-self}
 use Rattle.kinds.specs.Index.{indexAt, written}
 use Rattle.kinds.specs.declared.index.Index.{Index}
 use Rattle.kinds.specs.declared.index.Index.the-variants.{Not, Is}
@@ -22,32 +22,7 @@ use Rattle.book.specs.declared.ids.Id.{Id}
 use Rattle.book.specs.declared.ids.Id.the-variants.{Nothing, Of}
 use Rattle.text.proofs.Laws.Tests.{absurd-bool, and-both}
 
--- ONE BYTE of the word after the other
-module _ (w s : List ℕ) (a : ℕ) where
-  pub begins-more : a < length w → a < length s → getD w a 0 ≡ getD s a 0 → begins (drop a w) (drop a s) ≡ begins (drop (a + 1) w) (drop (a + 1) s)
-  unfolding begins
-  begins-more hw hs e = rw (drop-step w a hw, drop-step s a hs, eq-eqb (getD w a 0) (getD s a 0) e)
-
-  pub begins-other : a < length w → a < length s → (getD w a 0 ≡ getD s a 0 → ⊥) → begins (drop a w) (drop a s) ≡ false
-  unfolding begins
-  begins-other hw hs e = rw (drop-step w a hw, drop-step s a hs, ne-eqb (getD w a 0) (getD s a 0) e)
-
-  pub begins-short : a < length w → length s ≤ a → begins (drop a w) (drop a s) ≡ false
-  unfolding begins
-  begins-short hw hs = rw (drop-step w a hw, drop-of-length-le s hs)
-
-  pub begins-end : length w ≤ a → begins (drop a w) (drop a s) ≡ true
-  unfolding begins
-  begins-end hw = rw (drop-of-length-le w hw)
-
 -- WORDS
--- a word at the front lies within the name
-pub begins-within : (w s : List ℕ) → begins w s ≡ true → length w ≤ length s
-unfolding begins
-begins-within [] s h = omega arith
-begins-within (x ∷ w) [] h = absurd-bool h
-begins-within (x ∷ w) (y ∷ s) h = omega (arith, begins-within w s (and-both (eqb x y) (begins w s) h .1))
-
 -- two words, one after the other
 pub begins-append : (w x s : List ℕ) → begins (w ++ x) s ≡ (begins w s && begins x (drop (length w) s))
 unfolding begins
@@ -59,22 +34,6 @@ begins-append (y ∷ w) x (z ∷ s) = go (eqb y z) (begins-append w x s)
         → (t && begins (w ++ x) s) ≡ ((t && begins w s) && begins x (drop (length w) s))
     go true e = e
     go false e = refl
-
-pub begins-self : (w r : List ℕ) → begins w (w ++ r) ≡ true
-unfolding begins
-begins-self [] r = refl
-begins-self (x ∷ w) r = rw (eq-eqb x x refl) (begins-self w r)
-
--- what begins with a word is the word and more
-pub begins-is : (w s : List ℕ) → begins w s ≡ true → s ≡ w ++ drop (length w) s
-unfolding begins
-begins-is [] s h = refl
-begins-is (x ∷ w) [] h = absurd-bool h
-begins-is (x ∷ w) (y ∷ s) h =
-    let q = and-both (eqb x y) (begins w s) h in
-    let e = eqb-true x y (q .0) in
-    let r = begins-is w s (q .1) in
-    cc
 
 -- two words that part somewhere do not both stand at the front
 unfoldable pub parted : List ℕ → List ℕ → Bool

@@ -3,46 +3,22 @@ use Prim.Native.Nat.{ℕ, _+_, _-_, _≤_, _<_}
 use mathlib.Core.Path.{_≡_, refl, ap, sym, _∙_}
 use mathlib.Core.Bool.{Bool, true, false, cond, _&&_, _||_, and-assoc, and-true, or-false, or-true, or-assoc}
 use mathlib.Core.List.{List, [], _∷_, _++_, map, append-nil}
-use native.Mathlib.Nat.{not-suc-le-zero}
 use native.Mathlib.Omega.{arith}
 use borrow.Author.Tests.{eq-eqb, ne-eqb, eqb-true, eqb-false}
 use lib.Dec.{eqb}
 use lib.ListN.{length, take, drop, getD, set, replicate, length-set, drop-of-length-le, getD-replicate}
 use lib.Seq.{drop-append-seam, getD-set-same, getD-set-other}
-use Rattle.text.specs.Bytes.{same, begins, any, all, onFirst, splitOn}
+use Rattle.text.specs.Bytes.{begins, any, all, onFirst, splitOn}
 use Rattle.text.specs.Places.{part, Ends}
+use Rattle.text.proofs.Laws.Begins.{begins-is, begins-self}
 use Rattle.text.proofs.Laws.Pieces.{drop-step, piece-cut, piece-last}
 use Rattle.kinds.specs.Index.{written, indexAt}
 use Rattle.kinds.specs.Parameters.{isSpace}
 use Rattle.kinds.specs.References.{alone, refTo, trimmed, spaced, refsTo, isIndex, isReferences, names, Tells}
 use Rattle.kinds.specs.declared.index.Index.{Index}
 use Rattle.kinds.specs.declared.index.Index.the-variants.{Not, Is}
-use Rattle.kinds.proofs.Laws.Each.{and-left, and-right, to-end, split-some}
+use Rattle.kinds.proofs.Laws.Each.{to-end, split-some}
 use Rattle.kinds.proofs.Laws.Indices.{index-read, index-written}
-
--- A WORD IN FRONT
-
-pub begins-short : (w b : List ℕ) → length b < length w → begins w b ≡ false
-unfolding begins
-begins-short [] b h = absurd (not-suc-le-zero h)
-begins-short (p ∷ w) [] h = refl
-begins-short (p ∷ w) (x ∷ b) h = rw (begins-short w b (omega arith)) (and-no (eqb p x))
-  where
-    and-no : (t : Bool) → (t && false) ≡ false
-    and-no true = refl
-    and-no false = refl
-
-pub begins-is : (w b : List ℕ) → length w ≤ length b → same w (take (length w) b) ≡ begins w b
-unfolding begins same
-begins-is [] b h = refl
-begins-is (p ∷ w) [] h = absurd (not-suc-le-zero h)
-begins-is (p ∷ w) (x ∷ b) h = rw (begins-is w b (omega arith))
-
-pub begins-fits : (w b : List ℕ) → begins w b ≡ true → length w ≤ length b
-unfolding begins
-begins-fits [] b e = omega arith
-begins-fits (p ∷ w) [] e = absurd (let z : _≡_ {A = ℕ} 0 1 = cc in omega arith)
-begins-fits (p ∷ w) (x ∷ b) e = omega (arith, begins-fits w b (and-right (eqb p x) (begins w b) e))
 
 -- ONE REFERENCE
 
@@ -83,20 +59,6 @@ ref-le w b = go (begins w b)
 
 -- A REFERENCE IS THE WORD AND THE INDEX AS IT IS WRITTEN, and the other way round
 
-begins-split : (w b : List ℕ) → begins w b ≡ true → b ≡ w ++ drop (length w) b
-unfolding begins
-begins-split [] b e = refl
-begins-split (p ∷ w) [] e = absurd (let z : _≡_ {A = ℕ} 0 1 = cc in omega arith)
-begins-split (p ∷ w) (x ∷ b) e =
-    let d : p ≡ x = eqb-true p x (and-left (eqb p x) (begins w b) e) in
-    let t = begins-split w b (and-right (eqb p x) (begins w b) e) in
-    cc
-
-begins-append : (w r : List ℕ) → begins w (w ++ r) ≡ true
-unfolding begins
-begins-append [] r = refl
-begins-append (p ∷ w) r = rw (eq-eqb p p refl, begins-append w r)
-
 alone-read : (r : List ℕ) (i : ℕ) (o : Index) → indexAt r ≡ o → alone o (length r) ≡ i → 1 ≤ i → r ≡ written i
 alone-read r i Not e a h = absurd (omega arith)
 alone-read r i (Is v u) e a h = go (eqb u (length r)) refl a
@@ -115,14 +77,14 @@ ref-read w b i e h = go (begins w b) refl e
     rest = drop (length w) b
 
     go : (t : Bool) → begins w b ≡ t → cond t (alone (indexAt rest) (length rest)) 0 ≡ i → b ≡ w ++ written i
-    go true q z = begins-split w b q ∙ ap (λ (x : List ℕ). w ++ x) (alone-read rest i (indexAt rest) refl z h)
+    go true q z = begins-is w b q ∙ ap (λ (x : List ℕ). w ++ x) (alone-read rest i (indexAt rest) refl z h)
     go false q z = absurd (omega arith)
 
 pub ref-written : (w : List ℕ) (i : ℕ) → 1 ≤ i → i ≤ 64 → refTo w (w ++ written i) ≡ i
 unfolding refTo
 ref-written w i lo hi =
     let n : indexAt (written i) ≡ Is i (length (written i)) = ap indexAt (sym (append-nil (written i))) ∙ index-written i [] lo hi in
-    rw (begins-append w (written i), drop-append-seam w (written i), n, eq-eqb (length (written i)) (length (written i)) refl)
+    rw (begins-self w (written i), drop-append-seam w (written i), n, eq-eqb (length (written i)) (length (written i)) refl)
 
 -- SPACES IN FRONT
 

@@ -8,7 +8,8 @@ use lib.ListN.{length, drop, take, length-drop}
 use lib.Seq.{take-all}
 use Rattle.kinds.specs.Index.{indexAt}
 use Rattle.book.specs.Ids.{valueOf, indexAfter}
-use Rattle.book.proofs.Laws.Words.{begins-within, after-none, after-some}
+use Rattle.text.proofs.Laws.Begins.{begins-within}
+use Rattle.book.proofs.Laws.Words.{after-none, after-some}
 use Rattle.book.proofs.ids.index_after.Statement.{statement}
 use Rattle.book.proofs.ids.index_after.Tie as tie
 

@@ -1,7 +1,8 @@
 -- `kinds::references::reference` meets its contract. Assumes nothing.
 use mathlib.Core.Path.{sym, _∙_}
 use borrow.Author.Tests.{not-true, not-false}
-use Rattle.kinds.proofs.Laws.Names.{begins-fits, ref-none, ref-not, ref-is, ref-more}
+use Rattle.text.proofs.Laws.Begins.{begins-within}
+use Rattle.kinds.proofs.Laws.Names.{ref-none, ref-not, ref-is, ref-more}
 use borrow.Author.Needs.{needs}
 use Rattle.kinds.proofs.references.reference.Statement.{statement}
 use Rattle.kinds.proofs.references.reference.Tie as tie
@@ -14,13 +15,13 @@ returns c =
 sub-rest : tie.Need-sub-rest
 sub-rest c =
     let a = c .before .before .before .before .args in
-    let h = begins-fits (a .word .now) (a .s .now) (sym (c .before .begins-with .ensures) ∙ not-false _ (c .if1 .left)) in
+    let h = begins-within (a .word .now) (a .s .now) (sym (c .before .begins-with .ensures) ∙ not-false _ (c .if1 .left)) in
     search needs
 
 part-rest-start : tie.Need-part-rest-start
 part-rest-start c =
     let a = c .before .before .before .before .args in
-    let h = begins-fits (a .word .now) (a .s .now) (sym (c .before .begins-with .ensures) ∙ not-false _ (c .if1 .left)) in
+    let h = begins-within (a .word .now) (a .s .now) (sym (c .before .begins-with .ensures) ∙ not-false _ (c .if1 .left)) in
     search needs
 
 returns-2 : tie.Need-returns-2
