@@ -111,6 +111,8 @@ static struct want x_lines(size_t n) { begin(n); return every("x\n", 1, 2, 1); }
 static struct want control_lines(size_t n) { begin(n); return every("\001\n", 2, 1, 1); }
 static struct want mtd_lines(size_t n) { begin(n); return every("MTD\tx\ty\n", 1, 5, 2); }
 static struct want unknown_keys(size_t n) { begin(n); return every("MTD\tsample[9]-\ta\n", 1, 5, 2); }
+static struct want nearly_keys(size_t n) { begin(n); return every("MTD\tsample[64]-descriptioz\ta\n", 1, 5, 2); }
+static struct want no_keys(size_t n) { begin(n); return every("MTD\t\ta\n", 1, 5, 2); }
 static struct want prt_lines(size_t n) { begin(n); return every("PRT\n", 1, 17, 1); }
 
 static struct want com_lines(size_t n) {
@@ -253,6 +255,8 @@ static const struct hostile {
     {"marks in a parameter, odd", open_marks},
     {"one key repeated", same_key},
     {"unknown keys", unknown_keys},
+    {"nearly known keys", nearly_keys},
+    {"empty keys", no_keys},
     {"key with a long index", long_index},
     {"MTD x y lines", mtd_lines},
     {"reference list", references},
