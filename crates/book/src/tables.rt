@@ -18,6 +18,9 @@ const PSM: usize = 6642;
 
 const MOLECULE: usize = 7938;
 
+// The bytes of the shortest columns.
+const SHORTEST: usize = 3;
+
 // The entry number of an `opt_` column.
 const OPT: usize = 255;
 
@@ -49,12 +52,12 @@ fn columns(book: &[u8], section: usize) -> &[u8]
     &book[..0]
 }
 
-// A column of a section. A name that begins `opt_` and has a byte more is text in every section; an empty one is told without a look at the rows.
+// A column of a section. A name that begins `opt_` and has a byte more is text in every section; no column has fewer than three bytes, so that many short names cost little.
 pub fn column(book: &[u8], section: usize, name: &[u8]) -> Found
     requires { ⌜ IsBook (now book) ⌝ }
     ensures { λ r. ⌜ r ≡ columnOf section (now (name .entry)) ⌝ }
 {
-    if name.len() == 0 {
+    if name.len() < SHORTEST {
         return Found::Unknown;
     }
     if is_opt(name) {

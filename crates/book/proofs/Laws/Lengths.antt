@@ -2,19 +2,25 @@
 use Prim.Native.Nat.{ℕ, zero, suc, _+_, _-_, _≤_, _<_}
 use mathlib.Core.Path.{_≡_, refl, ap, sym, _∙_}
 use mathlib.Core.Bool.{Bool, true, false, cond}
-use mathlib.Core.List.{List, [], _∷_}
+use mathlib.Core.List.{List, [], _∷_, map}
 use native.Mathlib.Omega.{arith}
-use lib.Dec.{eqb, ltb}
+use lib.Dec.{eqb, leb, ltb}
 use lib.ListN.{length, getD, drop, length-drop}
 use lib.Seq.{getD-drop}
-use borrow.Author.Tests.{eqb-true, eqb-false, ltb-true, ltb-false}
+use borrow.Author.Tests.{eqb-true, eqb-false, leb-true, ltb-true, ltb-false}
+use Rattle.text.specs.Bytes.{bytes, all}
+use Rattle.text.proofs.Laws.Begins.{begins-short}
+use Rattle.text.proofs.Laws.Tests.{and-both}
 use Rattle.kinds.specs.Index.{written, indexAt}
 use Rattle.kinds.specs.declared.index.Index.{Index}
 use Rattle.kinds.specs.declared.index.Index.the-variants.{Not, Is}
 use Rattle.kinds.proofs.Laws.Indices.{Read, index-read, written-one, written-two}
-use Rattle.book.specs.Names.{Piece, byte, place, pieces, piecesFrom, onIndex, fits}
+use Rattle.book.specs.Names.{Piece, byte, place, pieces, piecesFrom, Entry, formOf, entryOf, onIndex, fits, firstOf}
+use Rattle.book.specs.Columns.{proteinColumns, peptideColumns, psmColumns, moleculeColumns, columns, columnEntries, isOpt, columnOf}
 use Rattle.book.specs.declared.names.Match.{Match}
 use Rattle.book.specs.declared.names.Match.the-variants.{Differs, Fits}
+use Rattle.book.specs.declared.names.Found.the-variants.{Unknown}
+use Rattle.book.proofs.Laws.Words.{column-table}
 
 -- the bytes of a pattern's text: three for a place, which is written `[n]`
 textOf : List Piece → ℕ
@@ -100,6 +106,41 @@ fits-near (place ∷ ps) s i j a b h = go (indexAt s) (eqb i 0) (eqb j 0) refl r
     go (Is v w) true u e et eu h rest = index-near s v w (textOf ps) (room i) (room j) (room-one i (eqb-true i 0 et)) (index-read s v w e) (rest w v j h)
     go (Is v w) false true e et eu h rest = swap (room j) (room i) (index-near s v w (textOf ps) (room j) (room i) (room-one j (eqb-true j 0 eu)) (index-read s v w e) (swap (room i) (room v) (rest w i v h)))
     go (Is v w) false false e et eu h rest = differs h
+
+-- A NAME shorter than the text
+short-text : (ps : List Piece) (name : List ℕ) → length name < textOf ps → fits ps name 0 0 ≡ Differs
+short-text ps name h = go (fits ps name 0 0) refl
+  where
+    go : (x : Match) → fits ps name 0 0 ≡ x → x ≡ Differs
+    go Differs f = refl
+    go (Fits a b) f = absurd (omega (arith, fits-near ps name 0 0 a b f .low, h))
+
+-- no column's name has fewer than three bytes
+isLong : Entry → Bool
+isLong x = leb 3 (textOf (formOf x))
+
+first-short : (e : ℕ) (xs : List Entry) (name : List ℕ) → all isLong xs ≡ true → length name < 3 → firstOf e xs name ≡ Unknown
+unfolding firstOf all isLong
+first-short e [] name h l = refl
+first-short e (x ∷ xs) name h l =
+    let q = and-both (isLong x) (all isLong xs) h in
+    rw (short-text (formOf x) name (omega (arith, leb-true 3 (textOf (formOf x)) (q .0)))) (first-short (e + 1) xs name (q .1) l)
+
+columns-long : (s : ℕ) → all isLong (columnEntries s) ≡ true
+unfolding isLong textOf all bytes columns columnEntries proteinColumns peptideColumns psmColumns moleculeColumns entryOf piecesFrom
+columns-long s = go (eqb s 1) (eqb s 2) (eqb s 3) (eqb s 4)
+  where
+    go : (t u v w : Bool) → all isLong (map entryOf (map bytes (cond t proteinColumns (cond u peptideColumns (cond v psmColumns (cond w moleculeColumns [])))))) ≡ true
+    go true u v w = refl
+    go false true v w = refl
+    go false false true w = refl
+    go false false false true = refl
+    go false false false false = refl
+
+pub column-short : (section : ℕ) (name : List ℕ) → length name < 3 → columnOf section name ≡ Unknown
+unfolding isOpt bytes
+column-short section name h =
+    column-table section name (begins-short (bytes "opt_") name (omega arith)) ∙ first-short 0 (columnEntries section) name (columns-long section) h
 
 -- A ROW that has no space where the text could end for the name
 within : (l : List ℕ) (i : ℕ) → i < length l → getD l i 0 ≡ getD l i 32

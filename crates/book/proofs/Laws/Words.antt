@@ -1,7 +1,7 @@
 -- Words at the front of a name; the ids that a name begins with. Assumes nothing.
 use Prim.Native.Nat.{ℕ, zero, suc, _+_, _≤_, _<_}
 use mathlib.Core.Path.{_≡_, refl, ap, sym, _∙_, subst}
-use mathlib.Core.Bool.{Bool, true, false, cond, not, _&&_, _||_}
+use mathlib.Core.Bool.{Bool, true, false, not, _&&_, _||_}
 use mathlib.Core.List.{List, [], _∷_, _++_, map}
 use native.Mathlib.Omega.{arith}
 use lib.Dec.{eqb}
@@ -14,8 +14,8 @@ use Rattle.kinds.specs.declared.index.Index.{Index}
 use Rattle.kinds.specs.declared.index.Index.the-variants.{Not, Is}
 use Rattle.kinds.specs.References.{families, family}
 use Rattle.kinds.proofs.Laws.Indices.{index-read, index-written}
-use Rattle.book.specs.Names.{entryOf, piecesFrom, fits, firstOf, lookupIn}
-use Rattle.book.specs.Columns.{proteinColumns, peptideColumns, psmColumns, moleculeColumns, columns, columnEntries, isOpt, optOf, columnOf}
+use Rattle.book.specs.Names.{lookupIn}
+use Rattle.book.specs.Columns.{isOpt, optOf, columnOf, columnEntries}
 use Rattle.book.specs.Ids.{valueOf, indexAfter, idIn, idOf}
 use Rattle.book.specs.declared.names.Found.the-variants.{Unknown, Known}
 use Rattle.book.specs.declared.ids.Id.{Id}
@@ -65,19 +65,6 @@ module _ (section : ℕ) (name : List ℕ) where
   pub column-opt : isOpt name ≡ true → 4 < length name → columnOf section name ≡ Known 255 84 45 0 0
   unfolding columnOf optOf
   column-opt h l = rw (h, lt-ltb 4 (length name) l)
-
--- no column has an empty name
-pub column-empty : (section : ℕ) (name : List ℕ) → length name ≡ 0 → columnOf section name ≡ Unknown
-unfolding columnOf isOpt begins bytes columns columnEntries proteinColumns peptideColumns psmColumns moleculeColumns entryOf piecesFrom fits firstOf
-column-empty section [] h = go (eqb section 1) (eqb section 2) (eqb section 3) (eqb section 4)
-  where
-    go : (t u v w : Bool) → lookupIn (map entryOf (map bytes (cond t proteinColumns (cond u peptideColumns (cond v psmColumns (cond w moleculeColumns [])))))) [] ≡ Unknown
-    go true u v w = refl
-    go false true v w = refl
-    go false false true w = refl
-    go false false false true = refl
-    go false false false false = refl
-column-empty section (x ∷ name) h = absurd (omega arith)
 
 -- AN INDEX after a word
 module _ (w s : List ℕ) where

@@ -1,16 +1,17 @@
--- `book::tables::column`: an empty name, an `opt_` name, or the section's part of the book. Assumes nothing.
+-- `book::tables::column`: a short name, an `opt_` name, or the section's part of the book. Assumes nothing.
 use borrow.Author.Needs.{needs}
 use mathlib.Core.Path.{sym, _∙_, ap}
 use mathlib.Core.List.{List}
 use Prim.Native.Nat.{ℕ}
 use Rattle.book.specs.Names.{Entry, lookupIn}
 use Rattle.book.specs.Rows.{entries}
-use Rattle.book.proofs.Laws.Words.{column-empty, column-table, column-bare, column-opt}
+use Rattle.book.proofs.Laws.Lengths.{column-short}
+use Rattle.book.proofs.Laws.Words.{column-table, column-bare, column-opt}
 use Rattle.book.proofs.tables.column.Statement.{statement}
 use Rattle.book.proofs.tables.column.Tie as tie
 
 returns : tie.Need-returns
-returns c = let a = c .before .before .before .args in sym (column-empty (a .section) (a .name .now) (c .if1 .taken))
+returns c = let a = c .before .before .before .args in sym (column-short (a .section) (a .name .now) (c .if1 .taken))
 
 returns-2 : tie.Need-returns-2
 returns-2 c =
