@@ -78,6 +78,8 @@ static char *line_of(const char *code, uint32_t names, void (*f)(char *, uint32_
 
 static void opt_name(char *s, uint32_t k) { sprintf(s, "opt_%03u", k); }
 static void no_name(char *s, uint32_t k) { (void)k; *s = 0; }
+static void short_name(char *s, uint32_t k) { (void)k; strcpy(s, "s"); }
+static void near_name(char *s, uint32_t k) { (void)k; strcpy(s, "sma"); }
 static void null_cell(char *s, uint32_t k) { (void)k; strcpy(s, "null"); }
 
 /* The four required columns of a protein table are the last four of 255. */
@@ -143,6 +145,8 @@ static struct want opt_headers(size_t n) { begin(n); return headers(line_of("PRH
 static struct want wide_headers(size_t n) { begin(n); return headers(line_of("PRH", 256, opt_name), 1, 11, 1); }
 static struct want known_headers(size_t n) { begin(n); return headers(line_of("PRH", 255, known_name), 192, 15, 2); }
 static struct want nameless_headers(size_t n) { begin(n); return headers(line_of("PRH", 255, no_name), 1 + 255 + 254, 16, 1); }
+static struct want short_headers(size_t n) { begin(n); return headers(line_of("SMH", 255, short_name), 1 + 255 + 254, 16, 1); }
+static struct want near_headers(size_t n) { begin(n); return headers(line_of("SMH", 255, near_name), 1 + 255 + 254, 16, 1); }
 static struct want like_headers(size_t n) { begin(n); return headers(line_of("PRH", 255, like_name), 1 + 255, 16, 1); }
 
 /* 255 names of 60,000 bytes, fewer in a small file: all equal, or alike up to their last 16 bytes. */
@@ -266,6 +270,8 @@ static const struct hostile {
     {"headers of 256 names", wide_headers},
     {"headers of 255 known names", known_headers},
     {"headers of 255 empty names", nameless_headers},
+    {"headers of 255 names `s`", short_headers},
+    {"headers of 255 names `sma`", near_headers},
     {"headers of 255 like names", like_headers},
     {"255 equal names of 60,000", equal_names},
     {"255 like names of 60,000", alike_names},
