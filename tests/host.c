@@ -667,18 +667,20 @@ static void doubles(void) {
     group("other cases");
 }
 
+static size_t most = LIMIT; /* the bytes of the hostile files */
+
 static void *hostile(void *unused) {
     (void)unused;
     for (int i = 0; i < FILES; i++) {
-        struct want w = HOSTILE[i].make(LIMIT);
+        struct want w = HOSTILE[i].make(most);
         uint32_t places[12], number = 77;
         mark(places, COUNT(places));
-        uint32_t count = mztab_judge(file, LIMIT, places, 10, &number);
+        uint32_t count = mztab_judge(file, most, places, 10, &number);
         check(number == 0, HOSTILE[i].name, number);
         check(count == w.count, HOSTILE[i].name, count);
         check(places[0] == w.rule && places[1] == w.line && places[2] == w.cell, HOSTILE[i].name, places[0]);
         check(marked(places + 9, 3), HOSTILE[i].name, 0);
-        if (i % 8 == 0) check(same_records(LIMIT / 16, 3), HOSTILE[i].name, 3);
+        if (i % 8 == 0) check(same_records(most / 16, 3), HOSTILE[i].name, 3);
     }
     /* the cell calls on the same stack: the last cell of one row */
     tabs(LIMIT);
@@ -707,13 +709,16 @@ static void on_small_stack(void) {
     size_t free_bytes = 0;
     while (free_bytes < length && stack[free_bytes] == 0xA5) free_bytes++;
     check(free_bytes > 0, "stack", free_bytes);
-    group("hostile files of 16 MB, 2 MB stack");
-    printf("%34s %6zu KB of stack used\n", "", (length - free_bytes) / 1024);
+    group("hostile files, 2 MB stack");
+    printf("%34s %6zu KB of stack used, files of %zu bytes\n", "", (length - free_bytes) / 1024, most);
 }
 
-int main(void) {
+/* host [BYTES]: the hostile files have so many bytes, else as many as a file can have. */
+int main(int words, char **word) {
     file = malloc(LIMIT + 1);
     if (!file) return 2;
+    if (words > 1) most = (size_t)atol(word[1]);
+    if (most == 0 || most > LIMIT) most = LIMIT;
     limits();
     lists();
     records();

@@ -1,6 +1,6 @@
 -- Promise 3 of the definition: each break of a file is listed once, in order of line, then cell, then rule, and nothing else is. And the first half of promise
 -- 2: the list is empty exactly when no rule is broken. Assumes nothing.
-use mathlib.Core.Path.{_≡_, refl, ap, subst}
+use mathlib.Core.Path.{_≡_, refl, subst}
 use mathlib.Core.List.{List, [], _∷_}
 use mathlib.Core.Logic.{_⊎_, inl}
 use Prim.Native.Nat.{ℕ}

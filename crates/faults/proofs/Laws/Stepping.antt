@@ -5,7 +5,7 @@ use mathlib.Core.List.{List, [], _∷_, _++_, map, map-append}
 use Prim.Native.Nat.{ℕ, zero, suc, _+_, _-_, _*_, _≤_, _<_, min}
 use native.Mathlib.Nat.{not-suc-le-zero, zero-min, min-zero, suc-min-suc}
 use native.Mathlib.Omega.{arith}
-use lib.Dec.{leb, ltb}
+use lib.Dec.{leb}
 use lib.Seq.{sets, set-out, drop-drop, drop-cons, length-take-le}
 use lib.ListN.{length, getD, set, take, drop, length-set, length-map, length-drop, take-append-drop, drop-of-length-le}
 use borrow.Author.Tests.{le-ltb, lt-ltb, leb-true, leb-false}

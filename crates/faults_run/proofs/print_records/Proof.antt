@@ -1,5 +1,5 @@
 -- `faults_run::print_records` meets its contract. Assumes nothing.
-use Prim.Native.Nat.{ℕ, _-_, _≤_}
+use Prim.Native.Nat.{_-_, _≤_}
 use borrow.Author.Needs.{needs}
 use Rattle.faults_run.proofs.print_records.Statement.{statement}
 use Rattle.faults_run.proofs.print_records.Tie as tie

@@ -1,5 +1,5 @@
 -- `faults_run::run_all` meets its contract. Assumes nothing.
-use Prim.Native.Nat.{ℕ, _-_, _≤_}
+use Prim.Native.Nat.{_-_, _≤_}
 use lib.ListN.{length}
 use borrow.Author.Needs.{needs}
 use Rattle.faults_run.proofs.run_all.Statement.{statement}

@@ -1,15 +1,14 @@
 -- What the flags of a file's ids say of it, and what its slots say at its end. Assumes nothing.
-use mathlib.Core.Path.{_≡_, refl, sym, ap, subst, _∙_}
+use mathlib.Core.Path.{_≡_, sym, ap, subst, _∙_}
 use mathlib.Core.Bool.{Bool}
 use mathlib.Core.List.{List, [], _++_, append-nil}
 use Prim.Native.Nat.{ℕ, _+_, _≤_}
 use native.Mathlib.Omega.{arith}
 use lib.Seq.{take-all}
-use lib.ListN.{length, take, drop}
+use lib.ListN.{length}
 use Rattle.text.specs.Bytes.{Bytes}
 use Rattle.text.specs.Lines.{lines}
 use Rattle.book.specs.Ids.{Declared}
-use Rattle.breaks.specs.Breaks.{Break}
 use Rattle.breaks.specs.Machine.{Slots, idsOf, endBreaks}
 use Rattle.breaks.specs.Carried.{Scan, from, last}
 use Rattle.breaks.specs.declared.state.State.{State}

@@ -1,11 +1,10 @@
 -- `faults::steps::begin` meets its contract. Assumes nothing.
-use mathlib.Core.Path.{_≡_, refl, sym, ap, _∙_}
-use mathlib.Core.Bool.{true, false}
+use mathlib.Core.Path.{refl, sym, ap}
+use mathlib.Core.Bool.{false}
 use borrow.Author.Needs.{needs}
 use lib.ListN.{length, length-replicate}
 use Rattle.text.proofs.Laws.Tests.{absurd-bool}
 use Rattle.judging.proofs.Laws.Parting.{midway-start, same-everywhere}
-use Rattle.faults.specs.Steps.{Good, Going, found}
 use Rattle.faults.proofs.Laws.Stepping.{found-none, number-none, number-one, four}
 use Rattle.faults.proofs.steps.begin.Statement.{statement}
 use Rattle.faults.proofs.steps.begin.Tie as tie

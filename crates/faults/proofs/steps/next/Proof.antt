@@ -1,7 +1,5 @@
 -- `faults::steps::next` meets its contract. Assumes nothing.
 use mathlib.Core.Path.{_≡_, refl, sym, ap, _∙_}
-use mathlib.Core.Bool.{true, false}
-use Prim.Native.Nat.{ℕ, _+_, _≤_}
 use native.Mathlib.Omega.{arith}
 use borrow.Author.Needs.{needs}
 use lib.ListN.{length, take, drop}
@@ -9,8 +7,7 @@ use Rattle.breaks.specs.Rules.{breaks}
 use Rattle.breaks.specs.Places.{Lent}
 use Rattle.breaks.proofs.Laws.Placing.{placed-length}
 use Rattle.breaks.proofs.Laws.Scanning.{breaks-bound}
-use Rattle.judging.specs.Parts.{total, Midway, Parts}
-use Rattle.faults.specs.Steps.{Good, Going, Moves, found}
+use Rattle.judging.specs.Parts.{total}
 use Rattle.faults.proofs.Laws.Stepping.{found-all, step-moves, step-less}
 use Rattle.faults.proofs.steps.next.Statement.{statement}
 use Rattle.faults.proofs.steps.next.Tie as tie

@@ -1,9 +1,8 @@
 -- `judging::parts::judge_part` meets its contract. The invariant: what is carried stands for the lines passed, and what was put are the breaks of the file that
 -- come next, up to those of the lines left. Assumes nothing.
 use mathlib.Core.Path.{_≡_, refl, sym}
-use mathlib.Core.Bool.{true, false}
 use mathlib.Core.List.{[], _++_}
-use Prim.Native.Nat.{ℕ, _+_, _-_, _≤_, _<_}
+use Prim.Native.Nat.{_+_, _-_, _≤_, _<_}
 use native.Mathlib.Omega.{arith}
 use borrow.Author.Needs.{needs}
 use lib.ListN.{length, drop, length-take, length-drop}
@@ -12,8 +11,7 @@ use Rattle.text.proofs.Laws.Tests.{absurd-bool}
 use Rattle.breaks.specs.Machine.{SLOTS}
 use Rattle.breaks.specs.Rules.{breaks}
 use Rattle.breaks.specs.Carried.{Scan, from, last}
-use Rattle.breaks.proofs.Laws.Scanning.{scan-step, scan-left, scan-last, breaks-bound}
-use Rattle.judging.specs.Parts.{total}
+use Rattle.breaks.proofs.Laws.Scanning.{scan-step, scan-left, breaks-bound}
 use Rattle.judging.proofs.Laws.Parting.{Parted, parted-start, parted-next, parted-all}
 use Rattle.judging.proofs.Laws.Knowing.{flags-know, end-left}
 use Rattle.judging.proofs.parts.judge_part.Statement.{statement}

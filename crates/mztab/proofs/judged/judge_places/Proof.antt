@@ -1,5 +1,5 @@
 -- `mztab::judged::judge_places` meets its contract: the limit decides, and else all breaks are put. Assumes nothing.
-use mathlib.Core.Path.{_≡_, refl, ap}
+use mathlib.Core.Path.{refl, ap}
 use mathlib.Core.Bool.{false}
 use Prim.Native.Nat.{ℕ}
 use native.Mathlib.Omega.{arith}
