@@ -10,9 +10,12 @@ const MODES: &str = "judge, judges, cells, kinds, names, doubles, \
 
 fn main() -> ExitCode {
     let mode = std::env::args().nth(1).unwrap_or_default();
-    let Some(out) = printed(&mode) else {
-        eprintln!("expect MODE, with MODE one of {MODES}");
-        return ExitCode::from(2);
+    let out = match printed(&mode) {
+        Some(out) => out,
+        None => {
+            eprintln!("expect MODE, with MODE one of {MODES}");
+            return ExitCode::from(2);
+        }
     };
     match io::stdout().write_all(&out) {
         Ok(()) => ExitCode::SUCCESS,

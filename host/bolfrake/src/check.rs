@@ -1,0 +1,106 @@
+//! `bolfrake check`: judges files on all cores and prints their breaks.
+
+use std::io::{self, Write};
+
+use mztab::Judged;
+
+use crate::files::judged::judged;
+use crate::files::{self, Source};
+use crate::output::in_order::{in_order, Out};
+use crate::output::terminal;
+use crate::output::told::Teller;
+use crate::output::write::{Format, Sum, Verdict};
+use crate::words::failure::Failure;
+use crate::words::{self, Words};
+
+struct Options {
+    format: Format,
+    most: usize,
+}
+
+pub fn run(words: Words) -> Result<u8, Failure> {
+    let mut options = Options {
+        format: Format::Text {
+            coloured: terminal::coloured(),
+        },
+        most: usize::MAX,
+    };
+    let plain = words.sort(|name, words| option(name, words, &mut options))?;
+    let sources = files::named("check", plain)?;
+    let sum = judge_all(&sources, &options)?;
+    if options.format == Format::Csv {
+        terminal::say(&sum.line());
+    }
+    Ok(sum.status())
+}
+
+fn option(name: &str, words: &mut Words, options: &mut Options) -> Result<bool, Failure> {
+    match name {
+        "--format" => match words.choice(name, &["text", "csv", "json"])? {
+            "csv" => options.format = Format::Csv,
+            "json" => options.format = Format::Json,
+            _ => {}
+        },
+        "--max" => {
+            options.most = words::number("check", "N of --max", &words.value(name)?)? as usize
+        }
+        _ => return Ok(false),
+    }
+    Ok(true)
+}
+
+fn judge_all(sources: &[Source], options: &Options) -> Result<Sum, Failure> {
+    let mut output = io::stdout().lock();
+    output.write_all(options.format.opening().as_bytes())?;
+    let verdicts = in_order(sources.len(), &mut output, |k, out| {
+        judge(k, &sources[k], options, out)
+    })?;
+    let mut sum = Sum::default();
+    for (source, verdict) in sources.iter().zip(verdicts) {
+        let verdict = verdict?;
+        if let Verdict::NotJudged(words) = &verdict {
+            terminal::say(&format!("bolfrake: {} {words}", source.name()));
+        }
+        sum.add(&verdict);
+    }
+    output.write_all(options.format.closing(&sum).as_bytes())?;
+    output.flush()?;
+    Ok(sum)
+}
+
+/// Judges the k-th file and prints all of it.
+fn judge(k: usize, source: &Source, options: &Options, out: &mut Out) -> io::Result<Verdict> {
+    let name = source.name();
+    match judged(source, options.most, out) {
+        Ok((file, judged)) => print(k, &name, &file, &judged, options.format, out),
+        Err(words) => {
+            let verdict = Verdict::NotJudged(words);
+            options.format.before(k, &name, &verdict, out)?;
+            options.format.after(&name, &verdict, out)?;
+            Ok(verdict)
+        }
+    }
+}
+
+fn print(
+    k: usize,
+    name: &str,
+    file: &[u8],
+    judged: &Judged,
+    format: Format,
+    out: &mut Out,
+) -> io::Result<Verdict> {
+    let breaks = judged.breaks();
+    let verdict = Verdict::Judged {
+        breaks: judged.count,
+        shown: breaks.len(),
+        bytes: file.len(),
+    };
+    format.before(k, name, &verdict, out)?;
+    let mut teller = Teller::new(file);
+    for (k, at) in breaks.enumerate() {
+        format.one(k, name, &teller.tell(at), out)?;
+    }
+    format.after(name, &verdict, out)?;
+    Ok(verdict)
+}

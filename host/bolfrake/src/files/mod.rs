@@ -1,0 +1,157 @@
+//! Which files are meant, and their bytes.
+
+pub mod finder;
+pub mod judged;
+pub mod tables;
+
+use std::ffi::OsString;
+use std::fs::{self, File};
+use std::io::{self, Read};
+use std::path::{Path, PathBuf};
+
+use mztab::LIMIT;
+
+use crate::output::show;
+use crate::words::failure::Failure;
+use crate::words::misused;
+
+/// A file to be read, or why a folder gave none.
+pub enum Source {
+    Input,
+    File(PathBuf),
+    Unfit(PathBuf, String),
+}
+
+pub const TOO_LONG: &str = "is longer than 16,777,216 bytes, so it is not judged: write its sections, or parts of its rows, to files of their own";
+
+const FOLDER: &str = "is a folder: name a file in it";
+
+/// The files that the words name, in their order; a folder stands for the files in it, sorted by name.
+pub fn named(command: &str, words: Vec<OsString>) -> Result<Vec<Source>, Failure> {
+    if words.is_empty() {
+        return Err(misused(
+            command,
+            "needs a file, a folder, or - for standard input",
+        ));
+    }
+    if words.iter().filter(|word| *word == "-").count() > 1 {
+        return Err(misused(
+            command,
+            "can read standard input once: name - once",
+        ));
+    }
+    let mut all = Vec::new();
+    for word in words {
+        if word == "-" {
+            all.push(Source::Input);
+            continue;
+        }
+        let path = PathBuf::from(word);
+        if path.is_dir() {
+            folder(path, &mut all);
+        } else {
+            all.push(Source::File(path));
+        }
+    }
+    Ok(all)
+}
+
+/// One file, as the cell commands take it.
+pub fn one(word: OsString) -> Source {
+    if word == "-" {
+        Source::Input
+    } else {
+        Source::File(PathBuf::from(word))
+    }
+}
+
+fn folder(path: PathBuf, all: &mut Vec<Source>) {
+    let before = all.len();
+    below(&path, all);
+    if all.len() == before {
+        let words = "has no file whose name ends in .mztab: name the file itself".to_string();
+        all.push(Source::Unfit(path, words));
+    }
+}
+
+/// The files of a folder and of the folders in it, by name. A folder that cannot be read stands among them.
+fn below(path: &Path, all: &mut Vec<Source>) {
+    match entries(path) {
+        Err(error) => all.push(Source::Unfit(path.to_path_buf(), cannot(&error))),
+        Ok(entries) => {
+            for (entry, is_folder) in entries {
+                if is_folder {
+                    below(&entry, all);
+                } else if is_mztab(&entry) {
+                    all.push(Source::File(entry));
+                }
+            }
+        }
+    }
+}
+
+/// What a folder holds, sorted, and which of it is a folder itself.
+fn entries(path: &Path) -> io::Result<Vec<(PathBuf, bool)>> {
+    let mut entries = Vec::new();
+    for entry in fs::read_dir(path)? {
+        let entry = entry?;
+        entries.push((entry.path(), entry.file_type()?.is_dir()));
+    }
+    entries.sort();
+    Ok(entries)
+}
+
+/// A file by that name, or a link to one. A link that leads nowhere is taken too, so that it is told of.
+fn is_mztab(path: &Path) -> bool {
+    let extension = path.extension().and_then(|extension| extension.to_str());
+    let named = extension.map_or(false, |extension| extension.eq_ignore_ascii_case("mztab"));
+    named && fs::metadata(path).map_or(true, |data| data.is_file())
+}
+
+impl Source {
+    /// The name as it is printed.
+    pub fn name(&self) -> String {
+        match self {
+            Source::Input => "-".to_string(),
+            Source::File(path) | Source::Unfit(path, _) => show::path(path),
+        }
+    }
+
+    /// The bytes, or in words why they cannot be judged.
+    pub fn read(&self) -> Result<Vec<u8>, String> {
+        let bytes = match self {
+            Source::Input => read_all(io::stdin().lock(), 0),
+            Source::File(path) if path.is_dir() => return Err(FOLDER.to_string()),
+            Source::File(path) => read_file(path),
+            Source::Unfit(_, words) => return Err(words.clone()),
+        };
+        match bytes {
+            Ok(bytes) if bytes.len() > LIMIT => Err(TOO_LONG.to_string()),
+            Ok(bytes) => Ok(bytes),
+            Err(error) => Err(cannot(&error)),
+        }
+    }
+}
+
+fn read_file(path: &Path) -> io::Result<Vec<u8>> {
+    let file = File::open(path)?;
+    let length = file.metadata()?.len();
+    read_all(file, length)
+}
+
+/// At most one byte more than the limit, which is enough to tell; `length` is how many are likely.
+fn read_all(from: impl Read, length: u64) -> io::Result<Vec<u8>> {
+    let most = LIMIT as u64 + 1;
+    let mut bytes = Vec::with_capacity(length.min(most) as usize + 1);
+    from.take(most).read_to_end(&mut bytes)?;
+    Ok(bytes)
+}
+
+fn cannot(error: &io::Error) -> String {
+    let todo = match error.kind() {
+        io::ErrorKind::NotFound => "check the name, or the folder that you are in",
+        io::ErrorKind::PermissionDenied => "ask for leave to read it",
+        _ => "try again, or copy it to another disk",
+    };
+    format!("cannot be read ({error}): {todo}")
+}

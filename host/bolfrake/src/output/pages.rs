@@ -1,0 +1,149 @@
+//! The pages of docs/rules.md: `explain` prints them, and their titles are the words of each break. There is no other source.
+
+use std::io::{self, Write};
+
+use mztab::RULES;
+
+use crate::words::failure::Failure;
+use crate::words::{misused, Words};
+
+const DOCUMENT: &str = include_str!("../../../../docs/rules.md");
+
+/// `bolfrake explain [RULE | values | names]`
+pub fn run(words: Words) -> Result<u8, Failure> {
+    let words = words.sort(|_, _| Ok(false))?;
+    let asked: Vec<String> = words
+        .iter()
+        .map(|word| word.to_string_lossy().to_lowercase())
+        .collect();
+    let text = match asked.as_slice() {
+        [] => list(),
+        [word] => page_of(word)?,
+        [first, number] if first == "rule" => page_of(number)?,
+        _ => return Err(misused("explain", "takes one rule")),
+    };
+    io::stdout().write_all(text.as_bytes())?;
+    Ok(0)
+}
+
+fn page_of(word: &str) -> Result<String, Failure> {
+    match word {
+        "values" => return Ok(page("Values")),
+        "names" => return Ok(page("Known names")),
+        _ => {}
+    }
+    match word.parse::<u32>() {
+        Ok(rule) if (1..=RULES).contains(&rule) => Ok(page(&format!("Rule {rule}:"))),
+        _ => Err(misused(
+            "explain",
+            &format!("knows the rules 1 to {RULES}, `values` and `names`, and not `{word}`"),
+        )),
+    }
+}
+
+/// The section whose title begins so, up to the next, with one line end after it.
+fn page(title: &str) -> String {
+    let beginning = format!("## {title}");
+    let mut lines = DOCUMENT
+        .lines()
+        .skip_while(|line| !line.starts_with(&beginning));
+    let mut out = lines.next().unwrap_or_default().to_string();
+    for line in lines.take_while(|line| !line.starts_with("## ")) {
+        out += "\n";
+        out += line;
+    }
+    format!("{}\n", out.trim_end())
+}
+
+/// The number and title of each rule.
+fn list() -> String {
+    let titles = Titles::new();
+    let mut out = String::new();
+    for rule in 1..=RULES {
+        out += &format!("{rule:>2}  {}\n", titles.of(rule));
+    }
+    out
+}
+
+/// The title of each rule.
+pub struct Titles {
+    all: Vec<&'static str>,
+}
+
+impl Titles {
+    pub fn new() -> Titles {
+        let rules = DOCUMENT
+            .lines()
+            .filter_map(|line| line.strip_prefix("## Rule "));
+        let titles = rules.filter_map(|line| line.split_once(": "));
+        Titles {
+            all: titles.map(|(_, title)| title).collect(),
+        }
+    }
+
+    pub fn of(&self, rule: u32) -> &'static str {
+        let at = (rule as usize).wrapping_sub(1);
+        self.all.get(at).copied().unwrap_or("a rule without a page")
+    }
+}
+
+/// The required columns of the header with this code, as the page of rule 16 lists them.
+pub fn required(code: &str) -> Vec<&'static str> {
+    let beginning = format!("| `{code}` | `");
+    let line = DOCUMENT.lines().find(|line| line.starts_with(&beginning));
+    // Names stand between backticks, so they are every second piece; the first of them is the code.
+    let pieces = line.unwrap_or("").split('`').skip(1).step_by(2);
+    pieces.skip(1).collect()
+}
+
+#[cfg(test)]
+mod tests {
+    use super::*;
+
+    #[test]
+    fn required_columns() {
+        assert_eq!(
+            required("PRH"),
+            ["accession", "description", "database", "search_engine"]
+        );
+        assert_eq!(
+            required("PEH"),
+            ["sequence", "accession", "charge", "mass_to_charge"]
+        );
+        assert_eq!(
+            required("PSH"),
+            ["sequence", "PSM_ID", "accession", "charge", "spectra_ref"]
+        );
+        assert_eq!(required("SMH"), ["identifier", "charge"]);
+        assert!(required("MTD").is_empty());
+    }
+
+    #[test]
+    fn every_rule_has_a_page_and_a_title() {
+        let titles = Titles::new();
+        assert_eq!(titles.all.len(), RULES as usize);
+        for rule in 1..=RULES {
+            let page = page_of(&rule.to_string()).unwrap();
+            assert!(page.starts_with(&format!("## Rule {rule}: {}\n", titles.of(rule))));
+            for part in ["**Broken when**", "**Example**", "**Mend**", "**Stops"] {
+                assert!(page.contains(part), "rule {rule}: {part}");
+            }
+            assert_eq!(page.matches("\n## ").count(), 0);
+        }
+    }
+
+    #[test]
+    fn other_pages() {
+        assert!(page_of("values").unwrap().contains("**Whole**"));
+        assert!(page_of("names").unwrap().starts_with("## Known names\n"));
+        for unknown in ["0", "22", "-1", "seven", ""] {
+            assert!(page_of(unknown).is_err(), "{unknown}");
+        }
+    }
+
+    #[test]
+    fn the_list() {
+        assert_eq!(list().lines().count(), RULES as usize);
+        assert!(list().contains("19  empty cell in a row\n"));
+    }
+}

@@ -1,0 +1,101 @@
+//! What `--help` and `--version` print.
+
+pub const VERSION: &str = concat!(
+    "bolfrake ",
+    env!("CARGO_PKG_VERSION"),
+    "\nmzTab 1.0, 21 rules, files of at most 16,777,216 bytes. The judging and the cells are a library that is proved to keep its contracts.\n"
+);
+
+pub const ALL: &str = "\
+bolfrake judges mzTab 1.0 files: exactly which rules a file breaks, and where.
+
+  bolfrake check FILE|DIR...                every break, with its place and the cell that stands there
+  bolfrake rows FILE|DIR...                 rows and columns of each section, and how many rows break a rule
+  bolfrake cell FILE SECTION ROW COLUMN     a cell, as the very bytes that stand there
+  bolfrake read FILE SECTION ROW COLUMN     a cell read as a number, exactly
+  bolfrake explain RULE                     what breaks a rule, an example, and how to mend the file
+
+`bolfrake COMMAND --help` tells more of each. `bolfrake --version` prints the version.
+
+FILE may be - for standard input. Of a folder every file is taken whose name ends in .mztab, in capitals or not, and of
+the folders in it the same, sorted by name; links to folders are not followed. A file that is named itself is taken
+whatever its name.
+
+Exit status: 0 done, and every file accepted; 1 a file breaks a rule, or there is no such section, row or cell; 2 a file
+cannot be read or is longer than 16,777,216 bytes, or the words were not understood.
+";
+
+const CHECK: &str = "\
+bolfrake check [--format text|csv|json] [--max N] FILE|DIR...
+
+Judges each file by the 21 rules and prints each break as
+
+  FILE:LINE:CELL: rule N: words: `the cell`
+
+by line, then cell, then rule, then a line for each file and one for all. Lines and cells count from 1; cell 1 is the
+line code. A break of rule 21 stands at the line after the last and says which key is absent. In a cell, bytes that do
+not print are shown as \\xNN, a backslash as \\\\, and what does not fit is cut with an ellipsis.
+
+  --format text   as above (the default)
+  --format csv    a line for each break: file,line,cell,rule,words,shown,detail; the cell stands between backticks, so that a
+                  table program takes it as text; the summary is on standard error
+  --format json   one document: files, each with its breaks, and the summary
+  --max N         print the first N breaks of each file; the counts are still of all (the default prints all of them,
+                  and takes 12 bytes of memory for each)
+
+Files are judged on all cores; what is printed is in the order of the arguments. `bolfrake explain N` explains rule N.
+Exit status: 0 every file accepted; 1 breaks; 2 a file that cannot be read or is too long.
+";
+
+const ROWS: &str = "\
+bolfrake rows [--format table|csv] FILE|DIR...
+
+Prints a line for each file and section: the columns of the section's first header (- where there is none), its rows,
+how many of them break a rule, and how many break none. A row is a line with the section's row code, whatever breaks
+the file has. A row breaks a rule if a break is reported at its line. The table ends with the sums; the CSV has none, so
+that a sum over it is right: file,section,columns,rows,breaking,keeping.
+
+Exit status: 0 counted; 2 a file that cannot be read or is too long.
+";
+
+const CELL: &str = "\
+bolfrake cell FILE SECTION ROW COLUMN [--or TEXT]
+
+Prints a cell as the very bytes that stand in the file, and a line end after them, which no cell can hold.
+
+  SECTION    1 to 4, or protein, peptide, psm, small-molecule
+  ROW        0 is the section's first header, r its r-th row
+  COLUMN     c is cell c + 1 of the line; cell 1, the line code, is no column
+  --or TEXT  print TEXT where the cell is null
+
+Exit status: 0 shown; 1 no such section, row or cell; 2 a file that cannot be read or is too long.
+";
+
+const READ: &str = "\
+bolfrake read FILE SECTION ROW COLUMN
+
+Reads a cell, found as by `bolfrake cell`, and prints FILE:LINE:CELL: and what it reads as: missing (null), whole,
+decimal, infinite (INF), not a number (NaN), long decimal (over 15 digits), or text. A decimal is printed with its signed
+numerals, the places after the dot, and the nearest double.
+
+Exit status: 0 read; 1 no such section, row or cell; 2 a file that cannot be read or is too long.
+";
+
+const EXPLAIN: &str = "\
+bolfrake explain [RULE | values | names]
+
+Prints the page of a rule, 1 to 21: what breaks it, an example, how to mend the file, and which rules it stops. `values`
+prints the kinds of value, `names` where the known keys and columns are listed. Without a word it lists the rules.
+";
+
+/// The help of a command, else that of all.
+pub fn of(command: &str) -> &'static str {
+    match command {
+        "check" => CHECK,
+        "rows" => ROWS,
+        "cell" => CELL,
+        "read" => READ,
+        "explain" => EXPLAIN,
+        _ => ALL,
+    }
+}

@@ -1,0 +1,76 @@
+//! The files written by hand from the paper: every rule, stop and kind on either side.
+
+use independent::cases;
+
+/// A label and a file each.
+pub fn files() -> Vec<(String, Vec<u8>)> {
+    let mut all = Vec::new();
+    for case in cases::judging::all() {
+        all.push((case.label.to_string(), case.file));
+    }
+    for (k, case) in cases::cells::all().into_iter().enumerate() {
+        all.push((format!("cells, case {k}"), case.file));
+    }
+    for (value, _) in cases::kinds::all() {
+        all.push((
+            format!("value b\"{}\"", value.escape_ascii()),
+            value_everywhere(&value),
+        ));
+    }
+    for names in cases::names::all().chunks(100) {
+        all.push(("names as keys".to_string(), as_keys(names)));
+        for header in ["PRH", "PEH", "PSH", "SMH"] {
+            all.push((
+                format!("names as columns of {header}"),
+                as_columns(header, names),
+            ));
+        }
+    }
+    all
+}
+
+/// The value for a key of each kind, and under a column of each kind.
+fn value_everywhere(value: &[u8]) -> Vec<u8> {
+    let mut file = Vec::new();
+    for key in [
+        "mzTab-version",
+        "mzTab-mode",
+        "mzTab-type",
+        "title",
+        "custom[1]",
+        "false_discovery_rate",
+        "assay[1]-sample_ref",
+        "assay[1]-ms_run_ref",
+        "study_variable[1]-assay_refs",
+        "study_variable[1]-sample_refs",
+        "sample[1]-description",
+        "ms_run[64]-location",
+    ] {
+        line(&mut file, &[b"MTD", key.as_bytes(), value]);
+    }
+    let header = b"PEH\tsequence\taccession\tcharge\tmass_to_charge\treliability\tunique\tretention_time\tretention_time_window\tsearch_engine\topt_x\n";
+    file.extend(header);
+    line(&mut file, &[&[b"PEP" as &[u8]], &[value; 10][..]].concat());
+    file
+}
+
+fn as_keys(names: &[Vec<u8>]) -> Vec<u8> {
+    let mut file = Vec::new();
+    for name in names {
+        line(&mut file, &[b"MTD", name, b"[,,a,]"]);
+    }
+    file
+}
+
+fn as_columns(header: &str, names: &[Vec<u8>]) -> Vec<u8> {
+    let mut file = b"MTD\tassay[3]-ms_run_ref\tms_run[5]\nMTD\tms_run[5]-location\ta\n".to_vec();
+    let mut cells: Vec<&[u8]> = vec![header.as_bytes()];
+    cells.extend(names.iter().map(Vec::as_slice));
+    line(&mut file, &cells);
+    file
+}
+
+fn line(file: &mut Vec<u8>, cells: &[&[u8]]) {
+    file.extend(cells.join(&b'\t'));
+    file.push(b'\n');
+}

@@ -1,0 +1,292 @@
+//! One file, judged and read by both.
+
+use independent::Reading;
+use mztab::{raw, Value};
+use samples::Draws;
+
+/// What a place holds that no break fills.
+const MARK: u32 = 0xdead_beef;
+/// So many questions are asked of a file; of one with more cells, some are drawn.
+const QUESTIONS: usize = 300;
+/// A file of so few breaks is judged with every length of list.
+const FEW: usize = 6;
+
+/// How much was compared.
+#[derive(Default)]
+pub struct Tried {
+    pub files: u64,
+    pub accepted: u64,
+    pub breaks: u64,
+    pub lists: u64,
+    pub cells: u64,
+    /// How many breaks of each rule.
+    pub rules: [u64; 22],
+}
+
+/// Nothing where both say the same, else both answers in words.
+pub fn compare(file: &[u8], draws: &mut Draws, tried: &mut Tried) -> Result<(), String> {
+    // A box of its own has no room after the last byte, so that a checker of memory sees a read past it.
+    let file: Box<[u8]> = file.into();
+    tried.files += 1;
+    judging(&file, draws, tried)?;
+    cells(&file, draws, tried)
+}
+
+fn judging(file: &[u8], draws: &mut Draws, tried: &mut Tried) -> Result<(), String> {
+    let expected = match independent::judge(file) {
+        None => return too_long(file),
+        Some(expected) => expected,
+    };
+    let places: Vec<u32> = expected
+        .iter()
+        .flat_map(|at| [at.rule, at.line, at.cell])
+        .collect();
+    for length in lengths(expected.len(), draws) {
+        tried.lists += 1;
+        with_list(file, &places, length)?;
+    }
+    let judged =
+        mztab::judge_all(file).map_err(|refusal| format!("judging is refused: {refusal:?}"))?;
+    let found: Vec<u32> = judged
+        .breaks()
+        .flat_map(|at| [at.rule, at.line, at.cell])
+        .collect();
+    if found != places {
+        return Err(format!(
+            "the list of all has {} places, not {}",
+            found.len(),
+            places.len()
+        ));
+    }
+    tried.accepted += u64::from(expected.is_empty());
+    tried.breaks += expected.len() as u64;
+    for at in expected {
+        tried.rules[at.rule as usize] += 1;
+    }
+    Ok(())
+}
+
+/// The lengths of the lists that are lent: from none to more than enough where the breaks are few.
+fn lengths(breaks: usize, draws: &mut Draws) -> Vec<usize> {
+    let enough = 3 * breaks;
+    if breaks <= FEW && draws.once_in(4) {
+        return (0..=enough + 4).collect();
+    }
+    vec![draws.below(enough + 1), enough + draws.below(5)]
+}
+
+fn with_list(file: &[u8], expected: &[u32], length: usize) -> Result<(), String> {
+    let mut places = vec![MARK; length].into_boxed_slice();
+    let answer = raw::judge(file, &mut places);
+    if answer.number != 0 || answer.count as usize * 3 != expected.len() {
+        return Err(format!(
+            "a list of {length}: the library answers number {} and {} breaks, {:?}; the independent reading {} breaks, {:?}",
+            answer.number,
+            answer.count,
+            places,
+            expected.len() / 3,
+            expected
+        ));
+    }
+    let filled = (length / 3 * 3).min(expected.len());
+    if places[..filled] != expected[..filled] {
+        return Err(format!("a list of {length}: the library lists {:?}; the independent reading {:?} (rule, line, cell)", &places[..filled], &expected[..filled]));
+    }
+    if places[filled..].iter().any(|place| *place != MARK) {
+        return Err(format!(
+            "a list of {length}: places after {filled} are written: {:?}",
+            &places[filled..]
+        ));
+    }
+    Ok(())
+}
+
+fn too_long(file: &[u8]) -> Result<(), String> {
+    let mut places = [MARK; 30];
+    let answer = raw::judge(file, &mut places);
+    if (answer.number, answer.count) == (1, 0) && places == [MARK; 30] {
+        return Ok(());
+    }
+    Err(format!(
+        "a file too long: the library answers {answer:?}, places {places:?}"
+    ))
+}
+
+/// Every cell, and a step beyond on each side; of a large file some.
+fn cells(file: &[u8], draws: &mut Draws, tried: &mut Tried) -> Result<(), String> {
+    let mut asked = questions(file);
+    while asked.len() > QUESTIONS {
+        asked.swap_remove(draws.below(asked.len()));
+    }
+    for far in [
+        (0, 0, 0),
+        (5, 1, 1),
+        (u32::MAX, 0, 1),
+        (1, u32::MAX, 1),
+        (2, 1, u32::MAX),
+        (1, 0, u32::MAX),
+    ] {
+        asked.push(far);
+    }
+    for question in asked {
+        tried.cells += 1;
+        cell(file, question)?;
+    }
+    Ok(())
+}
+
+type Question = (u32, u32, u32);
+
+/// The cells by what the independent reading finds, and the first refusals after them.
+fn questions(file: &[u8]) -> Vec<Question> {
+    let mut asked = Vec::new();
+    for section in 1..=4 {
+        let (header, row) = [
+            (b"PRH", b"PRT"),
+            (b"PEH", b"PEP"),
+            (b"PSH", b"PSM"),
+            (b"SMH", b"SML"),
+        ][section as usize - 1];
+        let mut rows = 0;
+        let mut headers = 0;
+        for line in independent::lines::lines(file) {
+            let mut cells = independent::lines::cells(line);
+            let code = cells.next().unwrap_or_default();
+            let columns = cells.count() as u32;
+            let at = if code == row {
+                rows += 1;
+                rows
+            } else if code == header && headers == 0 {
+                headers += 1;
+                0
+            } else {
+                continue;
+            };
+            asked.extend((0..=columns + 1).map(|column| (section, at, column)));
+        }
+        asked.extend([
+            (section, rows + 1, 1),
+            (section, rows + 1, 0),
+            (section, 0, 1),
+        ]);
+    }
+    asked
+}
+
+fn cell(file: &[u8], (section, row, column): Question) -> Result<(), String> {
+    let at = format!("section {section}, row {row}, column {column}");
+    let number = independent::cell(file, section, row, column)
+        .err()
+        .unwrap_or(0);
+    let plain = raw::cell(file, section, row, column);
+    if plain.number != number || (number != 0 && (plain.start, plain.length) != (0, 0)) {
+        return Err(format!(
+            "{at}: the library answers {plain:?}; the independent reading number {number}"
+        ));
+    }
+    views(file, (section, row, column)).map_err(|words| format!("{at}: {words}"))?;
+    reading(file, (section, row, column)).map_err(|words| format!("{at}: {words}"))
+}
+
+/// The cell with and without a stand-in: the same bytes, at the same place.
+fn views(file: &[u8], (section, row, column): Question) -> Result<(), String> {
+    let stand_in: &[u8] = b"-";
+    let expected = independent::cell(file, section, row, column);
+    let found = mztab::cell(file, section, row, column).map_err(|refusal| refusal.number());
+    let expected_or = independent::cell_or(file, section, row, column, stand_in);
+    let found_or =
+        mztab::cell_or(file, section, row, column, stand_in).map_err(|refusal| refusal.number());
+    for (found, expected) in [(found, expected), (found_or, expected_or)] {
+        if !same_place(found, expected) {
+            return Err(format!(
+                "the library shows {found:?}; the independent reading {expected:?}"
+            ));
+        }
+    }
+    Ok(())
+}
+
+fn same_place(found: Result<&[u8], u32>, expected: Result<&[u8], u32>) -> bool {
+    match (found, expected) {
+        (Ok(found), Ok(expected)) => std::ptr::eq(found, expected),
+        (found, expected) => found == expected,
+    }
+}
+
+/// Line, cell and reading, the double bit for bit, and 0 for what a case does not carry.
+fn reading(file: &[u8], (section, row, column): Question) -> Result<(), String> {
+    let found = raw::reading(file, section, row, column);
+    let found = (
+        found.number,
+        found.line,
+        found.cell,
+        found.case,
+        found.whole,
+        found.places,
+        found.decimal.to_bits(),
+    );
+    let expected = match independent::reading(file, section, row, column) {
+        Err(number) => (number, 0, 0, 0, 0, 0, 0),
+        Ok((line, cell, reading)) => {
+            let (case, whole, places, bits) = carried(&reading);
+            (0, line, cell, case, whole, places, bits)
+        }
+    };
+    if found != expected {
+        return Err(format!("the library reads {found:?}; the independent reading {expected:?} (number, line, cell, case, whole, places, bits)"));
+    }
+    bound(file, (section, row, column), expected.0)
+}
+
+/// The case of a reading, and what it carries.
+fn carried(reading: &Reading) -> (u32, i64, u32, u64) {
+    match reading {
+        Reading::Missing => (0, 0, 0, 0),
+        Reading::Whole(value) => (1, *value, 0, 0),
+        Reading::Decimal {
+            numerals,
+            places,
+            double,
+        } => (2, *numerals, *places, double.to_bits()),
+        Reading::Infinite => (3, 0, 0, 0),
+        Reading::NotANumber => (4, 0, 0, 0),
+        Reading::LongDecimal => (5, 0, 0, 0),
+        Reading::Text => (6, 0, 0, 0),
+    }
+}
+
+/// The binding's own record says the same.
+fn bound(file: &[u8], (section, row, column): Question, number: u32) -> Result<(), String> {
+    let expected = independent::reading(file, section, row, column);
+    let found = mztab::reading(file, section, row, column);
+    let same = match (&found, &expected) {
+        (Err(refusal), Err(_)) => refusal.number() == number,
+        (Ok(found), Ok((line, cell, reading))) => {
+            (found.line, found.cell) == (*line, *cell) && same_value(&found.value, reading)
+        }
+        _ => false,
+    };
+    if same {
+        return Ok(());
+    }
+    Err(format!(
+        "the binding reads {found:?}; the independent reading {expected:?}"
+    ))
+}
+
+fn same_value(found: &Value, expected: &Reading) -> bool {
+    let found = match found {
+        Value::Missing => (0, 0, 0, 0),
+        Value::Whole(value) => (1, *value, 0, 0),
+        Value::Decimal {
+            numerals,
+            places,
+            double,
+        } => (2, *numerals, *places, double.to_bits()),
+        Value::Infinite => (3, 0, 0, 0),
+        Value::NotANumber => (4, 0, 0, 0),
+        Value::LongDecimal => (5, 0, 0, 0),
+        Value::Text => (6, 0, 0, 0),
+    };
+    found == carried(expected)
+}

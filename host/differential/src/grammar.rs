@@ -1,0 +1,344 @@
+//! Draws files: the lines of the format with values of their kinds, most of them right, and some wrong in small ways.
+
+use std::collections::HashSet;
+
+use independent::cases;
+use independent::names::{self, COLUMNS, KEYS};
+use samples::Draws;
+
+use crate::damage::damage;
+
+/// The sections: letter, header code, row code.
+const SECTIONS: [(char, &str, &str); 4] = [
+    ('P', "PRH", "PRT"),
+    ('E', "PEH", "PEP"),
+    ('S', "PSH", "PSM"),
+    ('M', "SMH", "SML"),
+];
+
+/// Values written by hand, on either side of each kind.
+pub fn near_values() -> Vec<Vec<u8>> {
+    cases::kinds::all()
+        .into_iter()
+        .map(|(value, _)| value)
+        .collect()
+}
+
+/// A file of any sort.
+pub fn file(near: &[Vec<u8>], draws: &mut Draws) -> Vec<u8> {
+    let mut source = Source::new(near, draws);
+    let mut file = source.file();
+    if !source.draws.once_in(3) {
+        damage(&mut file, draws);
+    }
+    file
+}
+
+struct Source<'d> {
+    near: &'d [Vec<u8>],
+    draws: &'d mut Draws,
+    /// One value or name in so many is drawn to be wrong; 0 for none.
+    wrong: usize,
+    /// Line ends are CR LF once in so many; 0 for never.
+    returns: usize,
+    /// The keys so far; a file that is to be right has none twice.
+    keys: HashSet<Vec<u8>>,
+    out: Vec<u8>,
+}
+
+impl<'d> Source<'d> {
+    fn new(near: &'d [Vec<u8>], draws: &'d mut Draws) -> Source<'d> {
+        let wrong = [0, 0, 200, 40, 8][draws.below(5)];
+        let returns = [0, 0, 1, 3][draws.below(4)];
+        Source {
+            near,
+            draws,
+            wrong,
+            returns,
+            keys: HashSet::new(),
+            out: Vec::new(),
+        }
+    }
+
+    fn slips(&mut self) -> bool {
+        self.wrong > 0 && self.draws.once_in(self.wrong)
+    }
+
+    fn file(&mut self) -> Vec<u8> {
+        self.metadata();
+        for section in 0..4 {
+            if self.draws.once_in(2) {
+                self.section(section);
+            }
+        }
+        if self.slips() {
+            let again = self.draws.below(4);
+            self.section(again);
+        }
+        if self.slips() {
+            self.metadata_line();
+        }
+        if self.draws.once_in(4) {
+            self.out.pop();
+        }
+        std::mem::take(&mut self.out)
+    }
+
+    fn end_line(&mut self, cells: &[Vec<u8>]) {
+        self.out.extend(cells.join(&b'\t'));
+        if self.returns > 0 && self.draws.once_in(self.returns) {
+            self.out.push(b'\r');
+        }
+        self.out.push(b'\n');
+        if self.draws.once_in(30) {
+            let mut between = self
+                .draws
+                .one_of(&["\n", "COM\n", "COM\ta comment\x01\n", "\r\n"]);
+            if self.slips() {
+                between = self.draws.one_of(&["com\n", "COM x\n"]);
+            }
+            self.out.extend(between.as_bytes());
+        }
+    }
+
+    fn metadata(&mut self) {
+        for (key, value) in [
+            ("mzTab-version", "1.0.0"),
+            ("mzTab-mode", "Summary"),
+            ("mzTab-type", "Identification"),
+            ("description", "Yeast check"),
+            ("ms_run[1]-location", "file:///a.mzML"),
+            ("ms_run[2]-location", "file:///b.mzML"),
+            ("assay[1]-ms_run_ref", "ms_run[1]"),
+            ("sample[1]-description", "s"),
+            ("study_variable[1]-assay_refs", "assay[1]"),
+        ] {
+            if !self.slips() {
+                self.keys.insert(key.into());
+                self.end_line(&[b"MTD".to_vec(), key.into(), value.into()]);
+            }
+        }
+        for _ in 0..self.draws.below(8) {
+            self.metadata_line();
+        }
+    }
+
+    fn metadata_line(&mut self) {
+        let (pattern, kind, family) = KEYS[self.draws.below(KEYS.len())];
+        let key = self.name(pattern);
+        if self.wrong == 0 && !self.keys.insert(key.clone()) {
+            return;
+        }
+        let value = self.value(kind, family);
+        let mut cells = vec![b"MTD".to_vec(), key, value];
+        if self.slips() {
+            cells.truncate(2);
+        } else if self.slips() {
+            cells.push(Vec::new());
+        }
+        self.end_line(&cells);
+    }
+
+    /// A name with its indices; where it slips, a name that is near another.
+    fn name(&mut self, pattern: &str) -> Vec<u8> {
+        if self.slips() {
+            let near = cases::names::NEAR;
+            return near[self.draws.below(near.len())].as_bytes().to_vec();
+        }
+        let mut name = pattern.to_string();
+        while name.contains("[n]") {
+            let index = self.index();
+            name = name.replacen("[n]", &index, 1);
+        }
+        name.into_bytes()
+    }
+
+    fn index(&mut self) -> String {
+        if self.slips() {
+            return self
+                .draws
+                .one_of(&["[0]", "[65]", "[01]", "[]", "[100]", "[ 1]", "[1"])
+                .to_string();
+        }
+        // Index 1 of each family is declared, and others may not be.
+        if self.wrong == 0 {
+            return "[1]".to_string();
+        }
+        let value = match self.draws.below(8) {
+            0 => self.draws.below(64) + 1,
+            1 => 2,
+            _ => 1,
+        };
+        format!("[{value}]")
+    }
+
+    fn section(&mut self, section: usize) {
+        let (letter, header, row) = SECTIONS[section];
+        let mut columns: Vec<(Vec<u8>, char)> = Vec::new();
+        for name in names::required(section as u32 + 1) {
+            if !self.slips() {
+                let known = names::column(section as u32 + 1, name.as_bytes());
+                columns.push((
+                    name.as_bytes().to_vec(),
+                    known.map_or('T', |known| known.kind),
+                ));
+            }
+        }
+        for _ in 0..self.draws.below(8) {
+            let (sections, pattern, kind, _) = COLUMNS[self.draws.below(COLUMNS.len())];
+            if sections.contains(letter) || self.slips() {
+                let name = self.name(pattern);
+                if !columns.iter().any(|(other, _)| *other == name) || self.slips() {
+                    columns.push((name, kind));
+                }
+            }
+        }
+        self.options(&mut columns);
+        let mut cells = vec![header.as_bytes().to_vec()];
+        cells.extend(columns.iter().map(|(name, _)| name.clone()));
+        self.end_line(&cells);
+        for _ in 0..self.draws.below(10) {
+            self.row(row, &columns);
+        }
+    }
+
+    /// Columns that begin `opt_`: few, or so many that the header is as wide as it may be, or wider.
+    fn options(&mut self, columns: &mut Vec<(Vec<u8>, char)>) {
+        let count = match self.draws.below(60) {
+            0 => (255 - columns.len()) + self.draws.below(3),
+            k => k % 4,
+        };
+        for k in 0..count {
+            let name = if self.slips() {
+                "opt_".to_string()
+            } else {
+                format!("opt_{k}")
+            };
+            columns.push((name.into_bytes(), 'T'));
+        }
+        if self.slips() && !columns.is_empty() {
+            let (a, b) = (
+                self.draws.below(columns.len()),
+                self.draws.below(columns.len()),
+            );
+            columns.swap(a, b);
+        }
+    }
+
+    fn row(&mut self, code: &str, columns: &[(Vec<u8>, char)]) {
+        let mut cells = vec![code.as_bytes().to_vec()];
+        for (_, kind) in columns {
+            let null = *kind != 'K' && self.draws.once_in(6);
+            let cell = if null {
+                b"null".to_vec()
+            } else {
+                self.value(*kind, '-')
+            };
+            cells.push(cell);
+        }
+        if self.slips() {
+            cells.pop();
+        } else if self.slips() {
+            cells.push(b"1".to_vec());
+        }
+        self.end_line(&cells);
+    }
+
+    /// A value of the kind; where it slips, none at all, one of another, or one that is near to some kind.
+    fn value(&mut self, kind: char, family: char) -> Vec<u8> {
+        if self.slips() {
+            if self.draws.once_in(4) {
+                return Vec::new();
+            }
+            return self.near[self.draws.below(self.near.len())].clone();
+        }
+        let word = names::word(family);
+        match kind {
+            'v' => self.draws.one_of(&["1.0", "1.0.0"]).into(),
+            'm' => self.draws.one_of(&["Summary", "Complete"]).into(),
+            't' => self
+                .draws
+                .one_of(&["Quantification", "Identification"])
+                .into(),
+            'W' => self.whole().into_bytes(),
+            'R' => self.draws.one_of(&["1", "2", "3"]).into(),
+            'U' => self.draws.one_of(&["0", "1"]).into(),
+            'D' => self.decimal().into_bytes(),
+            'L' => self.many("|", Source::decimal).into_bytes(),
+            'N' => format!("{}|{}", self.decimal(), self.decimal()).into_bytes(),
+            'P' => self.parameter().into_bytes(),
+            'Q' => self.many("|", Source::parameter).into_bytes(),
+            'r' => format!("{word}{}", self.index()).into_bytes(),
+            'l' => {
+                let comma = self.draws.one_of(&[",", ", ", ",   "]);
+                self.many(comma, |source| format!("{word}{}", source.index()))
+                    .into_bytes()
+            }
+            _ => self.text(),
+        }
+    }
+
+    fn many(&mut self, between: &str, one: impl Fn(&mut Self) -> String) -> String {
+        let count = self.draws.below(3) + 1;
+        let all: Vec<String> = (0..count).map(|_| one(self)).collect();
+        all.join(between)
+    }
+
+    fn text(&mut self) -> Vec<u8> {
+        let texts: [&[u8]; 7] = [
+            b"x",
+            b"P12345",
+            b"Heat shock",
+            b"N\xc3\xa4me",
+            b"\xff\xfe",
+            b"null ",
+            b"a|b,c",
+        ];
+        texts[self.draws.below(texts.len())].to_vec()
+    }
+
+    fn digits(&mut self, most: usize) -> String {
+        let count = self.draws.below(most) + 1;
+        (0..count)
+            .map(|_| char::from(b'0' + self.draws.below(10) as u8))
+            .collect()
+    }
+
+    fn sign(&mut self) -> &'static str {
+        self.draws.one_of(&["", "", "-"])
+    }
+
+    fn whole(&mut self) -> String {
+        format!("{}{}", self.sign(), self.digits(9))
+    }
+
+    fn decimal(&mut self) -> String {
+        match self.draws.below(12) {
+            0 => "INF".to_string(),
+            1 => "NaN".to_string(),
+            2 => format!("{}{}", self.sign(), self.digits(18)),
+            _ => format!("{}{}.{}", self.sign(), self.digits(7), self.digits(10)),
+        }
+    }
+
+    fn parameter(&mut self) -> String {
+        let fields = [
+            "",
+            "MS",
+            " MS:1001207",
+            "a user parameter",
+            "\"N,O-diacetyl\"",
+            "\"a|b\"",
+            " \"\" ",
+            "[x]",
+        ];
+        let third = ["Mascot", " x", "\"N,O-diacetyl\"", "\"\"", "a]|b", "\"|\" "];
+        format!(
+            "[{},{},{},{}]",
+            self.draws.one_of(&fields),
+            self.draws.one_of(&fields),
+            self.draws.one_of(&third),
+            self.draws.one_of(&fields)
+        )
+    }
+}

@@ -1,0 +1,162 @@
+//! Compares the library, through its binding, with the independent reading of the paper: every break, every place of the lent list, and
+//! every cell, on files written by hand, hostile ones, and files drawn by a grammar, most of them damaged.
+//!
+//! `differential [--seed S] [--count N] [--sample M]`: N drawn files beside every M-th of those written by hand, else all. The same seed
+//! draws the same files.
+
+#![forbid(unsafe_code)]
+
+mod by_hand;
+mod compare;
+mod damage;
+mod grammar;
+
+use std::env;
+use std::process::ExitCode;
+
+use compare::{compare, Tried};
+use samples::Draws;
+
+const SEED: u64 = 1;
+const COUNT: u64 = 10_000;
+/// So many bytes have the hostile files.
+const HOSTILE: [usize; 2] = [10_000, 40_000];
+/// After so many differences no more are looked for.
+const ENOUGH: u32 = 10;
+
+fn main() -> ExitCode {
+    let options = match options() {
+        Ok(options) => options,
+        Err(words) => {
+            eprintln!(
+                "differential: {words}: use differential [--seed S] [--count N] [--sample M]"
+            );
+            return ExitCode::from(2);
+        }
+    };
+    let mut run = Run::default();
+    run.by_hand(&options);
+    run.hostile(&options);
+    run.drawn(&options);
+    if options.count >= COUNT {
+        run.every_rule();
+    }
+    if run.different == 0 {
+        ExitCode::SUCCESS
+    } else {
+        ExitCode::FAILURE
+    }
+}
+
+/// What was compared so far, and how many files differ.
+#[derive(Default)]
+struct Run {
+    tried: Tried,
+    different: u32,
+}
+
+impl Run {
+    fn by_hand(&mut self, options: &Options) {
+        for (label, file) in by_hand::files().into_iter().step_by(options.sample) {
+            self.try_one(&label, &file, &mut Draws::new(options.seed));
+        }
+        println!(
+            "differential: {} files by hand, {} differences",
+            self.tried.files, self.different
+        );
+    }
+
+    fn hostile(&mut self, options: &Options) {
+        let before = self.tried.files;
+        let too_long = vec![b'x'; mztab::LIMIT + 1];
+        self.try_one(
+            "one byte too many",
+            &too_long,
+            &mut Draws::new(options.seed),
+        );
+        for size in HOSTILE {
+            for sample in samples::hostile(size) {
+                self.try_one(sample.name, &sample.file, &mut Draws::new(options.seed));
+            }
+        }
+        println!(
+            "differential: {} hostile files, {} differences",
+            self.tried.files - before,
+            self.different
+        );
+    }
+
+    fn drawn(&mut self, options: &Options) {
+        let near = grammar::near_values();
+        for k in 0..options.count {
+            // Each file has draws of its own, so that one can be drawn again without those before it.
+            let mut draws = Draws::new(options.seed ^ k.wrapping_mul(0x2545_f491_4f6c_dd1d));
+            let file = grammar::file(&near, &mut draws);
+            self.try_one(
+                &format!("seed {}, file {k}", options.seed),
+                &file,
+                &mut draws,
+            );
+        }
+        let Tried {
+            files,
+            accepted,
+            breaks,
+            lists,
+            cells,
+            ..
+        } = self.tried;
+        println!(
+            "differential: {files} files tried (seed {}), {accepted} accepted; {breaks} breaks, {lists} lists and {cells} cells compared; {} differences",
+            options.seed, self.different
+        );
+    }
+
+    /// Compares one file, and prints it with both answers where they differ.
+    fn try_one(&mut self, label: &str, file: &[u8], draws: &mut Draws) {
+        if self.different == ENOUGH {
+            return;
+        }
+        if let Err(difference) = compare(file, draws, &mut self.tried) {
+            println!("differential: DIFFERENCE, {label}: {difference}");
+            println!("the file: b\"{}\"", file.escape_ascii());
+            self.different += 1;
+        }
+    }
+
+    /// Files that never break a rule would show nothing of it.
+    fn every_rule(&mut self) {
+        for (rule, broken) in self.tried.rules.iter().enumerate().skip(1) {
+            if *broken == 0 {
+                println!("differential: no file breaks rule {rule}, so the files show too little");
+                self.different += 1;
+            }
+        }
+    }
+}
+
+struct Options {
+    seed: u64,
+    count: u64,
+    sample: usize,
+}
+
+fn options() -> Result<Options, String> {
+    let mut options = Options {
+        seed: SEED,
+        count: COUNT,
+        sample: 1,
+    };
+    let mut words = env::args().skip(1);
+    while let Some(word) = words.next() {
+        let value: Option<u64> = words.next().and_then(|value| value.parse().ok());
+        let value = value.ok_or_else(|| format!("`{word}` needs a number after it"))?;
+        match word.as_str() {
+            "--seed" => options.seed = value,
+            "--count" => options.count = value,
+            "--sample" => options.sample = value.max(1) as usize,
+            _ => return Err(format!("there is no option `{word}`")),
+        }
+    }
+    Ok(options)
+}

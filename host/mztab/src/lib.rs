@@ -1,0 +1,219 @@
+//! The verified reader of mzTab 1.0 files, safe to call from Rust: [`judge`] judges a file by the 21 rules, [`cell`] shows a cell as the
+//! very bytes that stand there, [`reading`] reads it as a number.
+//!
+//! ```
+//! let file = b"SMH\tidentifier\tcharge\nSML\tCID:00027395\t2+\n";
+//! let judged = mztab::judge_all(file).unwrap();
+//! let first = judged.breaks().next().unwrap();
+//! assert_eq!((first.line, first.cell, first.rule), (2, 3, 20));
+//! assert_eq!(mztab::cell(file, 4, 1, 2), Ok(b"2+" as &[u8]));
+//! ```
+//!
+//! No call keeps what it is lent. Calls may run at the same time; a judging call needs some 400 KB of stack, and a thread of Rust has 2 MB.
+
+#![deny(unsafe_code)]
+
+#[allow(unsafe_code)]
+pub mod raw;
+
+/// A file is at most so many bytes.
+pub const LIMIT: usize = 16_777_216;
+
+/// How many rules there are; they are numbered from 1.
+pub const RULES: u32 = 21;
+
+/// The first list that [`judge_all`] lends. Few files have more breaks, so few are judged twice.
+pub const FIRST_LIST: usize = 4_096;
+
+/// Why there is no answer. The calls try these in this order.
+#[derive(Clone, Copy, Debug, PartialEq, Eq)]
+pub enum Refusal {
+    /// The file is longer than [`LIMIT`].
+    TooLong,
+    /// The section is not 1 to 4.
+    NoSection,
+    /// The section has no such row.
+    NoRow,
+    /// The row has no such cell.
+    NoCell,
+}
+
+impl Refusal {
+    /// The number that the calls write.
+    pub fn number(self) -> u32 {
+        match self {
+            Refusal::TooLong => 1,
+            Refusal::NoSection => 2,
+            Refusal::NoRow => 3,
+            Refusal::NoCell => 4,
+        }
+    }
+}
+
+/// Nothing for the number 0, else the refusal. Another number is no answer of this library, so it was not linked.
+fn refused(number: u32) -> Result<(), Refusal> {
+    match number {
+        0 => Ok(()),
+        1 => Err(Refusal::TooLong),
+        2 => Err(Refusal::NoSection),
+        3 => Err(Refusal::NoRow),
+        4 => Err(Refusal::NoCell),
+        other => panic!("the library answered {other}, which mztab.h does not name: link the libcapi.a of this repository"),
+    }
+}
+
+/// A place where a file breaks a rule. Lines, cells and rules count from 1. The order is that of the list: line, cell, rule.
+#[derive(Clone, Copy, Debug, Default, PartialEq, Eq)]
+pub struct Break {
+    pub rule: u32,
+    pub line: u32,
+    pub cell: u32,
+}
+
+/// How many breaks a file has, and the first of them.
+#[derive(Clone, Debug, PartialEq, Eq)]
+pub struct Judged {
+    /// The count of all breaks, 0 for an accepted file.
+    pub count: u32,
+    places: Vec<u32>,
+}
+
+impl Judged {
+    /// The breaks that were listed: the first ones, or all.
+    pub fn breaks(&self) -> impl ExactSizeIterator<Item = Break> + '_ {
+        self.places.chunks_exact(3).map(|three| Break {
+            rule: three[0],
+            line: three[1],
+            cell: three[2],
+        })
+    }
+
+    /// How long a list is needed for the first `most` breaks, where this one is too short for them; else 0.
+    pub fn wanted(&self, most: usize) -> usize {
+        let wanted = most.min(self.count as usize);
+        if wanted > self.breaks().len() {
+            wanted
+        } else {
+            0
+        }
+    }
+}
+
+/// How many breaks the file has. Nothing is listed and nothing allocated.
+pub fn count(file: &[u8]) -> Result<u32, Refusal> {
+    let judged = raw::judge(file, &mut []);
+    refused(judged.number).map(|()| judged.count)
+}
+
+/// Judges a file and lists its first breaks, `most` of them or fewer.
+///
+/// The first list has [`FIRST_LIST`] breaks. Only where the file has more, and more are asked for, it is judged again, with a list that is
+/// as long as needed: a second judging costs less than room for the most that a file can have, some 50 million.
+pub fn judge(file: &[u8], most: usize) -> Result<Judged, Refusal> {
+    let judged = judge_once(file, most.min(FIRST_LIST))?;
+    match judged.wanted(most) {
+        0 => Ok(judged),
+        longer => judge_once(file, longer),
+    }
+}
+
+/// Judges a file and lists all its breaks.
+pub fn judge_all(file: &[u8]) -> Result<Judged, Refusal> {
+    judge(file, usize::MAX)
+}
+
+/// Judges a file in one call, with a list of this length.
+pub fn judge_once(file: &[u8], list: usize) -> Result<Judged, Refusal> {
+    let mut places = vec![0; list * 3];
+    let judged = raw::judge(file, &mut places);
+    refused(judged.number)?;
+    places.truncate(list.min(judged.count as usize) * 3);
+    Ok(Judged {
+        count: judged.count,
+        places,
+    })
+}
+
+/// Shows a cell as a part of the file. Sections: 1 protein, 2 peptide, 3 PSM, 4 small molecule. Row 0 is the section's first header, row r
+/// its r-th row. Column c is cell c + 1 of that line; column 0 is refused.
+pub fn cell(file: &[u8], section: u32, row: u32, column: u32) -> Result<&[u8], Refusal> {
+    let answer = raw::cell(file, section, row, column);
+    refused(answer.number)?;
+    let shown = answer
+        .start
+        .checked_add(answer.length)
+        .and_then(|end| file.get(answer.start..end));
+    Ok(shown.expect("the view lies in the file"))
+}
+
+/// Shows a cell, or the stand-in where the cell is `null`.
+pub fn cell_or<'a>(
+    file: &'a [u8],
+    section: u32,
+    row: u32,
+    column: u32,
+    stand_in: &'a [u8],
+) -> Result<&'a [u8], Refusal> {
+    match cell(file, section, row, column)? {
+        b"null" => Ok(stand_in),
+        shown => Ok(shown),
+    }
+}
+
+/// What a cell reads as.
+#[derive(Clone, Copy, Debug, PartialEq)]
+pub enum Value {
+    /// `null`
+    Missing,
+    Whole(i64),
+    /// Signed numerals, the places after the dot, and the numerals divided once by ten to the places.
+    Decimal {
+        numerals: i64,
+        places: u32,
+        double: f64,
+    },
+    /// `INF`
+    Infinite,
+    /// `NaN`
+    NotANumber,
+    /// More than 15 digits.
+    LongDecimal,
+    /// All else, an empty cell too.
+    Text,
+}
+
+/// A cell's line, its cell in that line, and what it reads as.
+#[derive(Clone, Copy, Debug, PartialEq)]
+pub struct Reading {
+    pub line: u32,
+    pub cell: u32,
+    pub value: Value,
+}
+
+/// Reads a cell, found as by [`cell`].
+pub fn reading(file: &[u8], section: u32, row: u32, column: u32) -> Result<Reading, Refusal> {
+    let answer = raw::reading(file, section, row, column);
+    refused(answer.number)?;
+    Ok(Reading {
+        line: answer.line,
+        cell: answer.cell,
+        value: value(&answer),
+    })
+}
+
+fn value(answer: &raw::Reading) -> Value {
+    match answer.case {
+        0 => Value::Missing,
+        1 => Value::Whole(answer.whole),
+        2 => Value::Decimal {
+            numerals: answer.whole,
+            places: answer.places,
+            double: answer.decimal,
+        },
+        3 => Value::Infinite,
+        4 => Value::NotANumber,
+        5 => Value::LongDecimal,
+        6 => Value::Text,
+        other => panic!("the library read a case {other}, which mztab.h does not name: link the libcapi.a of this repository"),
+    }
+}

@@ -1,0 +1,134 @@
+//! The calls of crates/capi/mztab.h: the one place where they are declared, and the one place that is unsafe.
+//! Each function here lends slices and plain places only, so whoever calls it can do nothing undefined.
+
+mod c {
+    extern "C" {
+        pub fn mztab_cell(
+            file: *const u8,
+            file_length: usize,
+            section: u32,
+            row: u32,
+            column: u32,
+            number: *mut u32,
+            length: *mut usize,
+        ) -> usize;
+
+        pub fn mztab_reading(
+            file: *const u8,
+            file_length: usize,
+            section: u32,
+            row: u32,
+            column: u32,
+            number: *mut u32,
+            line: *mut u32,
+            cell: *mut u32,
+            whole: *mut i64,
+            places: *mut u32,
+            decimal: *mut f64,
+        ) -> u32;
+
+        pub fn mztab_judge(
+            file: *const u8,
+            file_length: usize,
+            places: *mut u32,
+            places_length: usize,
+            number: *mut u32,
+        ) -> u32;
+    }
+}
+
+/// What `mztab_cell` writes and answers.
+#[derive(Clone, Copy, Debug, PartialEq, Eq)]
+pub struct Cell {
+    pub number: u32,
+    pub start: usize,
+    pub length: usize,
+}
+
+/// What `mztab_reading` writes and answers.
+#[derive(Clone, Copy, Debug)]
+pub struct Reading {
+    pub number: u32,
+    pub case: u32,
+    pub line: u32,
+    pub cell: u32,
+    pub whole: i64,
+    pub places: u32,
+    pub decimal: f64,
+}
+
+/// What `mztab_judge` writes beside the places, and answers.
+#[derive(Clone, Copy, Debug, PartialEq, Eq)]
+pub struct Judged {
+    pub number: u32,
+    pub count: u32,
+}
+
+/// Values that no call answers, so that a place which is not written shows.
+const UNSET: u32 = u32::MAX;
+
+pub fn cell(file: &[u8], section: u32, row: u32, column: u32) -> Cell {
+    let (mut number, mut length) = (UNSET, usize::MAX);
+    // A slice's pointer is not null, also where it is empty; the two places are our own.
+    let start = unsafe {
+        c::mztab_cell(
+            file.as_ptr(),
+            file.len(),
+            section,
+            row,
+            column,
+            &mut number,
+            &mut length,
+        )
+    };
+    Cell {
+        number,
+        start,
+        length,
+    }
+}
+
+pub fn reading(file: &[u8], section: u32, row: u32, column: u32) -> Reading {
+    let mut answer = Reading {
+        number: UNSET,
+        case: UNSET,
+        line: UNSET,
+        cell: UNSET,
+        whole: i64::MIN,
+        places: UNSET,
+        decimal: f64::NAN,
+    };
+    // As above; the six places are fields of one record, and no two of them overlap.
+    answer.case = unsafe {
+        c::mztab_reading(
+            file.as_ptr(),
+            file.len(),
+            section,
+            row,
+            column,
+            &mut answer.number,
+            &mut answer.line,
+            &mut answer.cell,
+            &mut answer.whole,
+            &mut answer.places,
+            &mut answer.decimal,
+        )
+    };
+    answer
+}
+
+/// Judges into plain places, three for each break: rule, line, cell.
+pub fn judge(file: &[u8], places: &mut [u32]) -> Judged {
+    let mut number = UNSET;
+    // As above; a slice that is lent to be written overlaps nothing else that is lent.
+    let count = unsafe {
+        c::mztab_judge(
+            file.as_ptr(),
+            file.len(),
+            places.as_mut_ptr(),
+            places.len(),
+            &mut number,
+        )
+    };
+    Judged { number, count }
+}

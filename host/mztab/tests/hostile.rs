@@ -1,0 +1,41 @@
+//! Hostile files of 16 MB, each on a thread with a stack of 2 MB: the count of breaks is right and no call needs more.
+
+use mztab::{cell, judge, reading, Refusal, LIMIT};
+use samples::{hostile, Hostile};
+
+const STACK: usize = 2 * 1024 * 1024;
+
+/// Every call once, as a host with small threads would.
+fn every_call(sample: &Hostile) {
+    let file = &sample.file;
+    let judged = judge(file, 1_000).expect(sample.name);
+    assert_eq!(judged.count, sample.breaks, "{}", sample.name);
+    assert_eq!(
+        judged.breaks().len(),
+        1_000.min(sample.breaks as usize),
+        "{}",
+        sample.name
+    );
+    let shown = cell(file, 1, 1, 1).map(|_| ());
+    assert_eq!(shown, reading(file, 1, 1, 1).map(|_| ()), "{}", sample.name);
+    assert_eq!(
+        cell(file, 4, u32::MAX, u32::MAX),
+        Err(Refusal::NoRow),
+        "{}",
+        sample.name
+    );
+}
+
+#[test]
+fn on_a_stack_of_two_megabytes() {
+    for sample in hostile(LIMIT) {
+        assert_eq!(sample.file.len(), LIMIT, "{}", sample.name);
+        let thread = std::thread::Builder::new().stack_size(STACK);
+        let name = sample.name;
+        let ended = thread
+            .spawn(move || every_call(&sample))
+            .expect("a thread")
+            .join();
+        assert!(ended.is_ok(), "{name}");
+    }
+}

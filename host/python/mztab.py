@@ -1,0 +1,183 @@
+"""The verified reader of mzTab 1.0 files, for Python.
+
+    import mztab
+    data = open("yeast.mztab", "rb").read()
+    for fault in mztab.judge(data):
+        print(fault.line, fault.cell, fault.rule)
+    print(mztab.cell(data, mztab.PROTEIN, 1, 2, stand_in=b"-"))
+    print(mztab.reading(data, mztab.PROTEIN, 2, 5).value)
+
+It needs the standard library alone, and target/libmztab.so, which ./build makes; MZTAB_LIBRARY names it where it stands elsewhere. Files are bytes of
+at most 16,777,216. Calls may run at the same time: no call keeps what it is lent, and the interpreter's lock is free while one runs.
+"""
+
+import ctypes
+import os
+import pathlib
+from typing import List, NamedTuple, Optional, Union
+
+LIMIT = 16_777_216
+PROTEIN, PEPTIDE, PSM, SMALL_MOLECULE = 1, 2, 3, 4
+
+_U32_MAX = 0xFFFFFFFF
+# The first list has room for so many breaks; only a file with more is judged twice.
+_FIRST_LIST = 4096
+
+
+class Refusal(Exception):
+    """There is no answer; `number` is 1 to 4 and says why."""
+
+    number = 0
+
+
+class TooLong(Refusal):
+    """The file is longer than 16,777,216 bytes."""
+
+    number = 1
+
+
+class NoSection(Refusal):
+    """The section is not 1 to 4."""
+
+    number = 2
+
+
+class NoRow(Refusal):
+    """The section has no such row."""
+
+    number = 3
+
+
+class NoCell(Refusal):
+    """The row has no such cell."""
+
+    number = 4
+
+
+class Break(NamedTuple):
+    """A place where a file breaks a rule. Lines and cells count from 1; cell 1 is the line code."""
+
+    line: int
+    cell: int
+    rule: int
+
+
+class Reading(NamedTuple):
+    """What a cell reads as, and where it stands.
+
+    `case` is one of "missing", "whole", "decimal", "infinite", "not a number", "long decimal", "text". `value` is an int for a whole, a float for a
+    decimal, an infinite and a not a number, else None. Of a decimal `numerals` and `places` are exact: its value is numerals / 10 ** places.
+    """
+
+    line: int
+    cell: int
+    case: str
+    value: Union[int, float, None]
+    numerals: Optional[int] = None
+    places: Optional[int] = None
+
+
+_CASES = ("missing", "whole", "decimal", "infinite", "not a number", "long decimal", "text")
+_REFUSALS = {kind.number: kind for kind in (TooLong, NoSection, NoRow, NoCell)}
+
+
+def _load():
+    """The shared library, with the types of crates/capi/mztab.h."""
+    usual = pathlib.Path(__file__).resolve().parents[2] / "target" / "libmztab.so"
+    path = os.environ.get("MZTAB_LIBRARY") or str(usual)
+    try:
+        library = ctypes.CDLL(path)
+    except OSError as error:
+        raise ImportError(f"{path} cannot be loaded ({error}): run ./build, or name the library in MZTAB_LIBRARY") from error
+    size, u32 = ctypes.c_size_t, ctypes.c_uint32
+    u32_place = ctypes.POINTER(u32)
+    file, asked = [ctypes.c_char_p, size], [u32, u32, u32]
+    library.mztab_cell.argtypes = file + asked + [u32_place, ctypes.POINTER(size)]
+    library.mztab_cell.restype = size
+    library.mztab_reading.argtypes = (
+        file + asked + [u32_place] * 3 + [ctypes.POINTER(ctypes.c_int64), u32_place, ctypes.POINTER(ctypes.c_double)]
+    )
+    library.mztab_reading.restype = u32
+    library.mztab_judge.argtypes = file + [u32_place, size, u32_place]
+    library.mztab_judge.restype = u32
+    return library
+
+
+_library = _load()
+
+
+def _bytes(data) -> bytes:
+    """The file as bytes that do not change during a call."""
+    if isinstance(data, str):
+        raise TypeError("a file is bytes: open it with mode 'rb'")
+    return bytes(data)
+
+
+def _asked(*numbers: int):
+    """Section, row and column as the library takes them. A larger number than it takes names nothing, and so does its largest."""
+    for number in numbers:
+        if number < 0:
+            raise ValueError("sections, rows and columns are not negative")
+    return [min(number, _U32_MAX) for number in numbers]
+
+
+def _refuse(number: int) -> None:
+    if number:
+        kind = _REFUSALS[number]
+        raise kind(kind.__doc__)
+
+
+def count(data: bytes) -> int:
+    """How many breaks the file has, 0 for an accepted one. Raises TooLong."""
+    return _judge(_bytes(data), 0)[0]
+
+
+def judge(data: bytes, most: Optional[int] = None) -> List[Break]:
+    """The breaks of a file, none for an accepted one: all of them, or the first `most`. By line, then cell, then rule. Raises TooLong."""
+    data = _bytes(data)
+    room = _FIRST_LIST if most is None else min(most, _FIRST_LIST)
+    found, places = _judge(data, room)
+    wanted = found if most is None else min(most, found)
+    if wanted > room:
+        found, places = _judge(data, wanted)
+    return [Break(places[k + 1], places[k + 2], places[k]) for k in range(0, 3 * wanted, 3)]
+
+
+def _judge(data: bytes, room: int):
+    """The count of all breaks, and a list with room for some of them."""
+    # A list of no length would have no address of its own, so one place more is made than is lent.
+    places = (ctypes.c_uint32 * (3 * room + 1))()
+    number = ctypes.c_uint32()
+    found = _library.mztab_judge(data, len(data), places, 3 * room, number)
+    _refuse(number.value)
+    return found, places
+
+
+def cell(data: bytes, section: int, row: int, column: int, stand_in: Optional[bytes] = None) -> bytes:
+    """A cell as the bytes that stand there, or the stand-in where it is `null` and one is given.
+
+    Row 0 is the section's first header, row r its r-th row. Column c is cell c + 1 of the line; column 0 is refused. Raises TooLong, NoSection,
+    NoRow, NoCell, in this order.
+    """
+    data = _bytes(data)
+    number, length = ctypes.c_uint32(), ctypes.c_size_t()
+    start = _library.mztab_cell(data, len(data), *_asked(section, row, column), number, length)
+    _refuse(number.value)
+    shown = data[start : start + length.value]
+    return stand_in if stand_in is not None and shown == b"null" else shown
+
+
+def reading(data: bytes, section: int, row: int, column: int) -> Reading:
+    """What a cell, found as by `cell`, reads as. Raises as `cell` does."""
+    data = _bytes(data)
+    number, line, at, places = (ctypes.c_uint32() for _ in range(4))
+    whole, decimal = ctypes.c_int64(), ctypes.c_double()
+    case = _library.mztab_reading(data, len(data), *_asked(section, row, column), number, line, at, whole, places, decimal)
+    _refuse(number.value)
+    word = _CASES[case]
+    if word == "whole":
+        return Reading(line.value, at.value, word, whole.value)
+    if word == "decimal":
+        return Reading(line.value, at.value, word, decimal.value, whole.value, places.value)
+    value = {"infinite": float("inf"), "not a number": float("nan")}.get(word)
+    return Reading(line.value, at.value, word, value)

@@ -1,0 +1,11 @@
+//! Files for tests and measurements, the same on every run.
+
+#![forbid(unsafe_code)]
+
+mod draws;
+mod hostile;
+mod ordinary;
+
+pub use draws::Draws;
+pub use hostile::{hostile, Hostile};
+pub use ordinary::ordinary;
