@@ -1,7 +1,7 @@
 //! One file, judged and read by both.
 
 use independent::Reading;
-use mztab::{raw, Value};
+use mztab::{raw, Break, Value};
 use samples::Draws;
 
 /// What a place holds that no break fills.
@@ -98,17 +98,44 @@ fn with_list(file: &[u8], expected: &[u32], length: usize) -> Result<(), String>
             &places[filled..]
         ));
     }
-    Ok(())
+    with_records(file, expected, length)
+}
+
+/// The same over records, of which as many are lent as the list has places: marked, so that each that no break fills is seen to stay.
+fn with_records(file: &[u8], expected: &[u32], length: usize) -> Result<(), String> {
+    let marked = Break {
+        rule: MARK,
+        line: MARK,
+        cell: MARK,
+    };
+    let mut list = vec![marked; length].into_boxed_slice();
+    let answer = raw::faults(file, &mut list);
+    let wanted = expected.chunks_exact(3).map(|three| Break {
+        rule: three[0],
+        line: three[1],
+        cell: three[2],
+    });
+    let as_wanted = list
+        .iter()
+        .copied()
+        .eq(wanted.chain(std::iter::repeat(marked)).take(length));
+    if answer.number == 0 && answer.count as usize * 3 == expected.len() && as_wanted {
+        return Ok(());
+    }
+    Err(format!("a list of {length} records: the library answers {answer:?}, {list:?}; the independent reading {expected:?} (rule, line, cell)"))
 }
 
 fn too_long(file: &[u8]) -> Result<(), String> {
     let mut places = [MARK; 30];
     let answer = raw::judge(file, &mut places);
-    if (answer.number, answer.count) == (1, 0) && places == [MARK; 30] {
+    let mut list = [Break::default(); 5];
+    let records = raw::faults(file, &mut list);
+    let refused = (answer.number, answer.count) == (1, 0) && answer == records;
+    if refused && places == [MARK; 30] && list == [Break::default(); 5] {
         return Ok(());
     }
     Err(format!(
-        "a file too long: the library answers {answer:?}, places {places:?}"
+        "a file too long: the library answers {answer:?}, places {places:?}; {records:?}, records {list:?}"
     ))
 }
 

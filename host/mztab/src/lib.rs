@@ -9,7 +9,7 @@
 //! assert_eq!(mztab::cell(file, 4, 1, 2), Ok(b"2+" as &[u8]));
 //! ```
 //!
-//! No call keeps what it is lent. Calls may run at the same time; a judging call needs some 400 KB of stack, and a thread of Rust has 2 MB.
+//! No call keeps what it is lent. Calls may run at the same time; a judging call needs some 500 KB of stack, and a thread of Rust has 2 MB.
 
 #![deny(unsafe_code)]
 
@@ -62,36 +62,26 @@ fn refused(number: u32) -> Result<(), Refusal> {
     }
 }
 
-/// A place where a file breaks a rule. Lines, cells and rules count from 1. The order is that of the list: line, cell, rule.
-#[derive(Clone, Copy, Debug, Default, PartialEq, Eq)]
-pub struct Break {
-    pub rule: u32,
-    pub line: u32,
-    pub cell: u32,
-}
+pub use raw::Break;
 
 /// How many breaks a file has, and the first of them.
 #[derive(Clone, Debug, PartialEq, Eq)]
 pub struct Judged {
     /// The count of all breaks, 0 for an accepted file.
     pub count: u32,
-    places: Vec<u32>,
+    breaks: Vec<Break>,
 }
 
 impl Judged {
     /// The breaks that were listed: the first ones, or all.
     pub fn breaks(&self) -> impl ExactSizeIterator<Item = Break> + '_ {
-        self.places.chunks_exact(3).map(|three| Break {
-            rule: three[0],
-            line: three[1],
-            cell: three[2],
-        })
+        self.breaks.iter().copied()
     }
 
     /// How long a list is needed for the first `most` breaks, where this one is too short for them; else 0.
     pub fn wanted(&self, most: usize) -> usize {
         let wanted = most.min(self.count as usize);
-        if wanted > self.breaks().len() {
+        if wanted > self.breaks.len() {
             wanted
         } else {
             0
@@ -101,7 +91,7 @@ impl Judged {
 
 /// How many breaks the file has. Nothing is listed and nothing allocated.
 pub fn count(file: &[u8]) -> Result<u32, Refusal> {
-    let judged = raw::judge(file, &mut []);
+    let judged = raw::faults(file, &mut []);
     refused(judged.number).map(|()| judged.count)
 }
 
@@ -124,13 +114,13 @@ pub fn judge_all(file: &[u8]) -> Result<Judged, Refusal> {
 
 /// Judges a file in one call, with a list of this length.
 pub fn judge_once(file: &[u8], list: usize) -> Result<Judged, Refusal> {
-    let mut places = vec![0; list * 3];
-    let judged = raw::judge(file, &mut places);
+    let mut breaks = vec![Break::default(); list];
+    let judged = raw::faults(file, &mut breaks);
     refused(judged.number)?;
-    places.truncate(list.min(judged.count as usize) * 3);
+    breaks.truncate(judged.count as usize);
     Ok(Judged {
         count: judged.count,
-        places,
+        breaks,
     })
 }
 

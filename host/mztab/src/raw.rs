@@ -34,7 +34,24 @@ mod c {
             places_length: usize,
             number: *mut u32,
         ) -> u32;
+
+        pub fn mztab_faults(
+            file: *const u8,
+            file_length: usize,
+            faults: *mut super::Break,
+            faults_length: usize,
+            number: *mut u32,
+        ) -> u32;
     }
+}
+
+/// A place where a file breaks a rule, laid out as `struct mztab_fault`. Lines, cells and rules count from 1.
+#[repr(C)]
+#[derive(Clone, Copy, Debug, Default, PartialEq, Eq)]
+pub struct Break {
+    pub rule: u32,
+    pub line: u32,
+    pub cell: u32,
 }
 
 /// What `mztab_cell` writes and answers.
@@ -57,7 +74,7 @@ pub struct Reading {
     pub decimal: f64,
 }
 
-/// What `mztab_judge` writes beside the places, and answers.
+/// What `mztab_judge` and `mztab_faults` write beside the list, and answer.
 #[derive(Clone, Copy, Debug, PartialEq, Eq)]
 pub struct Judged {
     pub number: u32,
@@ -127,6 +144,22 @@ pub fn judge(file: &[u8], places: &mut [u32]) -> Judged {
             file.len(),
             places.as_mut_ptr(),
             places.len(),
+            &mut number,
+        )
+    };
+    Judged { number, count }
+}
+
+/// Judges into records, one for each break.
+pub fn faults(file: &[u8], list: &mut [Break]) -> Judged {
+    let mut number = UNSET;
+    // As above; a record is three numbers in the order that C declares, and any numbers make one.
+    let count = unsafe {
+        c::mztab_faults(
+            file.as_ptr(),
+            file.len(),
+            list.as_mut_ptr(),
+            list.len(),
             &mut number,
         )
     };
