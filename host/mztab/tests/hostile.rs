@@ -1,9 +1,18 @@
-//! Hostile files of 16 MB, each on a thread with a stack of 2 MB: the count of breaks is right and no call needs more.
+//! Hostile files of 16 MB, each on a thread with a stack of 2 MB: the count of breaks is right and no call needs more. Under an emulator, which is slow,
+//! they are of 1 MB.
 
 use mztab::{cell, judge, reading, Refusal, LIMIT};
 use samples::{hostile, Hostile};
 
 const STACK: usize = 2 * 1024 * 1024;
+
+/// The bytes of a file. `host/machine` names the emulator where there is one.
+fn bytes() -> usize {
+    match std::env::var("BOLFRAKE_RUNNER") {
+        Ok(runner) if !runner.is_empty() => LIMIT / 16,
+        _ => LIMIT,
+    }
+}
 
 /// Every call once, as a host with small threads would.
 fn every_call(sample: &Hostile) {
@@ -28,8 +37,8 @@ fn every_call(sample: &Hostile) {
 
 #[test]
 fn on_a_stack_of_two_megabytes() {
-    for sample in hostile(LIMIT) {
-        assert_eq!(sample.file.len(), LIMIT, "{}", sample.name);
+    for sample in hostile(bytes()) {
+        assert_eq!(sample.file.len(), bytes(), "{}", sample.name);
         let thread = std::thread::Builder::new().stack_size(STACK);
         let name = sample.name;
         let ended = thread
