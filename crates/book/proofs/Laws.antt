@@ -3,7 +3,5 @@ pub mod Turns
 pub mod Whole
 pub mod Known
 pub mod Apart
-pub mod Words
-pub mod Marks
+pub mod Opt
 pub mod Lengths
-pub mod Letters

@@ -2,21 +2,14 @@
 use Prim.Native.Nat.{ℕ}
 use Prim.Native.String.{String}
 use mathlib.Core.Path.{_≡_, refl}
-use mathlib.Core.Bool.{true, false}
 use mathlib.Core.List.{[], _∷_, map}
-use Rattle.text.specs.Bytes.{bytes, same, begins, isEmpty, any, onFirst, splitOn}
-use Rattle.text.specs.Lines.{startsLf, lines, coded}
-use Rattle.kinds.specs.Index.{written, digits, number, bracketed, indexAt}
-use Rattle.kinds.specs.Values.{isText, isNull}
-use Rattle.kinds.specs.References.{refTo}
+use Rattle.text.specs.Bytes.{bytes, begins}
+use Rattle.references.specs.Index.{digits, number, bracketed, indexAt}
 use Rattle.book.specs.Names.{piecesFrom, entryOf, fits, firstOf}
 use Rattle.book.specs.Keys.{keys, keyEntries, keyOf}
 use Rattle.book.specs.Columns.{proteinColumns, peptideColumns, psmColumns, moleculeColumns, columns, required, columnEntries, isOpt, optOf, columnOf}
-use Rattle.book.specs.Ids.{isMeta, declares, declared, indexAfter, idIn, idOf}
-use Rattle.book.specs.Values.{familyNumber, isKept, isFixed, ofKind, cellOfKind}
 use Rattle.book.specs.declared.names.Found.{Found}
 use Rattle.book.specs.declared.names.Found.the-variants.{Unknown, Known}
-use Rattle.book.specs.declared.ids.Id.the-variants.{Nothing, Of}
 
 abbrev key : String → Found
 key name = keyOf (bytes name)
@@ -58,25 +51,3 @@ required-known : (map (λ r. entryNumber (column 1 r)) (required 1) ≡ 0 ∷ 1 
     × (map (λ r. entryNumber (column 3 r)) (required 3) ≡ 5 ∷ 6 ∷ 0 ∷ 12 ∷ 7 ∷ []) × (map (λ r. entryNumber (column 4 r)) (required 4) ≡ 7 ∷ 13 ∷ [])
 unfolding required columnOf columnEntries columns proteinColumns peptideColumns psmColumns moleculeColumns isOpt begins bytes entryOf piecesFrom firstOf fits indexAt bracketed digits number
 required-known = (refl, refl, refl, refl)
-
--- P: `assay[64]` an id, `assay[65]`, `assay[01]`, `assay[0]` not, as a single statement
-pub ids : (idOf (bytes "assay[64]") ≡ Of 1 64) × (idOf (bytes "assay[65]") ≡ Nothing) × (idOf (bytes "assay[01]") ≡ Nothing) × (idOf (bytes "assay[0]") ≡ Nothing)
-unfolding idOf idIn indexAfter begins bytes indexAt bracketed digits number
-ids = (refl, refl, refl, refl)
-
--- a line of three cells with a known key declares; one of two cells, with an unknown key or another code does not
-lines-declare : (declares 3 1 (bytes "MTD\tms_run[1]-location\tx") ≡ true) × (declares 3 1 (bytes "MTD\tms_run[1]-location") ≡ false)
-    × (declares 3 1 (bytes "MTD\tms_run[1]-place\tx") ≡ false) × (declares 3 1 (bytes "COM\tms_run[1]-location\tx") ≡ false) × (declares 3 2 (bytes "MTD\tms_run[1]-location\tx") ≡ false)
-unfolding declares isMeta coded same splitOn onFirst begins written keyOf keyEntries keys bytes entryOf piecesFrom firstOf fits indexAt bracketed digits number
-lines-declare = (refl, refl, refl, refl, refl)
-
--- early or late: the sample is declared after the assay that refers to it
-later-declared : declared (bytes "MTD\tassay[1]-sample_ref\tsample[2]\nMTD\tsample[2]-description\tx") 0 2 ≡ true
-unfolding declared any lines startsLf declares isMeta coded same splitOn onFirst begins written keyOf keyEntries keys bytes entryOf piecesFrom firstOf fits indexAt bracketed digits number
-later-declared = refl
-
--- values: a reference to a sample, a version, and `null`, which stands for missing save in a column that is never null
-values-kind : (ofKind 114 83 (bytes "sample[3]") ≡ true) × (ofKind 114 83 (bytes "assay[3]") ≡ false) × (ofKind 118 45 (bytes "1.0.0") ≡ true) × (ofKind 118 45 (bytes "1.1") ≡ false)
-    × (cellOfKind 87 (bytes "null") ≡ true) × (cellOfKind 75 (bytes "null") ≡ false) × (cellOfKind 82 (bytes "4") ≡ false)
-unfolding ofKind cellOfKind familyNumber isKept isFixed refTo same begins bytes indexAt bracketed digits number isNull isText isEmpty
-values-kind = (refl, refl, refl, refl, refl, refl, refl)

@@ -3,6 +3,4 @@ pub mod Names
 pub mod Keys
 pub mod Columns
 pub mod Rows
-pub mod Ids
-pub mod Values
 pub mod Cases

@@ -5,17 +5,14 @@ use mathlib.Core.List.{List, [], _∷_, _++_}
 use lib.Dec.{eqb}
 use lib.ListN.{getD, drop}
 use Prim.Native.String.{String}
-use Rattle.text.specs.Bytes.{Bytes, bytes}
-use Rattle.kinds.specs.Index.{written, indexAt}
-use Rattle.kinds.specs.declared.index.Index.{Index}
-use Rattle.kinds.specs.declared.index.Index.the-variants.{Not, Is}
+use Rattle.text.specs.Bytes.{Bytes, SPACE, bytes}
+use Rattle.references.specs.Index.{written, indexAt}
+use Rattle.references.specs.declared.index.Index.{Index}
+use Rattle.references.specs.declared.index.Index.the-variants.{Not, Is}
 use Rattle.book.specs.declared.names.Match.{Match}
 use Rattle.book.specs.declared.names.Match.the-variants.{Differs, Fits}
 use Rattle.book.specs.declared.names.Found.{Found}
 use Rattle.book.specs.declared.names.Found.the-variants.{Unknown, Known}
-
-abbrev pub SPACE : ℕ
-SPACE = 32
 
 -- `[`
 abbrev pub OPEN : ℕ
@@ -84,6 +81,11 @@ isFit (Fits i j) = true
 -- whether a name is one that a pattern stands for
 unfoldable pub named : String → Bytes → Bool
 named pattern name = isFit (fits (pieces (bytes pattern)) name 0 0)
+
+-- whether a table has a name
+abbrev pub isKnown : Found → Bool
+isKnown Unknown = false
+isKnown (Known e k f i j) = true
 
 abbrev pub onMatch : Match → Found → (ℕ → ℕ → Found) → Found
 onMatch Differs d f = d

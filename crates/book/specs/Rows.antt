@@ -4,9 +4,9 @@ use mathlib.Core.Path.{_≡_}
 use mathlib.Core.List.{List, [], _∷_, _++_, map}
 use lib.ListN.{length, take, drop}
 use Prim.Native.String.{String}
-use Rattle.text.specs.Bytes.{Bytes, bytes}
+use Rattle.text.specs.Bytes.{Bytes, bytes, SPACE}
 use Rattle.text.specs.Places.{part}
-use Rattle.book.specs.Names.{Entry, entryOf, SPACE}
+use Rattle.book.specs.Names.{Entry, entryOf}
 use Rattle.book.specs.Keys.{keys, keyEntries}
 use Rattle.book.specs.Columns.{proteinColumns, peptideColumns, psmColumns, moleculeColumns, columnEntries, bySection}
 

@@ -1,6 +1,7 @@
 // A name looked up in a table of rows.
-use kinds::index::Index;
-use kinds::index::read_index;
+use references::index::Index;
+use references::index::read_index;
+use text::bytes::SPACE;
 use text::bytes::begins_with;
 ghost use mathlib.Core.Path.{_≡_};
 ghost use mathlib.Core.List.{[]};
@@ -9,7 +10,8 @@ ghost use Prim.Native.Nat.{_≤_};
 ghost use lib.ListN.{length, getD, drop};
 ghost use Rattle.book.specs.Keys.{isColunit};
 ghost use Rattle.book.specs.Columns.{isOpt};
-ghost use Rattle.book.specs.Names.{pieces, fits as fitsIn, lookupIn, mayFit, SPACE as space};
+ghost use Rattle.text.specs.Bytes.{SPACE as space};
+ghost use Rattle.book.specs.Names.{pieces, fits as fitsIn, lookupIn, mayFit};
 ghost use Rattle.book.specs.Rows.{entries};
 ghost use Rattle.book.specs.declared.names.Match.the-variants.{Differs};
 
@@ -18,8 +20,6 @@ pub const WIDTH: usize = 54;
 
 // Where the name begins in a row: after the letters of its kind and family, and a space.
 const NAME: usize = 3;
-
-const SPACE: u8 = 32;
 
 // Whether a name fits a pattern, with the indices that it has there, 0 for none.
 pub enum Match {

@@ -1,10 +1,10 @@
 // Shows what the book says of names: standard input has a name on each line that LF ends. For each it prints six fields: what the name is as a key and as
 // a column of the four sections (the letters of its kind and family, and its two indices), and the id that it declares as a key; `-` where it is none.
-use book::ids::Id;
-use book::ids::key_id;
 use book::names::Found;
 use book::tables::column;
 use book::tables::key;
+use ids::Id;
+use ids::key_id;
 use text::bytes::seek;
 use text::lines::LF;
 ghost use Prim.Native.Nat.{_≤_};

@@ -5,18 +5,18 @@ use mathlib.Core.List.{List, [], _∷_, _++_}
 use Prim.Native.Nat.{ℕ}
 use lib.Dec.{eqb}
 use Rattle.kinds.specs.Cases.{Case, isA, agrees, cases}
-use Rattle.text.specs.Bytes.{Bytes, bytes, same, begins, isEmpty, any, all, onFirst, splitOn}
+use Rattle.text.specs.Bytes.{Bytes, bytes, same, begins, isEmpty, any, all, onFirst, splitOn, isSpace}
 use Rattle.text.specs.Lines.{lines, startsLf, coded, control, firstControl}
 use Rattle.text.specs.Codes.{headerCode, rowCode}
-use Rattle.kinds.specs.Index.{written, digits, number, bracketed, indexAt}
-use Rattle.kinds.specs.Values.{areDigits, unsigned, dotted, isText, isWhole, isNumeral, isDecimal, isDecimals, isWindow, isNull}
-use Rattle.kinds.specs.Parameters.{quotedAfter, cut, isSpace, hasFields, isParameter, isParameters}
+use Rattle.references.specs.Index.{written, digits, number, bracketed, indexAt}
+use Rattle.values.specs.Values.{areDigits, unsigned, dotted, isText, isWhole, isNumeral, isDecimal, isDecimals, isWindow, isNull}
+use Rattle.parameters.specs.Parameters.{quotedAfter, cut, hasFields, isParameter, isParameters}
 use Rattle.book.specs.Names.{piecesFrom, entryOf, fits, firstOf}
 use Rattle.book.specs.Keys.{keys, demanded, keyEntries, keyOf, isColunit}
 use Rattle.book.specs.Columns.{proteinColumns, peptideColumns, psmColumns, moleculeColumns, columns, required, columnEntries, isOpt, optOf, columnOf}
-use Rattle.book.specs.Ids.{isMeta, declares}
-use Rattle.kinds.specs.References.{refTo, trimmed, refsTo, isReferences}
-use Rattle.book.specs.Values.{familyNumber, isKept, isFixed, ofKind, cellOfKind}
+use Rattle.ids.specs.Ids.{isMeta, declares}
+use Rattle.references.specs.References.{refTo, trimmed, refsTo, isReferences}
+use Rattle.kinds.specs.Kinds.{familyNumber, isKept, isFixed, ofKind, cellOfKind}
 use Rattle.breaks.specs.Sorts.{cell, rowSection, headerSection, codeSort, sortOf}
 use Rattle.breaks.specs.Breaks.{Break, breakAt, each, atCell, atLine, inLines, atEnd}
 use Rattle.breaks.specs.Rules.{sameKey, namedIn, isUndeclared, lacksColumn, nearestIn, rules, hasKey, endRules, breaks}

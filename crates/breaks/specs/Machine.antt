@@ -8,11 +8,11 @@ use lib.ListN.{length, getD, take, drop}
 use lib.Dec.{eqb, leb, ltb}
 use Rattle.text.specs.Bytes.{Bytes, same, isEmpty, any}
 use Rattle.book.specs.Book.{NONE}
-use Rattle.book.specs.Names.{slotOf}
+use Rattle.book.specs.Names.{slotOf, isKnown}
 use Rattle.book.specs.Keys.{keyOf, isColunit}
 use Rattle.book.specs.Columns.{columnOf, isOpt}
-use Rattle.book.specs.Ids.{isKnown, declares}
-use Rattle.book.specs.Values.{ofKind, cellOfKind, familyNumber}
+use Rattle.ids.specs.Ids.{declares}
+use Rattle.kinds.specs.Kinds.{ofKind, cellOfKind, familyNumber}
 use Rattle.book.specs.declared.names.Found.{Found}
 use Rattle.book.specs.declared.names.Found.the-variants.{Unknown, Known}
 use Rattle.breaks.specs.Sorts.{header, isMeta, width}

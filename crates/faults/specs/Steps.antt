@@ -8,7 +8,7 @@ use lib.Seq.{sets}
 use lib.Dec.{ltb}
 use Rattle.text.specs.Bytes.{Bytes}
 use Rattle.text.specs.Lines.{LIMIT}
-use Rattle.book.specs.Ids.{Declared}
+use Rattle.ids.specs.Ids.{Declared}
 use Rattle.breaks.specs.Breaks.{Break}
 use Rattle.breaks.specs.Rules.{breaks}
 use Rattle.breaks.specs.Machine.{SLOTS}

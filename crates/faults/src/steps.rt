@@ -1,6 +1,6 @@
 // The steps from part to part: each judges as many lines as a part has room for.
-use book::ids::declared_ids;
 use book::tables::book;
+use ids::declared_ids;
 use judging::parts::Stand;
 use judging::parts::beginning;
 use judging::parts::judge_part;

@@ -8,8 +8,8 @@ use lib.Dec.{eqb}
 use Rattle.text.specs.Bytes.{Bytes, same, any}
 use Rattle.text.specs.Lines.{cells}
 use Rattle.book.specs.Book.{NONE}
-use Rattle.book.specs.Ids.{isKnown}
-use Rattle.book.specs.Values.{familyNumber}
+use Rattle.book.specs.Names.{isKnown}
+use Rattle.kinds.specs.Kinds.{familyNumber}
 use Rattle.book.specs.declared.names.Found.{Found}
 use Rattle.book.specs.declared.names.Found.the-variants.{Unknown, Known}
 use Rattle.breaks.specs.Breaks.{Break, breakAt, when}

@@ -17,7 +17,7 @@ ghost use Rattle.text.specs.Lines.{LIMIT};
 ghost use Rattle.breaks.specs.Sorts.{controlCell};
 ghost use Rattle.breaks.specs.Places.{lent, Puts};
 ghost use Rattle.book.specs.Rows.{IsBook};
-ghost use Rattle.book.specs.Ids.{Flags};
+ghost use Rattle.ids.specs.Ids.{Flags};
 ghost use Rattle.breaks.specs.Machine.{SLOTS, idsOf, unknownBreaks};
 ghost use Rattle.breaks.specs.Carried.{lineBreaks, Follows};
 

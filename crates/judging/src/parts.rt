@@ -10,7 +10,7 @@ ghost use Prim.Native.Nat.{_≤_};
 ghost use lib.ListN.{length};
 ghost use Rattle.text.specs.Lines.{LIMIT};
 ghost use Rattle.book.specs.Rows.{IsBook};
-ghost use Rattle.book.specs.Ids.{Declared};
+ghost use Rattle.ids.specs.Ids.{Declared};
 ghost use Rattle.breaks.specs.Machine.{SLOTS};
 ghost use Rattle.judging.specs.Parts.{beginning as first, Midway, Parts};
 

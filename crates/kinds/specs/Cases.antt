@@ -1,16 +1,13 @@
--- The paper's cases of the kinds, as one statement over one list. A floor above appends its own cases and states the whole again. Assumes nothing.
+-- The paper's cases of the kinds, as one statement over one list, to which a floor above appends its own; and values by the letters of their kinds. Assumes nothing.
 use mathlib.Core.Path.{_≡_, refl}
 use mathlib.Core.Bool.{Bool, true, false, Bool·beq}
-use mathlib.Core.List.{List, [], _∷_, map}
-use Prim.Native.Nat.{ℕ}
-use lib.IntN.{ℤ, pos, negsuc}
-use lib.Ieee.{binary64, ofInt, div, neg, ofBits, toBits, round, units, odd, size, span, climb}
-use Rattle.text.specs.Bytes.{Bytes, bytes, same, begins, isEmpty, all, onFirst, splitOn}
-use Rattle.kinds.specs.Index.{digits, number, bracketed, indexAt}
-use Rattle.kinds.specs.Values.{areDigits, unsigned, dotted, isNumeral, isWhole, isDecimal, isDecimals, isWindow, isNull}
-use Rattle.kinds.specs.Parameters.{quotedAfter, cut, isSpace, hasFields, isParameter}
-use Rattle.kinds.specs.Reading.{hasMinus, decimalOf, isShort, valueOf, numberOf, wholeOf, placesOf, doubleOf}
-use Rattle.kinds.specs.References.{family, refTo, isIndex}
+use mathlib.Core.List.{List, [], _∷_}
+use Rattle.text.specs.Bytes.{Bytes, bytes, same, begins, isEmpty, all, onFirst, splitOn, isSpace}
+use Rattle.references.specs.Index.{digits, number, bracketed, indexAt}
+use Rattle.values.specs.Values.{areDigits, unsigned, dotted, isNumeral, isText, isWhole, isDecimal, isDecimals, isWindow, isNull}
+use Rattle.parameters.specs.Parameters.{quotedAfter, cut, hasFields, isParameter}
+use Rattle.references.specs.References.{family, refTo, isIndex}
+use Rattle.kinds.specs.Kinds.{familyNumber, isKept, isFixed, ofKind, cellOfKind}
 
 -- a test, the bytes that it is put to, and the answer
 pub record Case : Type 0 where
@@ -55,21 +52,8 @@ pub all-hold : all agrees cases ≡ true
 unfolding cases all bytes same begins isEmpty onFirst splitOn digits number bracketed indexAt areDigits unsigned dotted isNumeral isWhole isDecimal isDecimals isWindow quotedAfter cut isSpace hasFields isParameter refTo
 all-hold = refl
 
--- Readings, worked: the number of the case, the whole or the numerals, the places, and the bits of the double
-abbrev told : Bytes → ℕ × ℤ × ℕ × ℕ
-told b = let v = valueOf b in (numberOf v, wholeOf v, placesOf v, toBits binary64 (doubleOf v))
-
-readings : map told (bytes "null" ∷ bytes "-012" ∷ bytes "-0.0" ∷ bytes "1123.2" ∷ bytes "-123456789012.345" ∷ bytes "INF" ∷ bytes "NaN" ∷ bytes "1234567890.123456" ∷ bytes "NA" ∷ bytes "" ∷ []) ≡
-    (0, pos 0, 0, 0)
-    ∷ (1, negsuc 11, 0, 0)
-    ∷ (2, pos 0, 1, 9223372036854775808)
-    ∷ (2, pos 11232, 1, 4652654701287623885)
-    ∷ (2, negsuc 123456789012344, 3, 13996271306737473618)
-    ∷ (3, pos 0, 0, 0)
-    ∷ (4, pos 0, 0, 0)
-    ∷ (5, pos 0, 0, 0)
-    ∷ (6, pos 0, 0, 0)
-    ∷ (6, pos 0, 0, 0)
-    ∷ []
-unfolding valueOf hasMinus decimalOf isShort bytes same isNull isEmpty all onFirst splitOn number areDigits unsigned dotted isNumeral isWhole ofInt div neg toBits round units odd size span climb ofBits
-readings = refl
+-- values: a reference to a sample, a version, and `null`, which stands for missing save in a column that is never null
+values-kind : (ofKind 114 83 (bytes "sample[3]") ≡ true) × (ofKind 114 83 (bytes "assay[3]") ≡ false) × (ofKind 118 45 (bytes "1.0.0") ≡ true) × (ofKind 118 45 (bytes "1.1") ≡ false)
+    × (cellOfKind 87 (bytes "null") ≡ true) × (cellOfKind 75 (bytes "null") ≡ false) × (cellOfKind 82 (bytes "4") ≡ false)
+unfolding ofKind cellOfKind familyNumber isKept isFixed refTo same begins bytes indexAt bracketed digits number isNull isText isEmpty
+values-kind = (refl, refl, refl, refl, refl, refl, refl)

@@ -3,8 +3,8 @@ use Prim.Native.Nat.{ℕ}
 use mathlib.Core.Bool.{Bool, false, cond}
 use lib.Dec.{eqb}
 use Rattle.text.specs.Bytes.{Bytes}
-use Rattle.kinds.specs.Values.{isText, isWhole, isDecimal, isDecimals, isWindow}
-use Rattle.kinds.specs.Parameters.{isParameter, isParameters}
+use Rattle.values.specs.Values.{isText, isWhole, isDecimal, isDecimals, isWindow}
+use Rattle.parameters.specs.Parameters.{isParameter, isParameters}
 
 -- whether b is of the kind with this number; of no other number is anything a kind
 unfoldable pub isKind : ℕ → Bytes → Bool

@@ -1,11 +1,11 @@
 // The kinds for hosts in C: bytes and a number in, a number out.
-use kinds::parameters::is_parameter;
-use kinds::parameters::is_parameters;
-use kinds::values::is_decimal;
-use kinds::values::is_decimals;
-use kinds::values::is_text;
-use kinds::values::is_whole;
-use kinds::values::is_window;
+use parameters::is_parameter;
+use parameters::is_parameters;
+use values::is_decimal;
+use values::is_decimals;
+use values::is_text;
+use values::is_whole;
+use values::is_window;
 ghost use mathlib.Core.Path.{_≡_};
 ghost use Rattle.kinds_c.specs.Kinds.{isKind, said};
 

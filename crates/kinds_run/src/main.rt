@@ -1,17 +1,17 @@
 // Answers of the kinds for each line of standard input, for comparison with another implementation.
 // A line is what LF ends, its CR with it; a last one without LF counts if it is not empty.
-use kinds::parameters::is_parameter;
-use kinds::parameters::is_parameters;
-use kinds::reading::read;
-use kinds::references::reference;
-use kinds::references::references;
-use kinds::values::is_decimal;
-use kinds::values::is_decimals;
-use kinds::values::is_text;
-use kinds::values::is_whole;
-use kinds::values::is_window;
+use parameters::is_parameter;
+use parameters::is_parameters;
+use references::reference;
+use references::references;
 use telling::tell;
 use text::bytes::seek;
+use values::is_decimal;
+use values::is_decimals;
+use values::is_text;
+use values::is_whole;
+use values::is_window;
+use values::reading::read;
 
 const LF: u8 = 10;
 

@@ -5,9 +5,8 @@ use mathlib.Core.Bool.{Bool, true, false, not, _&&_, _||_}
 use mathlib.Core.List.{List}
 use lib.ListN.{length, getD, set}
 use Rattle.text.specs.Bytes.{Bytes, any}
-use Rattle.book.specs.Names.{slotOf}
-use Rattle.book.specs.Ids.{isKnown}
-use Rattle.book.specs.Values.{ofKind, familyNumber}
+use Rattle.book.specs.Names.{slotOf, isKnown}
+use Rattle.kinds.specs.Kinds.{ofKind, familyNumber}
 use Rattle.book.specs.declared.names.Found.{Found}
 use Rattle.book.specs.declared.names.Found.the-variants.{Unknown, Known}
 use Rattle.breaks.specs.Rules.{isWrong, namedIn}

@@ -6,7 +6,7 @@ use breaks::places::both;
 ghost use mathlib.Core.Path.{_≡_};
 ghost use Prim.Native.Nat.{_<_};
 ghost use lib.ListN.{length};
-ghost use Rattle.book.specs.Ids.{Flags};
+ghost use Rattle.ids.specs.Ids.{Flags};
 ghost use Rattle.book.specs.Names.{slotOf};
 ghost use Rattle.breaks.specs.Machine.{idsOf, SLOTS};
 ghost use Rattle.metaline.specs.Metas.{Judged, InSlots, marked};

@@ -15,7 +15,7 @@ ghost use Prim.Native.Nat.{_≤_};
 ghost use lib.ListN.{length, getD, drop};
 ghost use Rattle.text.specs.Lines.{cells};
 ghost use Rattle.book.specs.Keys.{keyOf};
-ghost use Rattle.book.specs.Ids.{Flags};
+ghost use Rattle.ids.specs.Ids.{Flags};
 ghost use Rattle.book.specs.Rows.{IsBook};
 ghost use Rattle.breaks.specs.Sorts.{sortOf};
 ghost use Rattle.breaks.specs.Breaks.{breakAt, when};

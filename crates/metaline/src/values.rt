@@ -1,14 +1,14 @@
 // A metadata value, by the letters of its key: whether it is of its kind, and whether it names an undeclared id.
-use book::values::family_number;
-use book::values::of_kind;
-use book::values::reference_to;
-use book::values::references_to;
 use breaks::places::both;
-use kinds::references::INDICES;
+use kinds::family_number;
+use kinds::of_kind;
+use kinds::reference_to;
+use kinds::references_to;
+use references::INDICES;
 ghost use mathlib.Core.Path.{_≡_};
 ghost use Prim.Native.Nat.{_≤_};
 ghost use Rattle.book.specs.Book.{REFERENCE as reference, REFERENCES as references};
-ghost use Rattle.book.specs.Ids.{Flags};
+ghost use Rattle.ids.specs.Ids.{Flags};
 ghost use Rattle.breaks.specs.Machine.{idsOf};
 ghost use Rattle.metaline.specs.Metas.{Valued};
 

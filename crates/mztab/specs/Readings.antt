@@ -2,8 +2,8 @@
 use Prim.Native.Nat.{ℕ}
 use mathlib.Core.Bool.{cond}
 use lib.Dec.{eqb}
-use Rattle.kinds.specs.Reading.{valueOf}
-use Rattle.kinds.specs.declared.reading.Value.the-variants.{Missing}
+use Rattle.values.specs.Reading.{valueOf}
+use Rattle.values.specs.declared.reading.Value.the-variants.{Missing}
 use Rattle.mztab.specs.Shown.{Sought}
 use Rattle.mztab.specs.declared.records.Reading.{Reading}
 

@@ -1,6 +1,6 @@
 // The judging call over plain places.
-use book::ids::declared_ids;
 use book::tables::book;
+use ids::declared_ids;
 use judging::parts::beginning;
 use judging::parts::judge_part;
 use text::LIMIT;

@@ -1,28 +1,20 @@
 -- Cell 1 of a row, the cells after it, and a cell that breaks nothing. Assumes nothing.
-use mathlib.Core.Path.{_≡_, refl, sym}
+use mathlib.Core.Path.{_≡_, refl}
 use mathlib.Core.Bool.{Bool, true, false, not, _&&_, _||_}
 use mathlib.Core.List.{List}
 use Prim.Native.Nat.{ℕ, _≤_}
 use native.Mathlib.Omega.{arith}
 use lib.Dec.{eqb, leb}
 use lib.ListN.{length, drop}
-use borrow.Author.Tests.{leb-true, eqb-true}
+use borrow.Author.Tests.{leb-true, eqb-true, not-true, not-false}
 use Rattle.text.specs.Bytes.{Bytes, isEmpty}
-use Rattle.book.specs.Values.{cellOfKind}
+use Rattle.text.proofs.Laws.Tests.{and-left, and-right}
+use Rattle.kinds.specs.Kinds.{cellOfKind}
 use Rattle.breaks.specs.Breaks.{breakAt, when}
 use Rattle.breaks.specs.Places.{Lent, Puts}
 use Rattle.breaks.specs.Machine.{eachCell, plainRest, kindCell, rowCell, rowBreaks}
 use Rattle.breaks.proofs.Laws.Putting.{puts2}
 use Rattle.rowline.specs.First.{codeBreaks}
-
--- a test that was left, or taken, by its opposite
-not-false : (t : Bool) → not t ≡ false → t ≡ true
-not-false true h = refl
-not-false false h = sym h
-
-not-true : (t : Bool) → not t ≡ true → t ≡ false
-not-true true h = sym h
-not-true false h = refl
 
 -- a cell that has not the first control byte, is not empty, and is of its kind
 pub cell-good : (kind first n c : ℕ) (x : Bytes) (o : Lent) → not (eqb first c || (isEmpty x || not (cellOfKind kind x))) ≡ true → Puts (kindCell kind first n c x) 3 o o
@@ -34,14 +26,6 @@ cell-good kind first n c x o = go (eqb first c) (isEmpty x) (cellOfKind kind x)
     go false false false e = absurd (let z : _≡_ {A = ℕ} 0 1 = cc in omega arith)
     go false true good e = absurd (let z : _≡_ {A = ℕ} 0 1 = cc in omega arith)
     go true empty good e = absurd (let z : _≡_ {A = ℕ} 0 1 = cc in omega arith)
-
-and-left : (a b : Bool) → (a && b) ≡ true → a ≡ true
-and-left true b h = refl
-and-left false b h = h
-
-and-right : (a b : Bool) → (a && b) ≡ true → b ≡ true
-and-right true b h = h
-and-right false b h = absurd (let z : _≡_ {A = ℕ} 0 1 = cc in omega arith)
 
 -- a row under its header has as many cells, at most 256
 pub row-narrow : (t : Bool) (w v : ℕ) → not ((t && leb w 256) && eqb v w) ≡ false → v ≤ 256

@@ -1,5 +1,5 @@
 // What a reading says, printed in words: for the run tests.
-use kinds::reading::Value;
+use values::reading::Value;
 
 const OUT: i32 = 1;
 

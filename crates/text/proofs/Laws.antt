@@ -4,6 +4,7 @@ pub mod Sections
 pub mod Parts
 pub mod Starts
 pub mod Pieces
+pub mod Each
 pub mod Lines
 pub mod Same
 pub mod Begins

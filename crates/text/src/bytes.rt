@@ -5,6 +5,12 @@ ghost use lib.ListN.{length};
 ghost use Rattle.text.specs.Bytes.{same, begins};
 ghost use Rattle.text.specs.Places.{Ends};
 
+pub const BAR: u8 = b'|';
+
+pub const COMMA: u8 = b',';
+
+pub const SPACE: u8 = b' ';
+
 // The first place from `from` on where b stands, or the length where there is none.
 pub fn seek(s: &[u8], from: usize, b: u8) -> usize
     requires { ⌜ from ≤ length (now s) ⌝ }

@@ -1,9 +1,7 @@
-// The lines of a file: where each ends, and how many there are.
+// The lines of a file: where each ends.
 use crate::bytes::seek;
-ghost use mathlib.Core.Path.{_≡_};
 ghost use Prim.Native.Nat.{_<_};
 ghost use lib.ListN.{length};
-ghost use Rattle.text.specs.Lines.{lines};
 ghost use Rattle.text.specs.Places.{LineAt};
 
 pub const LF: u8 = 10;
@@ -37,18 +35,4 @@ pub fn line_at(file: &[u8], at: usize) -> Line
         };
     }
     Line { end: e, next: e }
-}
-
-// How many lines the file has: a last one without LF counts, and so does an empty one.
-pub fn count_lines(file: &[u8]) -> usize
-    ensures { λ r. ⌜ r ≡ length (lines (now (file .entry))) ⌝ }
-{
-    let mut n = 0;
-    let mut at = 0;
-    while at < file.len() {
-        let line = line_at(file, at);
-        n += 1;
-        at = line.next;
-    }
-    n
 }

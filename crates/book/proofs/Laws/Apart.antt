@@ -8,9 +8,9 @@ use lib.Dec.{eqb, ltb}
 use lib.ListN.{length, getD, drop}
 use borrow.Author.Tests.{eq-eqb, eqb-true, eqb-false, ne-eqb, ltb-true, ltb-false}
 use Rattle.text.specs.Bytes.{bytes}
-use Rattle.kinds.specs.Index.{indexAt}
-use Rattle.kinds.specs.declared.index.Index.the-variants.{Is}
-use Rattle.kinds.proofs.Laws.Indices.{index-unopened}
+use Rattle.references.specs.Index.{indexAt}
+use Rattle.references.specs.declared.index.Index.the-variants.{Is}
+use Rattle.references.proofs.Laws.Indices.{index-unopened}
 use Rattle.book.specs.Names.{Piece, byte, place, piecesFrom, pieces, named, Entry, entryOf, kindOf, familyOf, formOf, filled, fits, isFit, lookupIn}
 use Rattle.book.specs.Keys.{keys, demanded, keyEntries, keyOf}
 use Rattle.book.specs.Columns.{proteinColumns, peptideColumns, psmColumns, moleculeColumns, columns, columnEntries}

@@ -9,10 +9,10 @@ use lib.Dec.{eqb}
 use lib.ListN.{length, getD, drop}
 use lib.Seq.{drop-append-seam}
 use borrow.Author.Tests.{eq-eqb, eqb-true, ne-eqb}
-use Rattle.kinds.specs.Index.{indexAt, written}
-use Rattle.kinds.specs.declared.index.Index.{Index}
-use Rattle.kinds.specs.declared.index.Index.the-variants.{Not, Is}
-use Rattle.kinds.proofs.Laws.Indices.{index-read, index-written}
+use Rattle.references.specs.Index.{indexAt, written}
+use Rattle.references.specs.declared.index.Index.{Index}
+use Rattle.references.specs.declared.index.Index.the-variants.{Not, Is}
+use Rattle.references.proofs.Laws.Indices.{index-read, index-written}
 use Rattle.book.specs.Names.{Piece, byte, place, Entry, entry, kindOf, familyOf, formOf, filled, fits, onIndex, onMatch, firstOf, lookupIn, slotOf}
 use Rattle.book.specs.declared.names.Match.{Match}
 use Rattle.book.specs.declared.names.Match.the-variants.{Differs, Fits}

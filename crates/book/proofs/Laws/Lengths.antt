@@ -11,16 +11,16 @@ use borrow.Author.Tests.{eqb-true, eqb-false, leb-true, ltb-true, ltb-false}
 use Rattle.text.specs.Bytes.{bytes, all}
 use Rattle.text.proofs.Laws.Begins.{begins-short}
 use Rattle.text.proofs.Laws.Tests.{and-both}
-use Rattle.kinds.specs.Index.{written, indexAt}
-use Rattle.kinds.specs.declared.index.Index.{Index}
-use Rattle.kinds.specs.declared.index.Index.the-variants.{Not, Is}
-use Rattle.kinds.proofs.Laws.Indices.{Read, index-read, written-one, written-two}
+use Rattle.references.specs.Index.{written, indexAt}
+use Rattle.references.specs.declared.index.Index.{Index}
+use Rattle.references.specs.declared.index.Index.the-variants.{Not, Is}
+use Rattle.references.proofs.Laws.Indices.{Read, index-read, written-one, written-two}
 use Rattle.book.specs.Names.{Piece, byte, place, pieces, piecesFrom, Entry, formOf, entryOf, onIndex, fits, firstOf}
 use Rattle.book.specs.Columns.{proteinColumns, peptideColumns, psmColumns, moleculeColumns, columns, columnEntries, isOpt, columnOf}
 use Rattle.book.specs.declared.names.Match.{Match}
 use Rattle.book.specs.declared.names.Match.the-variants.{Differs, Fits}
 use Rattle.book.specs.declared.names.Found.the-variants.{Unknown}
-use Rattle.book.proofs.Laws.Words.{column-table}
+use Rattle.book.proofs.Laws.Opt.{column-table}
 
 -- the bytes of a pattern's text: three for a place, which is written `[n]`
 textOf : List Piece → ℕ

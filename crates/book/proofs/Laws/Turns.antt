@@ -9,9 +9,9 @@ use lib.ListN.{length, getD, take, drop, drop-of-length-le, length-drop, length-
 use lib.Seq.{drop-drop, getD-take, getD-drop}
 use borrow.Author.Tests.{eq-eqb, ne-eqb, eqb-true, eqb-false}
 use Rattle.text.proofs.Laws.Pieces.{drop-step}
-use Rattle.kinds.specs.Index.{indexAt}
-use Rattle.kinds.specs.declared.index.Index.the-variants.{Not, Is}
-use Rattle.kinds.proofs.Laws.Indices.{index-unopened}
+use Rattle.references.specs.Index.{indexAt}
+use Rattle.references.specs.declared.index.Index.the-variants.{Not, Is}
+use Rattle.references.proofs.Laws.Indices.{index-unopened}
 use Rattle.text.proofs.Laws.Tests.{absurd-bool}
 use Rattle.book.specs.Names.{Piece, byte, place, pieces, piecesFrom, entryOf, fits, firstOf, mayFit}
 use Rattle.book.specs.Rows.{cut, rows, entries}

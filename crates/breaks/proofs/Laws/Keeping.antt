@@ -10,9 +10,9 @@ use borrow.Author.Tests.{eq-eqb, eqb-true}
 use Rattle.text.specs.Bytes.{Bytes, same, any}
 use Rattle.text.specs.Lines.{cells}
 use Rattle.text.proofs.Laws.Tests.{and-both}
-use Rattle.book.specs.Names.{slotOf, lookupIn}
+use Rattle.book.specs.Names.{slotOf, lookupIn, isKnown}
 use Rattle.book.specs.Keys.{keys, keyOf, keyEntries, isColunit}
-use Rattle.book.specs.Ids.{isKnown, declares}
+use Rattle.ids.specs.Ids.{declares}
 use Rattle.book.specs.declared.names.Found.{Found}
 use Rattle.book.specs.declared.names.Found.the-variants.{Unknown, Known}
 use Rattle.book.proofs.Laws.Known.{same-slot, slot-below}

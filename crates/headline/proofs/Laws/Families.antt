@@ -12,7 +12,7 @@ use Rattle.text.proofs.Laws.Tests.{and-both}
 use Rattle.book.specs.Book.{NONE}
 use Rattle.book.specs.Names.{Entry, entry, entryOf, familyOf, formOf, piecesFrom, lookupIn}
 use Rattle.book.specs.Columns.{proteinColumns, peptideColumns, psmColumns, moleculeColumns, columns, columnEntries, isOpt, optOf, columnOf}
-use Rattle.book.specs.Values.{familyNumber}
+use Rattle.kinds.specs.Kinds.{familyNumber}
 use Rattle.book.specs.declared.names.Found.{Found}
 use Rattle.book.specs.declared.names.Found.the-variants.{Unknown, Known}
 use Rattle.book.proofs.Laws.Known.{holes, nth, Shape, known}

@@ -8,7 +8,7 @@ use lib.Seq.{take-all}
 use lib.ListN.{length}
 use Rattle.text.specs.Bytes.{Bytes}
 use Rattle.text.specs.Lines.{lines}
-use Rattle.book.specs.Ids.{Declared}
+use Rattle.ids.specs.Ids.{Declared}
 use Rattle.breaks.specs.Machine.{Slots, idsOf, endBreaks}
 use Rattle.breaks.specs.Carried.{Scan, from, last}
 use Rattle.breaks.specs.declared.state.State.{State}

@@ -10,18 +10,18 @@ use lib.ListN.{length}
 use borrow.Author.Tests.{ltb-true, ltb-false, leb-true, eqb-true, eqb-false}
 use Rattle.text.specs.Bytes.{Bytes, bytes, any, all}
 use Rattle.text.specs.Lines.{lines}
-use Rattle.kinds.specs.References.{refTo, refsTo}
-use Rattle.kinds.proofs.Laws.Each.{and-left, and-right}
+use Rattle.references.specs.References.{refTo, refsTo}
+use Rattle.text.proofs.Laws.Tests.{and-left, and-right}
 use Rattle.book.specs.Book.{REFERENCE, REFERENCES, NONE}
 use Rattle.book.specs.Names.{Entry, piecesFrom, entryOf, kindOf, familyOf, formOf}
 use Rattle.book.specs.Keys.{keys, keyEntries, keyOf}
 use Rattle.book.specs.Columns.{proteinColumns, peptideColumns, psmColumns, moleculeColumns, columns, columnEntries, isOpt, columnOf}
-use Rattle.book.specs.Ids.{declares, declared, Declared}
-use Rattle.book.specs.Values.{familyNumber, wordOf, ofKind}
+use Rattle.ids.specs.Ids.{declares, declared, Declared}
+use Rattle.kinds.specs.Kinds.{familyNumber, wordOf, ofKind}
 use Rattle.book.specs.declared.names.Found.{Found}
 use Rattle.book.specs.declared.names.Found.the-variants.{Unknown, Known}
 use Rattle.book.proofs.Laws.Known.{holes, Shape, nth, known}
-use Rattle.book.proofs.Laws.Words.{column-table, column-bare, column-opt}
+use Rattle.book.proofs.Laws.Opt.{column-table, column-bare, column-opt}
 use Rattle.breaks.specs.Rules.{namedIn, isUndeclared, namesUndeclared, lastIndex, columnUndeclared}
 use Rattle.breaks.specs.Machine.{Ids, idsOf, undeclaredIn, columnIn, Declares}
 use Rattle.metaline.proofs.Laws.Naming.{one-good, one-named, list-good, list-named, none-named, isHigh, ref-high, refs-high, any-high}

@@ -6,14 +6,12 @@ use mathlib.Core.List.{List, [], _∷_, map}
 use native.Mathlib.Omega.{arith}
 use lib.Dec.{leb}
 use borrow.Author.Tests.{le-leb, leb-true, ne-eqb}
-use Rattle.text.specs.Bytes.{Bytes, any, all, splitOn}
-use Rattle.kinds.specs.Parameters.{COMMA}
-use Rattle.kinds.specs.References.{refTo, spaced, refsTo, isIndex, isReferences}
-use Rattle.kinds.proofs.Laws.Names.{ref-le}
-use Rattle.kinds.proofs.Laws.Each.{and-left, and-right}
+use Rattle.text.specs.Bytes.{Bytes, any, all, splitOn, COMMA}
+use Rattle.references.specs.References.{refTo, spaced, refsTo, isIndex, isReferences}
+use Rattle.references.proofs.Laws.Names.{ref-le}
 use Rattle.book.specs.Book.{REFERENCE, REFERENCES}
-use Rattle.book.specs.Values.{wordOf, ofKind}
-use Rattle.text.proofs.Laws.Tests.{absurd-bool}
+use Rattle.kinds.specs.Kinds.{wordOf, ofKind}
+use Rattle.text.proofs.Laws.Tests.{absurd-bool, and-left, and-right}
 use Rattle.breaks.specs.Rules.{namedIn}
 
 -- BY KINDS

@@ -7,10 +7,10 @@ use native.Mathlib.Omega.{arith}
 use lib.Dec.{eqb, leb}
 use borrow.Author.Tests.{le-leb, lt-leb, leb-true, eqb-true, eqb-false}
 use Rattle.text.specs.Bytes.{Bytes, any, all}
-use Rattle.kinds.specs.References.{refTo}
-use Rattle.kinds.proofs.Laws.Each.{and-left, and-right}
+use Rattle.references.specs.References.{refTo}
+use Rattle.text.proofs.Laws.Tests.{and-left, and-right}
 use Rattle.book.specs.Book.{REFERENCE, REFERENCES}
-use Rattle.book.specs.Values.{familyNumber, wordOf, ofKind}
+use Rattle.kinds.specs.Kinds.{familyNumber, wordOf, ofKind}
 use Rattle.breaks.specs.Rules.{namedIn}
 use Rattle.breaks.specs.Machine.{Ids}
 use Rattle.breaks.proofs.Laws.Rowing.{test-eq}

@@ -6,8 +6,8 @@ use mathlib.Core.List.{List}
 use Prim.Native.Nat.{ℕ, _+_, _-_, _≤_}
 use lib.ListN.{length, drop, take, length-drop}
 use lib.Seq.{take-all}
-use Rattle.kinds.specs.Index.{indexAt}
-use Rattle.kinds.proofs.Laws.Indices.{index-read}
+use Rattle.references.specs.Index.{indexAt}
+use Rattle.references.proofs.Laws.Indices.{index-read}
 use Rattle.book.specs.Names.{pieces, fits as fitsIn}
 use Rattle.book.proofs.Laws.Turns.{rest, rest-end, rest-space, rest-byte, rest-other, rest-short, rest-not, rest-first, rest-second, rest-third}
 use Rattle.book.proofs.names.fits.Statement.{statement}

@@ -6,7 +6,7 @@ use Prim.Native.Nat.{ℕ}
 use Rattle.book.specs.Names.{Entry, lookupIn}
 use Rattle.book.specs.Rows.{entries}
 use Rattle.book.proofs.Laws.Lengths.{column-short}
-use Rattle.book.proofs.Laws.Words.{column-table, column-bare, column-opt}
+use Rattle.book.proofs.Laws.Opt.{column-table, column-bare, column-opt}
 use Rattle.book.proofs.tables.column.Statement.{statement}
 use Rattle.book.proofs.tables.column.Tie as tie
 

@@ -5,9 +5,9 @@ use Prim.Native.Nat.{ℕ}
 use native.Mathlib.Omega.{arith}
 use borrow.Author.Needs.{needs}
 use borrow.Author.Tests.{ne-eqb}
-use Rattle.kinds.specs.References.{isIndex}
-use Rattle.kinds.proofs.Laws.Names.{ref-le}
-use Rattle.book.specs.Values.{familyNumber, wordOf}
+use Rattle.references.specs.References.{isIndex}
+use Rattle.references.proofs.Laws.Names.{ref-le}
+use Rattle.kinds.specs.Kinds.{familyNumber, wordOf}
 use Rattle.breaks.specs.Machine.{idsOf}
 use Rattle.metaline.proofs.Laws.Naming.{one-good}
 use Rattle.metaline.proofs.Laws.Valuing.{valued-wrong, valued-good, one-any}

@@ -8,8 +8,8 @@ use borrow.Author.Needs.{needs}
 use borrow.Author.Tests.{not-true, not-false}
 use lib.Dec.{eqb}
 use Rattle.text.specs.Bytes.{any, all}
-use Rattle.kinds.specs.References.{refsTo, isReferences}
-use Rattle.book.specs.Values.{familyNumber, wordOf}
+use Rattle.references.specs.References.{refsTo, isReferences}
+use Rattle.kinds.specs.Kinds.{familyNumber, wordOf}
 use Rattle.breaks.specs.Machine.{idsOf}
 use Rattle.metaline.proofs.Laws.Naming.{list-good, list-named, isHigh, refs-high}
 use Rattle.metaline.proofs.Laws.Valuing.{valued-wrong, valued-good, Left, left-start, left-next, left-hit, left-end}

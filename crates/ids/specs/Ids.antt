@@ -1,0 +1,84 @@
+-- The ids of a file: which it declares, by families 0 sample, 1 assay, 2 study variable, 3 run. Assumes nothing.
+use Prim.Native.Nat.{ℕ, _+_, _-_, _<_}
+use mathlib.Core.Path.{_≡_}
+use mathlib.Core.Bool.{Bool, true, false, cond, _&&_}
+use mathlib.Core.List.{List, [], _∷_, _++_, map}
+use lib.Dec.{eqb}
+use lib.ListN.{length, getD, drop, set}
+use Rattle.text.specs.Bytes.{Bytes, bytes, begins, any}
+use Rattle.text.specs.Lines.{lines, cells, coded}
+use Rattle.references.specs.Index.{written, indexAt}
+use Rattle.references.specs.References.{families, family}
+use Rattle.references.specs.declared.index.Index.{Index}
+use Rattle.references.specs.declared.index.Index.the-variants.{Not, Is}
+use Rattle.book.specs.Names.{isKnown}
+use Rattle.book.specs.Keys.{keyOf}
+use Rattle.book.specs.declared.names.Found.{Found}
+use Rattle.book.specs.declared.names.Found.the-variants.{Unknown, Known}
+use Rattle.ids.specs.declared.Id.{Id}
+use Rattle.ids.specs.declared.Id.the-variants.{Nothing, Of}
+
+-- cell 2 of an MTD line
+abbrev pub keyCell : Bytes → Bytes
+keyCell line = getD (cells line) 1 []
+
+-- an MTD line that has three cells
+unfoldable pub isMeta : Bytes → Bool
+isMeta line = coded (bytes "MTD") line && eqb (length (cells line)) 3
+
+-- whether a line declares id i of family f: an MTD line that has three cells and a known key beginning with it
+unfoldable pub declares : ℕ → ℕ → Bytes → Bool
+declares f i line = isMeta line && isKnown (keyOf (keyCell line)) && begins (family f ++ written i) (keyCell line)
+
+-- whether any line of the file declares it
+unfoldable pub declared : Bytes → ℕ → ℕ → Bool
+declared file f i = any (declares f i) (lines file)
+
+-- THE FLAGS
+
+-- the flag of family f at place i
+abbrev pub flag : List (List Bool) → ℕ → ℕ → Bool
+flag t f i = getD (getD t f []) i false
+
+-- four families of 64 flags: index i stands at place i - 1
+pub record Flags (t : List (List Bool)) : Type 0 where
+  pub families : length t ≡ 4
+  pub indices : (f : ℕ) → f < 4 → length (getD t f []) ≡ 64
+
+-- they say of every id whether the file declares it
+pub record Declared (t : List (List Bool)) (file : Bytes) : Type 0 where
+  pub shape : Flags t
+  pub flags : (f i : ℕ) → f < 4 → i < 64 → flag t f i ≡ declared file f (i + 1)
+
+-- WHAT THE CODE FINDS
+
+abbrev pub valueOf : Index → ℕ
+valueOf Not = 0
+valueOf (Is v w) = v
+
+-- the index that stands after a word at the front of a name, 0 for none
+unfoldable pub indexAfter : Bytes → Bytes → ℕ
+indexAfter w name = cond (begins w name) (valueOf (indexAt (drop (length w) name))) 0
+
+-- the id that a name begins with; f numbers the words
+unfoldable pub idIn : ℕ → List Bytes → Bytes → Id
+idIn f [] name = Nothing
+idIn f (w ∷ ws) name =
+    let other = idIn (f + 1) ws name in
+    cond (eqb (indexAfter w name) 0) other (Of f (indexAfter w name))
+
+unfoldable pub idOf : Bytes → Id
+idOf name = idIn 0 (map bytes families) name
+
+-- the id that a known key begins with
+unfoldable pub keyId : Bytes → Id
+keyId name = cond (isKnown (keyOf name)) (idOf name) Nothing
+
+-- the id that a line declares
+unfoldable pub lineId : Bytes → Id
+lineId line = cond (isMeta line) (keyId (keyCell line)) Nothing
+
+-- the flags with the id's one set
+unfoldable pub marked : List (List Bool) → Id → List (List Bool)
+marked t Nothing = t
+marked t (Of f i) = set t f (set (getD t f []) (i - 1) true)

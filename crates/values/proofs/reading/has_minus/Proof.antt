@@ -1,0 +1,17 @@
+-- `values::reading::has_minus` meets its contract. Assumes nothing.
+use mathlib.Core.Path.{refl, sym}
+use Rattle.values.proofs.Laws.Readings.{minus-none}
+use Rattle.values.specs.Reading.{hasMinus}
+use borrow.Author.Needs.{needs}
+use Rattle.values.proofs.reading.has_minus.Statement.{statement}
+use Rattle.values.proofs.reading.has_minus.Tie as tie
+
+returns : tie.Need-returns
+returns c = sym (minus-none (c .before .args .s .now) (c .if1 .taken))
+
+returns-2 : tie.Need-returns-2
+unfolding hasMinus
+returns-2 c = refl
+
+pub has-minus-spec : {M : Type 1} → statement M
+has-minus-spec = tie.close (tie.spec returns (λ c. search needs) returns-2)
