@@ -1,5 +1,5 @@
 // The judging call over a lent list of records.
-pub mod steps;
+mod steps;
 
 use steps::begin;
 use steps::next;
