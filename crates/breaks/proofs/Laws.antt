@@ -5,6 +5,7 @@ pub mod Putting
 pub mod Celling
 pub mod Rowing
 pub mod Means
+pub mod Families
 pub mod Keeping
 pub mod Following
 pub mod Lining

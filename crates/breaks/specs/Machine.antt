@@ -77,6 +77,11 @@ abbrev pub columnIn : Ids → Found → Bool
 columnIn ids Unknown = false
 columnIn ids (Known e k f i j) = not (eqb f NONE) && not (ids (familyNumber f) (lastIndex i j))
 
+-- a column that names an id names one of the four families, by an index of 1 to 64
+abbrev pub Within : Found → Type 0
+Within Unknown = Unit
+Within (Known e k f i j) = eqb f NONE ≡ false → (familyNumber f < 4) × (1 ≤ lastIndex i j) × (lastIndex i j ≤ 64)
+
 -- a column name that the book answers so, by whether it came before, and whether an optional one did
 abbrev pub nameCell : Bool → Bool → Ids → Found → ℕ → ℕ → ℕ → Bytes → List Break → List Break
 nameCell again opt ids found cc n c x rest =

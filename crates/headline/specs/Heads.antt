@@ -1,34 +1,15 @@
 -- What the parts of a header's judgement put, each in front of `rest`, what comes after, and what they keep. Assumes nothing.
-use Prim.Native.Nat.{ℕ, _≤_, _<_}
+use Prim.Native.Nat.{ℕ, _≤_}
 use mathlib.Core.Path.{_≡_}
-use mathlib.Core.Bool.{Bool, false, not}
+use mathlib.Core.Bool.{Bool}
 use mathlib.Core.List.{List}
 use lib.ListN.{length, drop}
-use lib.Dec.{eqb}
-use Rattle.text.specs.Bytes.{Bytes, same, any}
+use Rattle.text.specs.Bytes.{Bytes}
 use Rattle.text.specs.Lines.{cells}
-use Rattle.book.specs.Book.{NONE}
-use Rattle.book.specs.Names.{isKnown}
-use Rattle.kinds.specs.Kinds.{familyNumber}
-use Rattle.book.specs.declared.names.Found.{Found}
-use Rattle.book.specs.declared.names.Found.the-variants.{Unknown, Known}
 use Rattle.breaks.specs.Breaks.{Break, breakAt, when}
-use Rattle.breaks.specs.Rules.{lastIndex, lacksColumn}
+use Rattle.breaks.specs.Rules.{lacksColumn}
 use Rattle.breaks.specs.Machine.{Ids, controlAt, eachCell, headCell, KindsOf}
-use Rattle.headline.specs.Stamps.{STAMPS}
-
--- a wanted name is one of these
-abbrev pub isIn : List Bytes → Bytes → Bool
-isIn names wanted = any (same wanted) names
-
--- a column that names an id names one of the four families, by an index of 1 to 64
-abbrev pub Within : Found → Type 0
-Within Unknown = Unit
-Within (Known e k f i j) = eqb f NONE ≡ false → (familyNumber f < 4) × (1 ≤ lastIndex i j) × (lastIndex i j ≤ 64)
-
--- the rules at a name that the book alone and the names before it decide
-abbrev pub knownBreaks : Bool → Found → ℕ → ℕ → ℕ → List Break → List Break
-knownBreaks again found first n c rest = controlAt first n c (when (not (isKnown found)) (breakAt n c 12) (when again (breakAt n c 13) rest))
+use Rattle.headnames.specs.Stamps.{STAMPS}
 
 -- the rules at cell 1 that the names do not decide
 abbrev pub codeBreaks : Bool → Bool → Bool → ℕ → ℕ → List Break → List Break

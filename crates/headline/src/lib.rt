@@ -1,10 +1,7 @@
 // Judging a header: rules 1 and 9 to 16, put into the lent places.
-pub mod columns;
-pub mod names;
-
-use crate::columns::head_cells;
-use crate::names::lacks;
 use breaks::places::put_if;
+use headcells::head_cells;
+use headnames::lacks;
 use text::cells::cell_end;
 use text::cells::count_cells;
 ghost use mathlib.Core.Path.{_≡_};
@@ -14,7 +11,7 @@ ghost use Rattle.text.specs.Lines.{cells};
 ghost use Rattle.book.specs.Rows.{IsBook};
 ghost use Rattle.breaks.specs.Places.{lent, Puts};
 ghost use Rattle.breaks.specs.Machine.{idsOf, headBreaks};
-ghost use Rattle.headline.specs.Stamps.{STAMPS as room};
+ghost use Rattle.headnames.specs.Stamps.{STAMPS as room};
 ghost use Rattle.headline.specs.Heads.{codeBreaks, nameBreaks, Kept, Keeps};
 
 const MOST_CELLS: usize = 256;

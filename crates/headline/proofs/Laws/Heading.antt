@@ -1,40 +1,18 @@
--- Cell 1 of a header and its names, and the kinds that are kept. Assumes nothing.
-use mathlib.Core.Path.{_≡_, sym, ap, _∙_}
+-- Cell 1 of a header and its names. Assumes nothing.
+use mathlib.Core.Path.{_≡_}
 use mathlib.Core.Bool.{Bool, true, false}
-use mathlib.Core.List.{List, [], _∷_}
-use mathlib.Core.Logic.{⊎-elim}
-use Prim.Native.Nat.{ℕ, _+_, _-_, _≤_, _<_}
-use native.Mathlib.Nat.{eq-or-lt-of-le}
+use mathlib.Core.List.{List, []}
+use Prim.Native.Nat.{ℕ, _<_}
 use native.Mathlib.Omega.{arith}
 use lib.Dec.{ltb}
-use lib.Seq.{getD-drop, getD-set-same, getD-set-other}
-use lib.ListN.{length, drop, getD, set}
+use lib.ListN.{length, drop}
 use Rattle.text.specs.Bytes.{Bytes}
-use Rattle.book.specs.Columns.{columnOf}
 use Rattle.breaks.specs.Breaks.{breakAt, when}
 use Rattle.breaks.specs.Places.{Lent, Puts}
-use Rattle.breaks.specs.Rules.{kindIn}
 use Rattle.breaks.specs.Machine.{Ids, eachCell, plainRest, headBreaks}
-use Rattle.breaks.proofs.Laws.Celling.{column-here}
 use Rattle.breaks.proofs.Laws.Putting.{puts2}
+use Rattle.headnames.proofs.Laws.Wanting.{lacks-none}
 use Rattle.headline.specs.Heads.{codeBreaks, nameBreaks}
-use Rattle.headline.proofs.Laws.Wanting.{lacks-none}
-
--- THE KINDS of the names before cell c are kept
-abbrev pub KindsTo : ℕ → ℕ → List Bytes → List ℕ → Type 0
-KindsTo section c xs kinds = (i : ℕ) → i + 2 < c → getD kinds (i + 1) 0 ≡ kindIn (columnOf section (getD xs i []))
-
-module _ (xs : List Bytes) {x : Bytes} {tail : List Bytes} (c : ℕ) (low : 2 ≤ c) (here : drop (c - 2) xs ≡ x ∷ tail) where
-  pub kinds-step : (section : ℕ) (kinds : List ℕ) → c - 1 < length kinds → KindsTo section c xs kinds → KindsTo section (c + 1) xs (set kinds (c - 1) (kindIn (columnOf section x)))
-  kinds-step section kinds lt h i li =
-      let le : i + 2 ≤ c = omega arith in
-      ⊎-elim
-      (λ (q : i + 2 ≡ c).
-      let a : i + 1 ≡ c - 1 = omega arith in
-      let b : i ≡ c - 2 = omega arith in
-      rw (a, b, getD-set-same kinds (c - 1) (kindIn (columnOf section x)) 0 lt, column-here xs c low here))
-      (λ (q : i + 2 < c). getD-set-other kinds (c - 1) (i + 1) (kindIn (columnOf section x)) 0 (λ z. omega arith) ∙ h i q)
-      (eq-or-lt-of-le le)
 
 -- A HEADER: cell 1, and what comes after it
 module _ (section : ℕ) (again later : Bool) (ids : Ids) (first n : ℕ) (xs : List Bytes) {o o₁ o₂ : Lent}

@@ -1,9 +1,9 @@
--- A test of every byte of a text, and of every piece of one, by positions. Assumes nothing.
+-- A test of every byte of a text, of every element of a list, and of every piece of a text, by positions. Assumes nothing.
 use mathlib.Core.Path.{_≡_, refl, _∙_}
 use mathlib.Core.Bool.{Bool, true, false, cond, _&&_}
 use mathlib.Core.List.{List, [], _∷_}
 use mathlib.Core.Logic.{⊎-elim}
-use Prim.Native.Nat.{ℕ, _+_, _-_, _≤_, _<_}
+use Prim.Native.Nat.{ℕ, zero, suc, _+_, _-_, _≤_, _<_}
 use native.Mathlib.Nat.{eq-or-lt-of-le}
 use native.Mathlib.Omega.{arith}
 use lib.Dec.{eqb}
@@ -12,6 +12,7 @@ use lib.Seq.{take-all}
 use Rattle.text.specs.Bytes.{all, onFirst, splitOn}
 use Rattle.text.specs.Places.{Ends}
 use Rattle.text.proofs.Laws.Pieces.{drop-step, piece-cut, piece-last}
+use Rattle.text.proofs.Laws.Tests.{and-left, and-right}
 
 -- what a part up to the end holds
 pub to-end : (l : List ℕ) (i : ℕ) → take (length l - i) (drop i l) ≡ drop i l
@@ -33,6 +34,13 @@ module _ (p : ℕ → Bool) (l : List ℕ) (i : ℕ) where
   pub all-end : length l ≤ i → all p (drop i l) ≡ true
   unfolding all
   all-end h = rw (drop-of-length-le l h)
+
+-- EVERY ELEMENT of a list of any kind
+pub all-at : {A : Type 0} (p : A → Bool) (xs : List A) (d : A) (i : ℕ) → all p xs ≡ true → i < length xs → p (getD xs i d) ≡ true
+unfolding all
+all-at p [] d i h l = absurd (omega arith)
+all-at p (x ∷ xs) d zero h l = and-left (p x) (all p xs) h
+all-at p (x ∷ xs) d (suc i) h l = all-at p xs d i (and-right (p x) (all p xs) h) (omega arith)
 
 -- EVERY PIECE
 
