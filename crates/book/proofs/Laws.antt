@@ -1,7 +1,4 @@
 -- Laws over plain lists and positions, with no code in them: a file for each thing that they speak of.
-pub mod Turns
 pub mod Whole
-pub mod Known
 pub mod Apart
-pub mod Opt
-pub mod Lengths
+pub mod Columns

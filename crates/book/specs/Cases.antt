@@ -5,11 +5,11 @@ use mathlib.Core.Path.{_≡_, refl}
 use mathlib.Core.List.{[], _∷_, map}
 use Rattle.text.specs.Bytes.{bytes, begins}
 use Rattle.references.specs.Index.{digits, number, bracketed, indexAt}
-use Rattle.book.specs.Names.{piecesFrom, entryOf, fits, firstOf}
+use Rattle.names.specs.Names.{piecesFrom, entryOf, fits, firstOf}
 use Rattle.book.specs.Keys.{keys, keyEntries, keyOf}
 use Rattle.book.specs.Columns.{proteinColumns, peptideColumns, psmColumns, moleculeColumns, columns, required, columnEntries, isOpt, optOf, columnOf}
-use Rattle.book.specs.declared.names.Found.{Found}
-use Rattle.book.specs.declared.names.Found.the-variants.{Unknown, Known}
+use Rattle.names.specs.declared.Found.{Found}
+use Rattle.names.specs.declared.Found.the-variants.{Unknown, Known}
 
 abbrev key : String → Found
 key name = keyOf (bytes name)

@@ -8,9 +8,9 @@ use lib.ListN.{length}
 use lib.Dec.{eqb, ltb}
 use Rattle.text.specs.Bytes.{Bytes, bytes, begins}
 use Rattle.book.specs.Book.{TEXT, NONE, OPT}
-use Rattle.book.specs.Names.{Entry, entryOf, lookupIn}
-use Rattle.book.specs.declared.names.Found.{Found}
-use Rattle.book.specs.declared.names.Found.the-variants.{Unknown, Known}
+use Rattle.names.specs.Names.{Entry, entryOf, lookupIn}
+use Rattle.names.specs.declared.Found.{Found}
+use Rattle.names.specs.declared.Found.the-variants.{Unknown, Known}
 
 -- section 1
 unfoldable pub proteinColumns : List String

@@ -4,8 +4,8 @@ use Prim.Native.String.{String}
 use mathlib.Core.List.{List, [], _∷_, map}
 use Rattle.text.specs.Bytes.{Bytes, bytes, begins}
 use mathlib.Core.Bool.{Bool}
-use Rattle.book.specs.Names.{Entry, entryOf, lookupIn}
-use Rattle.book.specs.declared.names.Found.{Found}
+use Rattle.names.specs.Names.{Entry, entryOf, lookupIn}
+use Rattle.names.specs.declared.Found.{Found}
 
 -- the known keys
 unfoldable pub keys : List String

@@ -1,5 +1,4 @@
 pub mod Book
-pub mod Names
 pub mod Keys
 pub mod Columns
 pub mod Rows

@@ -1,31 +1,14 @@
 -- The book as the code holds it: rows of one width in one text, a row a line of a table, with spaces after it. Assumes nothing.
-use Prim.Native.Nat.{ℕ, zero, suc, _/_}
+use Prim.Native.Nat.{ℕ, zero, suc}
 use mathlib.Core.Path.{_≡_}
-use mathlib.Core.List.{List, [], _∷_, _++_, map}
-use lib.ListN.{length, take, drop}
+use mathlib.Core.List.{List, [], _∷_, _++_}
+use lib.ListN.{length, take}
 use Prim.Native.String.{String}
 use Rattle.text.specs.Bytes.{Bytes, bytes, SPACE}
 use Rattle.text.specs.Places.{part}
-use Rattle.book.specs.Names.{Entry, entryOf}
+use Rattle.names.specs.Table.{WIDTH, entries}
 use Rattle.book.specs.Keys.{keys, keyEntries}
 use Rattle.book.specs.Columns.{proteinColumns, peptideColumns, psmColumns, moleculeColumns, columnEntries, bySection}
-
--- the bytes of a row: those of the longest line
-abbrev pub WIDTH : ℕ
-WIDTH = 54
-
--- n rows
-unfoldable pub cut : ℕ → Bytes → List Bytes
-cut zero t = []
-cut (suc n) t = take WIDTH t ∷ cut n (drop WIDTH t)
-
--- the rows of a table; bytes that make no whole row are none
-unfoldable pub rows : Bytes → List Bytes
-rows t = cut (length t / WIDTH) t
-
--- the entries of a table
-abbrev pub entries : Bytes → List Entry
-entries t = map entryOf (rows t)
 
 -- where the tables of the book end: 61 keys, then 22, 20, 20 and 24 columns
 abbrev pub KEYS : ℕ

@@ -1,10 +1,10 @@
 // Shows what the book says of names: standard input has a name on each line that LF ends. For each it prints six fields: what the name is as a key and as
 // a column of the four sections (the letters of its kind and family, and its two indices), and the id that it declares as a key; `-` where it is none.
-use book::names::Found;
-use book::tables::column;
-use book::tables::key;
+use book::column;
+use book::key;
 use ids::Id;
 use ids::key_id;
+use names::Found;
 use text::bytes::seek;
 use text::lines::LF;
 ghost use Prim.Native.Nat.{_≤_};
@@ -159,7 +159,7 @@ fn run(out: &mut [u8], book: &[u8], names: &[u8])
 fn main() {
     let mut space = [0u8; 262144];
     let n = io::read_full(0, &mut space);
-    let book = book::tables::book();
+    let book = book::book();
     let mut out = [0u8; 128];
     run(&mut out, &book, &space[..n]);
 }

@@ -11,7 +11,7 @@ use Rattle.text.specs.Codes.{headerCode, rowCode}
 use Rattle.references.specs.Index.{written, digits, number, bracketed, indexAt}
 use Rattle.values.specs.Values.{areDigits, unsigned, dotted, isText, isWhole, isNumeral, isDecimal, isDecimals, isWindow, isNull}
 use Rattle.parameters.specs.Parameters.{quotedAfter, cut, hasFields, isParameter, isParameters}
-use Rattle.book.specs.Names.{piecesFrom, entryOf, fits, firstOf}
+use Rattle.names.specs.Names.{piecesFrom, entryOf, fits, firstOf}
 use Rattle.book.specs.Keys.{keys, demanded, keyEntries, keyOf, isColunit}
 use Rattle.book.specs.Columns.{proteinColumns, peptideColumns, psmColumns, moleculeColumns, columns, required, columnEntries, isOpt, optOf, columnOf}
 use Rattle.ids.specs.Ids.{isMeta, declares}

@@ -8,13 +8,13 @@ use lib.ListN.{length, getD, take, drop}
 use lib.Dec.{eqb, leb, ltb}
 use Rattle.text.specs.Bytes.{Bytes, same, isEmpty, any}
 use Rattle.book.specs.Book.{NONE}
-use Rattle.book.specs.Names.{slotOf, isKnown}
+use Rattle.names.specs.Names.{slotOf, isKnown}
 use Rattle.book.specs.Keys.{keyOf, isColunit}
 use Rattle.book.specs.Columns.{columnOf, isOpt}
 use Rattle.ids.specs.Ids.{declares}
 use Rattle.kinds.specs.Kinds.{ofKind, cellOfKind, familyNumber}
-use Rattle.book.specs.declared.names.Found.{Found}
-use Rattle.book.specs.declared.names.Found.the-variants.{Unknown, Known}
+use Rattle.names.specs.declared.Found.{Found}
+use Rattle.names.specs.declared.Found.the-variants.{Unknown, Known}
 use Rattle.breaks.specs.Sorts.{header, isMeta, width}
 use Rattle.breaks.specs.Breaks.{Break, breakAt, when}
 use Rattle.breaks.specs.Rules.{isThree, keyFound, isWrong, lastIndex, lacksColumn, names, kindIn, namedIn}

@@ -10,12 +10,12 @@ use Rattle.text.specs.Lines.{lines, cells}
 use Rattle.book.specs.Book.{TEXT, REFERENCE, REFERENCES, NONE}
 use Rattle.book.specs.Keys.{keys, keyOf, demanded, isColunit}
 use Rattle.book.specs.Columns.{columnOf, required, isOpt}
-use Rattle.book.specs.Names.{isKnown}
+use Rattle.names.specs.Names.{isKnown}
 use Rattle.ids.specs.Ids.{declares}
 use Rattle.references.specs.References.{refTo, refsTo}
 use Rattle.kinds.specs.Kinds.{ofKind, cellOfKind, familyNumber, wordOf}
-use Rattle.book.specs.declared.names.Found.{Found}
-use Rattle.book.specs.declared.names.Found.the-variants.{Unknown, Known}
+use Rattle.names.specs.declared.Found.{Found}
+use Rattle.names.specs.declared.Found.the-variants.{Unknown, Known}
 use Rattle.breaks.specs.Sorts.{cell, header, row, isHeader, isRow, isTable, isMeta, isUnknown, width, controlCell}
 use Rattle.breaks.specs.Breaks.{Break, Spot, Rule, rule, inLines, atEnd}
 

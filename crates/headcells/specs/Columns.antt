@@ -2,8 +2,8 @@
 use Prim.Native.Nat.{ℕ}
 use mathlib.Core.Bool.{Bool, not}
 use mathlib.Core.List.{List}
-use Rattle.book.specs.Names.{isKnown}
-use Rattle.book.specs.declared.names.Found.{Found}
+use Rattle.names.specs.Names.{isKnown}
+use Rattle.names.specs.declared.Found.{Found}
 use Rattle.breaks.specs.Breaks.{Break, breakAt, when}
 use Rattle.breaks.specs.Machine.{controlAt}
 

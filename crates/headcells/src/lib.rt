@@ -1,19 +1,19 @@
 // The column names of a header, each judged by what the book says of it.
-use book::names::Found;
-use book::names::is_opt;
-use book::tables::column;
+use book::column;
+use book::is_opt;
 use breaks::places::both;
 use breaks::places::either;
 use breaks::places::put_if;
 use headnames::came_before;
 use kinds::family_number;
+use names::Found;
 use text::cells::cell_end;
 ghost use mathlib.Core.Path.{_≡_};
 ghost use Prim.Native.Nat.{_+_, _-_, _≤_, _<_};
 ghost use lib.ListN.{length, drop, set};
 ghost use Rattle.text.specs.Lines.{cells};
 ghost use Rattle.book.specs.Rows.{IsBook};
-ghost use Rattle.book.specs.Names.{isKnown};
+ghost use Rattle.names.specs.Names.{isKnown};
 ghost use Rattle.book.specs.Columns.{columnOf};
 ghost use Rattle.breaks.specs.Places.{lent, Puts};
 ghost use Rattle.breaks.specs.Rules.{lastIndex, kindIn};

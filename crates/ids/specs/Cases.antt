@@ -4,7 +4,7 @@ use mathlib.Core.Bool.{true, false}
 use Rattle.text.specs.Bytes.{bytes, same, begins, any, onFirst, splitOn}
 use Rattle.text.specs.Lines.{startsLf, lines, coded}
 use Rattle.references.specs.Index.{written, digits, number, bracketed, indexAt}
-use Rattle.book.specs.Names.{piecesFrom, entryOf, fits, firstOf}
+use Rattle.names.specs.Names.{piecesFrom, entryOf, fits, firstOf}
 use Rattle.book.specs.Keys.{keys, keyEntries, keyOf}
 use Rattle.ids.specs.Ids.{isMeta, declares, declared, indexAfter, idIn, idOf}
 use Rattle.ids.specs.declared.Id.the-variants.{Nothing, Of}

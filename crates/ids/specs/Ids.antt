@@ -11,10 +11,10 @@ use Rattle.references.specs.Index.{written, indexAt}
 use Rattle.references.specs.References.{families, family}
 use Rattle.references.specs.declared.index.Index.{Index}
 use Rattle.references.specs.declared.index.Index.the-variants.{Not, Is}
-use Rattle.book.specs.Names.{isKnown}
+use Rattle.names.specs.Names.{isKnown}
 use Rattle.book.specs.Keys.{keyOf}
-use Rattle.book.specs.declared.names.Found.{Found}
-use Rattle.book.specs.declared.names.Found.the-variants.{Unknown, Known}
+use Rattle.names.specs.declared.Found.{Found}
+use Rattle.names.specs.declared.Found.the-variants.{Unknown, Known}
 use Rattle.ids.specs.declared.Id.{Id}
 use Rattle.ids.specs.declared.Id.the-variants.{Nothing, Of}
 

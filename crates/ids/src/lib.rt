@@ -1,6 +1,6 @@
 // The ids that a file declares.
-use book::names::Found;
-use book::tables::key;
+use book::key;
+use names::Found;
 use references::index::Index;
 use references::index::read_index;
 use text::Part;

@@ -5,10 +5,10 @@ use mathlib.Core.Bool.{Bool, true, false, not, _&&_, _||_}
 use mathlib.Core.List.{List}
 use lib.ListN.{length, getD, set}
 use Rattle.text.specs.Bytes.{Bytes, any}
-use Rattle.book.specs.Names.{slotOf, isKnown}
+use Rattle.names.specs.Names.{slotOf, isKnown}
 use Rattle.kinds.specs.Kinds.{ofKind, familyNumber}
-use Rattle.book.specs.declared.names.Found.{Found}
-use Rattle.book.specs.declared.names.Found.the-variants.{Unknown, Known}
+use Rattle.names.specs.declared.Found.{Found}
+use Rattle.names.specs.declared.Found.the-variants.{Unknown, Known}
 use Rattle.breaks.specs.Rules.{isWrong, namedIn}
 use Rattle.breaks.specs.Machine.{Ids, againIn, undeclaredIn, SLOTS, hasSlot}
 use Rattle.metaline.specs.declared.values.Value.{Value}

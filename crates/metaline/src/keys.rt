@@ -1,13 +1,13 @@
 // A metadata key, as the book finds it: what it and its value break, and its slot among the keys that came before.
 use crate::values::judge_value;
-use book::names::Found;
-use book::names::is_colunit;
+use book::is_colunit;
 use breaks::places::both;
+use names::Found;
 ghost use mathlib.Core.Path.{_≡_};
 ghost use Prim.Native.Nat.{_<_};
 ghost use lib.ListN.{length};
 ghost use Rattle.ids.specs.Ids.{Flags};
-ghost use Rattle.book.specs.Names.{slotOf};
+ghost use Rattle.names.specs.Names.{slotOf};
 ghost use Rattle.breaks.specs.Machine.{idsOf, SLOTS};
 ghost use Rattle.metaline.specs.Metas.{Judged, InSlots, marked};
 

@@ -4,7 +4,7 @@ pub mod values;
 
 use crate::keys::judge_key;
 use crate::keys::mark;
-use book::tables::key;
+use book::key;
 use breaks::places::put_if;
 use text::cells::cell_end;
 use text::cells::count_cells;

@@ -11,10 +11,11 @@ use lib.Seq.{take-at, drop-at}
 use borrow.Author.Tests.{leb-true, eq-eqb, ne-eqb}
 use Rattle.text.specs.Bytes.{Bytes, bytes, all}
 use Rattle.text.specs.Places.{part}
-use Rattle.book.specs.Names.{Entry, entry, entryOf, piecesFrom}
+use Rattle.names.specs.Names.{Entry, entry, entryOf, piecesFrom}
 use Rattle.book.specs.Keys.{keys, keyEntries}
 use Rattle.book.specs.Columns.{proteinColumns, peptideColumns, psmColumns, moleculeColumns, columns, columnEntries}
-use Rattle.book.specs.Rows.{WIDTH, cut, rows, entries, KEYS, PROTEIN, PEPTIDE, PSM, MOLECULE, columnPart, padded, laid, bookBytes, IsBook}
+use Rattle.names.specs.Table.{WIDTH, cut, rows, entries}
+use Rattle.book.specs.Rows.{KEYS, PROTEIN, PEPTIDE, PSM, MOLECULE, columnPart, padded, laid, bookBytes, IsBook}
 use Rattle.text.proofs.Laws.Tests.{and-both}
 
 -- SPACES after a line change nothing

@@ -12,11 +12,11 @@ use lib.ListN.{length, getD, drop}
 use borrow.Author.Tests.{eq-eqb, eqb-true}
 use Rattle.text.specs.Bytes.{Bytes, bytes, same, any, all}
 use Rattle.text.proofs.Laws.Tests.{absurd-bool}
-use Rattle.book.specs.Names.{piecesFrom, entryOf, slotOf, formOf}
+use Rattle.names.specs.Names.{piecesFrom, entryOf, slotOf, formOf}
 use Rattle.book.specs.Keys.{keys, keyOf, keyEntries, demanded}
-use Rattle.book.specs.declared.names.Found.{Found}
-use Rattle.book.specs.declared.names.Found.the-variants.{Unknown, Known}
-use Rattle.book.proofs.Laws.Known.{holes, nth, known, Shape}
+use Rattle.names.specs.declared.Found.{Found}
+use Rattle.names.specs.declared.Found.the-variants.{Unknown, Known}
+use Rattle.names.proofs.Laws.Known.{holes, nth, known, Shape}
 use Rattle.breaks.specs.Sorts.{isMeta}
 use Rattle.breaks.specs.Breaks.{Break, breakAt, when, spotAt, each, atCell, atEnd}
 use Rattle.breaks.specs.Rules.{isThree, keyFound, isForm, hasKey, endRules, ENDS}

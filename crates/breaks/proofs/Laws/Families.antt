@@ -11,12 +11,12 @@ use Rattle.text.specs.Bytes.{Bytes, bytes, all}
 use Rattle.text.proofs.Laws.Tests.{and-both}
 use Rattle.text.proofs.Laws.Each.{all-at}
 use Rattle.book.specs.Book.{NONE}
-use Rattle.book.specs.Names.{Entry, entry, entryOf, familyOf, formOf, piecesFrom, lookupIn}
+use Rattle.names.specs.Names.{Entry, entry, entryOf, familyOf, formOf, piecesFrom, lookupIn}
 use Rattle.book.specs.Columns.{proteinColumns, peptideColumns, psmColumns, moleculeColumns, columns, columnEntries, isOpt, optOf, columnOf}
 use Rattle.kinds.specs.Kinds.{familyNumber}
-use Rattle.book.specs.declared.names.Found.{Found}
-use Rattle.book.specs.declared.names.Found.the-variants.{Unknown, Known}
-use Rattle.book.proofs.Laws.Known.{holes, nth, Shape, known}
+use Rattle.names.specs.declared.Found.{Found}
+use Rattle.names.specs.declared.Found.the-variants.{Unknown, Known}
+use Rattle.names.proofs.Laws.Known.{holes, nth, Shape, known}
 use Rattle.breaks.specs.Rules.{lastIndex, isUndeclared, columnUndeclared}
 use Rattle.breaks.specs.Machine.{Ids, columnIn, Within, Declares}
 

@@ -12,7 +12,7 @@ use borrow.Author.Tests.{ne-eqb, lt-ltb, le-ltb, ltb-true, ltb-false, eqb-true, 
 use Rattle.text.specs.Bytes.{Bytes, any, isEmpty, splitOn}
 use Rattle.text.specs.Lines.{cells}
 use Rattle.book.specs.Columns.{columnOf}
-use Rattle.book.specs.Names.{isKnown}
+use Rattle.names.specs.Names.{isKnown}
 use Rattle.breaks.specs.Sorts.{cell, sortOf, headerIn, rowIn, header, isTable, width, controlCell}
 use Rattle.breaks.specs.Breaks.{Break, spot, atLine}
 use Rattle.breaks.specs.Rules.{keyFound, namesUndeclared, columnUndeclared, ofSection, ofLater, nearer, nearest, nearestIn, rules}

@@ -10,12 +10,12 @@ use borrow.Author.Tests.{eq-eqb, eqb-true}
 use Rattle.text.specs.Bytes.{Bytes, same, any}
 use Rattle.text.specs.Lines.{cells}
 use Rattle.text.proofs.Laws.Tests.{and-both}
-use Rattle.book.specs.Names.{slotOf, lookupIn, isKnown}
+use Rattle.names.specs.Names.{slotOf, lookupIn, isKnown}
 use Rattle.book.specs.Keys.{keys, keyOf, keyEntries, isColunit}
 use Rattle.ids.specs.Ids.{declares}
-use Rattle.book.specs.declared.names.Found.{Found}
-use Rattle.book.specs.declared.names.Found.the-variants.{Unknown, Known}
-use Rattle.book.proofs.Laws.Known.{same-slot, slot-below}
+use Rattle.names.specs.declared.Found.{Found}
+use Rattle.names.specs.declared.Found.the-variants.{Unknown, Known}
+use Rattle.names.proofs.Laws.Known.{same-slot, slot-below}
 use Rattle.breaks.specs.Sorts.{cell, isMeta}
 use Rattle.breaks.specs.Rules.{isThree, keyFound, sameKey}
 use Rattle.breaks.specs.Machine.{SLOTS, againIn, isSlot, hasSlot, Slots}

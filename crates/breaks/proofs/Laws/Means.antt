@@ -13,7 +13,7 @@ use Rattle.text.specs.Lines.{cells}
 use Rattle.text.proofs.Laws.Tests.{and-both}
 use Rattle.book.specs.Keys.{keyOf, isColunit}
 use Rattle.book.specs.Columns.{columnOf}
-use Rattle.book.specs.Names.{isKnown}
+use Rattle.names.specs.Names.{isKnown}
 use Rattle.breaks.specs.Sorts.{cell, sortOf, header, isTable, width, controlCell}
 use Rattle.breaks.specs.Breaks.{Break, breakAt, when, Spot, spot, Rule, each, atCell, atLine}
 use Rattle.breaks.specs.Rules.{isThree, keyFound, sameKey, namesUndeclared, ofSection, ofLater, isWide, names, columnUndeclared, lacksColumn, nearest, kindIn, rules}

@@ -16,10 +16,10 @@ use Rattle.text.proofs.Laws.Lines.{lines-done}
 use Rattle.references.specs.Index.{written}
 use Rattle.references.specs.References.{family}
 use Rattle.book.specs.Keys.{keyOf}
-use Rattle.book.specs.Names.{isKnown}
+use Rattle.names.specs.Names.{isKnown}
 use Rattle.ids.specs.Ids.{keyCell, isMeta, declares, declared, flag, Flags, Declared, idOf, keyId, lineId, marked}
-use Rattle.book.specs.declared.names.Found.{Found}
-use Rattle.book.specs.declared.names.Found.the-variants.{Unknown}
+use Rattle.names.specs.declared.Found.{Found}
+use Rattle.names.specs.declared.Found.the-variants.{Unknown}
 use Rattle.ids.specs.declared.Id.{Id}
 use Rattle.ids.specs.declared.Id.the-variants.{Nothing, Of}
 use Rattle.ids.proofs.Laws.Words.{isId, id-is, id-range}

@@ -14,10 +14,10 @@ use Rattle.references.specs.declared.index.Index.{Index}
 use Rattle.references.specs.declared.index.Index.the-variants.{Not, Is}
 use Rattle.references.specs.References.{families, family}
 use Rattle.references.proofs.Laws.Indices.{index-read, index-written}
-use Rattle.book.specs.Names.{lookupIn}
+use Rattle.names.specs.Names.{lookupIn}
 use Rattle.book.specs.Columns.{isOpt, optOf, columnOf, columnEntries}
 use Rattle.ids.specs.Ids.{valueOf, indexAfter, idIn, idOf}
-use Rattle.book.specs.declared.names.Found.the-variants.{Unknown, Known}
+use Rattle.names.specs.declared.Found.the-variants.{Unknown, Known}
 use Rattle.ids.specs.declared.Id.{Id}
 use Rattle.ids.specs.declared.Id.the-variants.{Nothing, Of}
 use Rattle.text.proofs.Laws.Tests.{absurd-bool, and-both}

@@ -7,7 +7,7 @@ use native.Mathlib.Numerals.{add-one}
 use native.Mathlib.Omega.{arith}
 use lib.ListN.{getD}
 use Rattle.text.specs.Bytes.{any}
-use Rattle.book.specs.Names.{slotOf}
+use Rattle.names.specs.Names.{slotOf}
 use Rattle.breaks.specs.Machine.{upFrom}
 
 -- the runs from index i on

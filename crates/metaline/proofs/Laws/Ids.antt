@@ -11,13 +11,13 @@ use Rattle.text.specs.Lines.{lines}
 use Rattle.text.proofs.Laws.Each.{all-at}
 use Rattle.references.specs.References.{refTo, refsTo}
 use Rattle.book.specs.Book.{REFERENCE, REFERENCES}
-use Rattle.book.specs.Names.{Entry, entry, piecesFrom, entryOf, kindOf, familyOf}
+use Rattle.names.specs.Names.{Entry, entry, piecesFrom, entryOf, kindOf, familyOf}
 use Rattle.book.specs.Keys.{keys, keyEntries, keyOf}
 use Rattle.ids.specs.Ids.{declares, declared, Declared}
 use Rattle.kinds.specs.Kinds.{familyNumber, wordOf, ofKind}
-use Rattle.book.specs.declared.names.Found.{Found}
-use Rattle.book.specs.declared.names.Found.the-variants.{Unknown, Known}
-use Rattle.book.proofs.Laws.Known.{known}
+use Rattle.names.specs.declared.Found.{Found}
+use Rattle.names.specs.declared.Found.the-variants.{Unknown, Known}
+use Rattle.names.proofs.Laws.Known.{known}
 use Rattle.breaks.specs.Rules.{namedIn, isUndeclared, namesUndeclared}
 use Rattle.breaks.specs.Machine.{Ids, idsOf, undeclaredIn, Declares}
 use Rattle.breaks.proofs.Laws.Families.{undeclared-is}

@@ -10,11 +10,11 @@ use lib.ListN.{length, getD, set, length-set}
 use borrow.Author.Tests.{eq-eqb, ne-eqb, eqb-true, eqb-false}
 use Rattle.text.specs.Bytes.{Bytes}
 use Rattle.text.specs.Lines.{cells}
-use Rattle.book.specs.Names.{slotOf}
+use Rattle.names.specs.Names.{slotOf}
 use Rattle.book.specs.Keys.{keys, keyEntries, keyOf}
-use Rattle.book.specs.declared.names.Found.{Found}
-use Rattle.book.specs.declared.names.Found.the-variants.{Unknown, Known}
-use Rattle.book.proofs.Laws.Known.{slot-below}
+use Rattle.names.specs.declared.Found.{Found}
+use Rattle.names.specs.declared.Found.the-variants.{Unknown, Known}
+use Rattle.names.proofs.Laws.Known.{slot-below}
 use Rattle.breaks.specs.Sorts.{cell, sortOf, isMeta}
 use Rattle.breaks.specs.Machine.{SLOTS, isSlot, hasSlot}
 use Rattle.breaks.specs.declared.sorts.Sort.the-variants.{Meta}

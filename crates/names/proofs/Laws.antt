@@ -1,0 +1,5 @@
+-- Laws over plain lists and positions, with no code in them: a file for each thing that they speak of.
+pub mod Turns
+pub mod Known
+pub mod Apart
+pub mod Lengths

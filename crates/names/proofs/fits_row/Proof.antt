@@ -1,0 +1,17 @@
+-- `names::fits_row`. Assumes nothing.
+use borrow.Author.Needs.{needs}
+use mathlib.Core.Path.{sym}
+use Rattle.names.proofs.fits_row.Statement.{statement}
+use Rattle.names.proofs.fits_row.Tie as tie
+
+returns : tie.Need-returns
+returns c = sym (c .before .too-long .ensures (c .if1 .taken))
+
+pub fits-row-spec : {M : Type 1} → statement M
+fits-row-spec =
+    tie.close
+    (tie.spec
+    (λ c κs. search needs)
+    returns
+    (λ c κs. search needs)
+    (λ c. search needs))

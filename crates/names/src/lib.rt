@@ -1,0 +1,173 @@
+// A name looked up in a table of rows.
+use references::index::Index;
+use references::index::read_index;
+use text::bytes::SPACE;
+ghost use mathlib.Core.Path.{_≡_};
+ghost use mathlib.Core.List.{[]};
+ghost use mathlib.Core.Bool.{true};
+ghost use Prim.Native.Nat.{_≤_};
+ghost use lib.ListN.{length, getD, drop};
+ghost use Rattle.text.specs.Bytes.{SPACE as space};
+ghost use Rattle.names.specs.Names.{pieces, fits as fitsIn, lookupIn, mayFit};
+ghost use Rattle.names.specs.Table.{entries};
+ghost use Rattle.names.specs.declared.Match.the-variants.{Differs};
+
+// The bytes of a row.
+pub const WIDTH: usize = 54;
+
+// Where the name begins in a row: after the letters of its kind and family, and a space.
+const NAME: usize = 3;
+
+// Whether a name fits a pattern, with the indices that it has there, 0 for none.
+pub enum Match {
+    Differs,
+    Fits(usize, usize),
+}
+
+// What a table says of a name: its entry there, the letters of its kind and family, and the name's indices, 0 for none.
+pub enum Found {
+    Unknown,
+    Known {
+        entry: usize,
+        kind: u8,
+        family: u8,
+        i: usize,
+        j: usize,
+    },
+}
+
+// Where the pattern has ended: a name that goes on differs.
+fn ended(s: &[u8], b: usize, i: usize, j: usize) -> Match
+    ensures { λ r. ⌜ r ≡ fitsIn [] (drop b (now (s .entry))) i j ⌝ }
+{
+    if b < s.len() {
+        return Match::Differs;
+    }
+    Match::Fits(i, j)
+}
+
+// Whether `s` fits the pattern that stands in the row `p` from `from` on.
+fn fits(p: &[u8], from: usize, s: &[u8]) -> Match
+    ensures { λ r. ⌜ r ≡ fitsIn (pieces (drop from (now (p .entry)))) (now (s .entry)) 0 0 ⌝ }
+{
+    let mut a = from;
+    let mut b = 0;
+    let mut i = 0;
+    let mut j = 0;
+    while a < p.len() {
+        let x = p[a];
+        if x == SPACE {
+            return ended(s, b, i, j);
+        }
+        if x == b'[' {
+            let Index::Is(v, w) = read_index(&s[b..]) else {
+                return Match::Differs;
+            };
+            a += 3;
+            b += w;
+            if i == 0 {
+                i = v;
+            } else if j == 0 {
+                j = v;
+            } else {
+                return Match::Differs;
+            }
+        } else {
+            if s.len() <= b {
+                return Match::Differs;
+            }
+            if s[b] != x {
+                return Match::Differs;
+            }
+            a += 1;
+            b += 1;
+        }
+    }
+    ended(s, b, i, j)
+}
+
+// The byte of a name at a place, a space past its end.
+fn byte_of(name: &[u8], i: usize) -> u8
+    ensures { λ r. ⌜ r ≡ getD (now (name .entry)) i space ⌝ }
+{
+    if i < name.len() { name[i] } else { SPACE }
+}
+
+// Whether a pattern that begins with the bytes p and q may fit a name that begins with x and y: an index may stand at either, or the pattern may end there.
+fn may_fit(p: u8, q: u8, x: u8, y: u8) -> bool
+    ensures { λ r. ⌜ r ≡ mayFit p q x y ⌝ }
+{
+    if p != x {
+        return false;
+    }
+    if q == y {
+        return true;
+    }
+    if q == b'[' {
+        return true;
+    }
+    if q == SPACE {
+        return true;
+    }
+    if p == b'[' {
+        return true;
+    }
+    p == SPACE
+}
+
+// Whether the row's pattern is too long for the name: no space stands where the name would end, nor in the two bytes before, and an index has at most a byte more than its `[n]`.
+fn too_long(row: &[u8], name: &[u8]) -> bool
+    requires { ⌜ 54 ≤ length (now row) ⌝ }
+    ensures { λ r. ⌜ (r ≡ true → fitsIn (pieces (drop 3 (now (row .entry)))) (now (name .entry)) 0 0 ≡ Differs) ⌝ }
+{
+    let n = name.len();
+    if WIDTH - NAME <= n {
+        return false;
+    }
+    let end = NAME + n;
+    if row[end] == SPACE {
+        return false;
+    }
+    if row[end - 1] == SPACE {
+        return false;
+    }
+    row[end - 2] != SPACE
+}
+
+// How the name fits the row's pattern. One that is too long is not read, so that many rows that begin like the name cost little.
+fn fits_row(row: &[u8], name: &[u8]) -> Match
+    requires { ⌜ 54 ≤ length (now row) ⌝ }
+    ensures { λ r. ⌜ r ≡ fitsIn (pieces (drop 3 (now (row .entry)))) (now (name .entry)) 0 0 ⌝ }
+{
+    if too_long(row, name) {
+        return Match::Differs;
+    }
+    fits(row, NAME, name)
+}
+
+// What the table says of the name: the first row whose pattern it fits. Rows whose pattern begins with other bytes are passed over at once.
+pub fn lookup(table: &[u8], name: &[u8]) -> Found
+    ensures { λ r. ⌜ r ≡ lookupIn (entries (now (table .entry))) (now (name .entry)) ⌝ }
+{
+    let x = byte_of(name, 0);
+    let y = byte_of(name, 1);
+    let mut at = 0;
+    let mut entry = 0;
+    while WIDTH <= table.len() - at {
+        let next = at + WIDTH;
+        if may_fit(table[at + NAME], table[at + NAME + 1], x, y) {
+            if let Match::Fits(i, j) = fits_row(&table[at..next], name) {
+                return Found::Known {
+                    entry,
+                    kind: table[at],
+                    family: table[at + 1],
+                    i,
+                    j,
+                };
+            }
+        }
+        at = next;
+        entry += 1;
+    }
+    Found::Unknown
+}
