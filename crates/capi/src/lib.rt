@@ -1,15 +1,15 @@
 // The public calls for hosts in C, Rust and Python: numbers, pointers to them, and byte slices. capi/mztab.h says in words what each does.
-mod values;
+mod cases;
 
+use cases::double_of;
+use cases::number_of;
+use cases::places_of;
+use cases::whole_of;
 use faults::Fault;
 use faults::judge;
 use mztab::cells::locate;
 use mztab::cells::reading;
 use mztab::judged::judge_places;
-use values::double_of;
-use values::number_of;
-use values::places_of;
-use values::whole_of;
 ghost use mathlib.Core.Path.{_≡_};
 ghost use Rattle.mztab.specs.Shown.{sought};
 ghost use Rattle.mztab.specs.Judged.{outcome, judged};

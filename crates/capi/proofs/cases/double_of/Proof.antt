@@ -1,7 +1,7 @@
--- `capi::values::double_of` meets its contract, case by case. Assumes nothing.
+-- `capi::cases::double_of` meets its contract, case by case. Assumes nothing.
 use borrow.Author.Needs.{needs}
-use Rattle.capi.proofs.values.double_of.Statement.{statement}
-use Rattle.capi.proofs.values.double_of.Tie as tie
+use Rattle.capi.proofs.cases.double_of.Statement.{statement}
+use Rattle.capi.proofs.cases.double_of.Tie as tie
 
 returns : tie.Need-returns
 returns c = rw (c .enum-told .given .1)

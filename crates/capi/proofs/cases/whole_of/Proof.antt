@@ -1,11 +1,11 @@
--- `capi::values::whole_of` meets its contract, case by case. Assumes nothing.
+-- `capi::cases::whole_of` meets its contract, case by case. Assumes nothing.
 use mir.Val.{SFits}
 use mir.ValLaws.{toZ-ofZ}
 use mir.Syntax.{w64}
 use mathlib.Core.Path.{_∙_}
 use borrow.Author.Needs.{needs}
-use Rattle.capi.proofs.values.whole_of.Statement.{statement}
-use Rattle.capi.proofs.values.whole_of.Tie as tie
+use Rattle.capi.proofs.cases.whole_of.Statement.{statement}
+use Rattle.capi.proofs.cases.whole_of.Tie as tie
 
 returns : tie.Need-returns
 returns c = rw (c .enum-told .given .1)
