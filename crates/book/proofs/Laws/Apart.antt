@@ -1,8 +1,8 @@
 -- No name fits two lines of the paper's tables, computed; and so the demanded keys are told by their entries. Assumes nothing.
 use Prim.Native.Nat.{ℕ, zero, suc, _<_}
 use mathlib.Core.Path.{_≡_, refl, ap, sym, _∙_}
-use mathlib.Core.Bool.{Bool, true, false, cond}
-use mathlib.Core.List.{List, [], _∷_, map}
+use mathlib.Core.Bool.{true, false}
+use mathlib.Core.List.{List, [], _∷_}
 use native.Mathlib.Omega.{arith}
 use lib.Dec.{eqb}
 use lib.ListN.{length, getD}
@@ -12,6 +12,7 @@ use Rattle.names.specs.declared.Found.the-variants.{Unknown, Known}
 use Rattle.names.proofs.Laws.Known.{nth, unknown-miss}
 use Rattle.names.proofs.Laws.Apart.{apart, apartFrom, allApart, entry-fits}
 use Rattle.book.specs.Keys.{keys, demanded, keyEntries, keyOf}
+use Rattle.book.proofs.Laws.Columns.{each-table}
 use Rattle.book.specs.Columns.{proteinColumns, peptideColumns, psmColumns, moleculeColumns, columns, columnEntries}
 
 -- THE PAPER'S TABLES: no name fits two lines, computed
@@ -21,14 +22,7 @@ keys-apart = refl
 
 pub columns-apart : (s : ℕ) → allApart (columnEntries s) ≡ true
 unfolding allApart apartFrom apart entryOf piecesFrom bytes proteinColumns peptideColumns psmColumns moleculeColumns columns columnEntries
-columns-apart s = go (eqb s 1) (eqb s 2) (eqb s 3) (eqb s 4)
-  where
-    go : (t u v w : Bool) → allApart (map entryOf (map bytes (cond t proteinColumns (cond u peptideColumns (cond v psmColumns (cond w moleculeColumns [])))))) ≡ true
-    go true u v w = refl
-    go false true v w = refl
-    go false false true w = refl
-    go false false false true = refl
-    go false false false false = refl
+columns-apart s = each-table allApart s (refl, refl, refl, refl, refl)
 
 -- DEMANDED keys stand at these entries
 abbrev pub demandedEntries : List ℕ

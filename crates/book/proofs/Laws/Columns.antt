@@ -1,5 +1,6 @@
--- Columns that need no look-up: a name that begins `opt_`, and one of fewer than three bytes, which no table has. Assumes nothing.
+-- A test over the tables of the columns; columns that need no look-up: a name that begins `opt_`, and one of fewer than three bytes, which no table has. Assumes nothing.
 use Prim.Native.Nat.{ℕ, _≤_, _<_}
+use Prim.Native.String.{String}
 use mathlib.Core.Path.{_≡_, refl, _∙_}
 use mathlib.Core.Bool.{Bool, true, false, cond}
 use mathlib.Core.List.{List, [], map}
@@ -9,11 +10,29 @@ use lib.ListN.{length}
 use borrow.Author.Tests.{lt-ltb, le-ltb}
 use Rattle.text.specs.Bytes.{bytes, all}
 use Rattle.text.proofs.Laws.Begins.{begins-short}
-use Rattle.names.specs.Names.{piecesFrom, entryOf, lookupIn}
+use Rattle.names.specs.Names.{Entry, piecesFrom, entryOf, lookupIn}
 use Rattle.book.specs.Columns.{proteinColumns, peptideColumns, psmColumns, moleculeColumns, columns, columnEntries, isOpt, optOf, columnOf}
 use Rattle.names.specs.declared.Found.the-variants.{Unknown, Known}
 use Rattle.names.proofs.Laws.Lengths.{textOf, isLong, first-short}
 
+-- EVERY TABLE: a test that the lines of each section pass, and no lines, is passed by those of any section
+abbrev linesOf : List String → List Entry
+linesOf ls = map entryOf (map bytes ls)
+
+pub each-table : (p : List Entry → Bool) (s : ℕ)
+    → (p (linesOf proteinColumns) ≡ true) × (p (linesOf peptideColumns) ≡ true) × (p (linesOf psmColumns) ≡ true) × (p (linesOf moleculeColumns) ≡ true) × (p [] ≡ true)
+    → p (columnEntries s) ≡ true
+unfolding columns columnEntries
+each-table p s h = go (eqb s 1) (eqb s 2) (eqb s 3) (eqb s 4)
+  where
+    go : (t u v w : Bool) → p (linesOf (cond t proteinColumns (cond u peptideColumns (cond v psmColumns (cond w moleculeColumns []))))) ≡ true
+    go true u v w = h .0
+    go false true v w = h .1
+    go false false true w = h .2
+    go false false false true = h .3
+    go false false false false = h .4
+
+-- OPT
 module _ (section : ℕ) (name : List ℕ) where
   pub column-table : isOpt name ≡ false → columnOf section name ≡ lookupIn (columnEntries section) name
   unfolding columnOf
@@ -30,14 +49,7 @@ module _ (section : ℕ) (name : List ℕ) where
 -- SHORT NAMES: no column's name has fewer than three bytes, computed
 columns-long : (s : ℕ) → all isLong (columnEntries s) ≡ true
 unfolding isLong textOf all bytes columns columnEntries proteinColumns peptideColumns psmColumns moleculeColumns entryOf piecesFrom
-columns-long s = go (eqb s 1) (eqb s 2) (eqb s 3) (eqb s 4)
-  where
-    go : (t u v w : Bool) → all isLong (map entryOf (map bytes (cond t proteinColumns (cond u peptideColumns (cond v psmColumns (cond w moleculeColumns [])))))) ≡ true
-    go true u v w = refl
-    go false true v w = refl
-    go false false true w = refl
-    go false false false true = refl
-    go false false false false = refl
+columns-long s = each-table (λ t. all isLong t) s (refl, refl, refl, refl, refl)
 
 pub column-short : (section : ℕ) (name : List ℕ) → length name < 3 → columnOf section name ≡ Unknown
 unfolding isOpt bytes

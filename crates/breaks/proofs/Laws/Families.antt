@@ -17,6 +17,7 @@ use Rattle.kinds.specs.Kinds.{familyNumber}
 use Rattle.names.specs.declared.Found.{Found}
 use Rattle.names.specs.declared.Found.the-variants.{Unknown, Known}
 use Rattle.names.proofs.Laws.Known.{holes, nth, Shape, known}
+use Rattle.book.proofs.Laws.Columns.{each-table}
 use Rattle.breaks.specs.Rules.{lastIndex, isUndeclared, columnUndeclared}
 use Rattle.breaks.specs.Machine.{Ids, columnIn, Within, Declares}
 
@@ -26,14 +27,7 @@ hasPlace x = eqb (familyOf x) NONE || (ltb (familyNumber (familyOf x)) 4 && ltb 
 
 tables-have : (section : ℕ) → all hasPlace (columnEntries section) ≡ true
 unfolding all columnEntries columns proteinColumns peptideColumns psmColumns moleculeColumns bytes entryOf piecesFrom holes familyNumber
-tables-have section = go (eqb section 1) (eqb section 2) (eqb section 3) (eqb section 4)
-  where
-    go : (p e s m : Bool) → all hasPlace (map entryOf (map bytes (cond p proteinColumns (cond e peptideColumns (cond s psmColumns (cond m moleculeColumns [])))))) ≡ true
-    go true e s m = refl
-    go false true s m = refl
-    go false false true m = refl
-    go false false false true = refl
-    go false false false false = refl
+tables-have section = each-table (λ t. all hasPlace t) section (refl, refl, refl, refl, refl)
 
 last-within : (h i j : ℕ) → 0 < h → Shape h i j → (1 ≤ lastIndex i j) × (lastIndex i j ≤ 64)
 last-within h i j l s = go (eqb j 0) refl
