@@ -1,11 +1,11 @@
 -- When a line breaks each of the 21 rules: paper 01, 'The 21 rules', one line each, in its words and order, with what stops it. Assumes nothing.
-use Prim.Native.Nat.{ℕ, _+_, _-_}
+use Prim.Native.Nat.{ℕ, _-_}
 use Prim.Native.String.{String}
-use mathlib.Core.Bool.{Bool, true, false, cond, not, _&&_, _||_}
+use mathlib.Core.Bool.{Bool, false, cond, not, _&&_}
 use mathlib.Core.List.{List, [], _∷_, _++_}
-use lib.ListN.{length, getD, take, drop}
+use lib.ListN.{getD, take, drop}
 use lib.Dec.{eqb, leb, ltb}
-use Rattle.text.specs.Bytes.{Bytes, bytes, same, is, isEmpty, any, all}
+use Rattle.text.specs.Bytes.{Bytes, bytes, same, isEmpty, any, all}
 use Rattle.text.specs.Lines.{lines, cells}
 use Rattle.book.specs.Book.{TEXT, REFERENCE, REFERENCES, NONE}
 use Rattle.book.specs.Keys.{keys, keyOf, demanded, isColunit}

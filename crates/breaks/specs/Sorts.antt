@@ -1,10 +1,10 @@
 -- What a line is: its sort by its code, and its cells by their numbers. Assumes nothing.
 use Prim.Native.Nat.{ℕ, _-_}
 use mathlib.Core.Bool.{Bool, true, false, cond, _||_}
-use mathlib.Core.List.{List, []}
+use mathlib.Core.List.{[]}
 use lib.ListN.{length, getD}
-use lib.Dec.{eqb, ltb}
-use Rattle.text.specs.Bytes.{Bytes, bytes, same, is, isEmpty}
+use lib.Dec.{ltb}
+use Rattle.text.specs.Bytes.{Bytes, same, is, isEmpty}
 use Rattle.text.specs.Lines.{cells, firstControl}
 use Rattle.text.specs.Codes.{headerCode, rowCode}
 use Rattle.breaks.specs.declared.sorts.Sort.{Sort}

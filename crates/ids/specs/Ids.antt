@@ -13,8 +13,6 @@ use Rattle.references.specs.declared.index.Index.{Index}
 use Rattle.references.specs.declared.index.Index.the-variants.{Not, Is}
 use Rattle.names.specs.Names.{isKnown}
 use Rattle.book.specs.Keys.{keyOf}
-use Rattle.names.specs.declared.Found.{Found}
-use Rattle.names.specs.declared.Found.the-variants.{Unknown, Known}
 use Rattle.ids.specs.declared.Id.{Id}
 use Rattle.ids.specs.declared.Id.the-variants.{Nothing, Of}
 

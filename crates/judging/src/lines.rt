@@ -12,7 +12,6 @@ use text::cells::count_cells;
 ghost use mathlib.Core.Path.{_≡_};
 ghost use Prim.Native.Nat.{_≤_};
 ghost use lib.ListN.{length};
-ghost use Rattle.text.specs.Bytes.{Bytes};
 ghost use Rattle.text.specs.Lines.{LIMIT};
 ghost use Rattle.breaks.specs.Sorts.{controlCell};
 ghost use Rattle.breaks.specs.Places.{lent, Puts};

@@ -1,6 +1,3 @@
--- Laws over plain lists, with no code in them: a file for each thing that they speak of.
-pub mod Naming
-pub mod Ids
-pub mod Valuing
-pub mod Slotting
+-- Laws over plain lists, with no code in them.
+pub mod Keeping
 pub mod Lining

@@ -1,2 +1,2 @@
--- The laws that the proofs cite, here and on the floors above.
+-- The laws that the proofs cite.
 pub mod Laws

@@ -1,11 +1,8 @@
 // Judging a metadata line: rules 1 and 3 to 8, put into the lent places.
-pub mod keys;
-pub mod values;
-
-use crate::keys::judge_key;
-use crate::keys::mark;
 use book::key;
 use breaks::places::put_if;
+use metakeys::judge_key;
+use metakeys::mark;
 use text::cells::cell_end;
 use text::cells::count_cells;
 ghost use mathlib.Core.Path.{_≡_};
@@ -22,7 +19,8 @@ ghost use Rattle.breaks.specs.Breaks.{breakAt, when};
 ghost use Rattle.breaks.specs.Places.{lent, Puts};
 ghost use Rattle.breaks.specs.Machine.{controlAt, eachCell, metaCell, metaBreaks, idsOf, SLOTS};
 ghost use Rattle.breaks.specs.declared.sorts.Sort.the-variants.{Meta};
-ghost use Rattle.metaline.specs.Metas.{marked, Keeps};
+ghost use Rattle.metakeys.specs.Keys.{marked};
+ghost use Rattle.metaline.specs.Metas.{Keeps};
 
 // The cells of a metadata line whose key and value are judged.
 const CELLS: usize = 3;

@@ -1,13 +1,12 @@
 -- Worked examples of what the cell calls show, computed. Assumes nothing.
-use Prim.Native.Nat.{ℕ}
 use mathlib.Core.Path.{_≡_, refl}
-use mathlib.Core.List.{List, [], _∷_}
+use mathlib.Core.List.{[]}
 use Rattle.text.specs.Bytes.{Bytes, bytes, same, onFirst, splitOn}
 use Rattle.text.specs.Lines.{lines, startsLf, coded}
 use Rattle.text.specs.Places.{after}
 use Rattle.text.specs.Codes.{codeFor, headerCode, rowCode}
 use Rattle.mztab.specs.Rows.{numbered, having, rowOf, columnOf}
-use Rattle.mztab.specs.Shown.{Sought, refused, sought}
+use Rattle.mztab.specs.Shown.{refused, sought}
 
 file : Bytes
 file = bytes "COM\tx\r\nPRH\taccession\r\nPRT\tP1\t\r\n\nPRT\tP2\tlast"

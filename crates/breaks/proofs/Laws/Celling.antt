@@ -1,24 +1,22 @@
 -- The cells of a line, by positions, in loops that judge them one by one. Assumes nothing.
 use mathlib.Core.Path.{_≡_, refl, sym, ap, _∙_}
-use mathlib.Core.Bool.{Bool, true, false, cond, not, _&&_, _||_}
-use mathlib.Core.List.{List, [], _∷_, _++_, append-assoc}
+use mathlib.Core.Bool.{Bool, true, false, cond, _||_}
+use mathlib.Core.List.{List, [], _∷_, _++_}
 use mathlib.Core.Logic.{⊎-elim}
-use Prim.Native.Nat.{ℕ, zero, suc, _+_, _-_, _*_, _≤_, _<_}
+use Prim.Native.Nat.{ℕ, suc, _+_, _-_, _≤_, _<_}
 use native.Mathlib.Nat.{eq-or-lt-of-le}
 use native.Mathlib.Numerals.{add-one}
 use native.Mathlib.Omega.{arith}
-use lib.Dec.{eqb, ltb, leb}
+use lib.Dec.{eqb}
 use lib.Seq.{take-all, take-suc, take-nil, getD-drop, drop-drop}
-use lib.ListN.{length, take, drop, getD, length-take, length-drop}
-use borrow.Author.Tests.{eq-eqb, ne-eqb, le-leb, lt-leb, leb-true, eqb-true, eqb-false}
+use lib.ListN.{length, take, drop, getD, length-drop}
 use Rattle.text.specs.Bytes.{Bytes, any, onFirst, splitOn}
 use Rattle.text.specs.Lines.{cells, control, firstControl}
-use Rattle.text.specs.Places.{part, Ends}
+use Rattle.text.specs.Places.{Ends}
 use Rattle.text.proofs.Laws.Pieces.{piece-cut, piece-last}
-use Rattle.breaks.specs.Sorts.{width, controlCell}
-use Rattle.breaks.specs.Breaks.{Break, breakAt, when, each}
-use Rattle.breaks.specs.Places.{Lent, lent, putAll, Puts}
-use Rattle.breaks.specs.Machine.{eachCell, controlAt, plainRest}
+use Rattle.breaks.specs.Breaks.{Break}
+use Rattle.breaks.specs.Places.{Lent, putAll, Puts}
+use Rattle.breaks.specs.Machine.{eachCell}
 use Rattle.breaks.proofs.Laws.Putting.{puts-none}
 
 module _ {l : List ℕ} {s e : ℕ} (h : Ends 9 l s e) where

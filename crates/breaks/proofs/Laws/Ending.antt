@@ -1,11 +1,11 @@
 -- Required metadata, by the slots of all lines: rule 21. Assumes nothing.
 use mathlib.Core.Path.{_≡_, refl, sym, ap, subst, _∙_}
-use mathlib.Core.Bool.{Bool, true, false, cond, not, _&&_, _||_, or-assoc, or-comm}
+use mathlib.Core.Bool.{Bool, true, false, not, _&&_, _||_}
 use mathlib.Core.List.{List, [], _∷_, _++_}
 use mathlib.Core.Logic.{⊎-elim}
 use Prim.Native.String.{String}
-use Prim.Native.Nat.{ℕ, zero, suc, _+_, _-_, _*_, _≤_, _<_}
-use native.Mathlib.Nat.{not-suc-le-zero, eq-or-lt-of-le}
+use Prim.Native.Nat.{ℕ, zero, suc, _+_, _≤_, _<_}
+use native.Mathlib.Nat.{eq-or-lt-of-le}
 use native.Mathlib.Omega.{arith}
 use lib.Dec.{eqb}
 use lib.ListN.{length, getD, drop}
@@ -18,9 +18,9 @@ use Rattle.names.specs.declared.Found.{Found}
 use Rattle.names.specs.declared.Found.the-variants.{Unknown, Known}
 use Rattle.names.proofs.Laws.Known.{holes, nth, known, Shape}
 use Rattle.breaks.specs.Sorts.{isMeta}
-use Rattle.breaks.specs.Breaks.{Break, breakAt, when, spotAt, each, atCell, atEnd}
+use Rattle.breaks.specs.Breaks.{Break, breakAt, when, each, atCell, atEnd}
 use Rattle.breaks.specs.Rules.{isThree, keyFound, isForm, hasKey, endRules, ENDS}
-use Rattle.breaks.specs.Machine.{isSlot, hasSlot, Slots, upFrom, hasEntry, hasRun, endBreaks}
+use Rattle.breaks.specs.Machine.{isSlot, hasSlot, Slots, upFrom, hasEntry, endBreaks}
 use Rattle.breaks.proofs.Laws.Rowing.{test-eq}
 use Rattle.breaks.proofs.Laws.Keeping.{any-alike, keys-61}
 

@@ -1,11 +1,11 @@
 -- A column that names an id names one of the four families, by an index of 1 to 64: computed once over the tables. Assumes nothing.
 use mathlib.Core.Path.{_≡_, refl, subst}
 use mathlib.Core.Bool.{Bool, true, false, cond, not, _&&_, _||_}
-use mathlib.Core.List.{List, [], _∷_, map}
-use Prim.Native.Nat.{ℕ, zero, suc, _≤_, _<_}
+use mathlib.Core.List.{List, []}
+use Prim.Native.Nat.{ℕ, _≤_, _<_}
 use native.Mathlib.Omega.{arith}
 use lib.Dec.{eqb, ltb}
-use lib.ListN.{length, getD}
+use lib.ListN.{length}
 use borrow.Author.Tests.{ltb-true, eqb-false, ne-eqb}
 use Rattle.text.specs.Bytes.{Bytes, bytes, all}
 use Rattle.text.proofs.Laws.Tests.{and-both}

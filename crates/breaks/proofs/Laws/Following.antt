@@ -1,28 +1,23 @@
 -- The state follows the lines: what is carried stands for the lines above, before the first line and after each. Assumes nothing.
 use mathlib.Core.Path.{_≡_, refl, sym, ap, _∙_}
-use mathlib.Core.Bool.{Bool, true, false, cond, not, _&&_, _||_, or-false, or-true}
+use mathlib.Core.Bool.{Bool, true, false, cond, _||_, or-false, or-true}
 use mathlib.Core.List.{List, [], _∷_, _++_}
-use Prim.Native.Nat.{ℕ, zero, suc, _+_, _-_, _≤_, _<_}
+use Prim.Native.Nat.{ℕ, zero, suc, _<_}
 use native.Mathlib.Nat.{not-suc-le-zero}
 use native.Mathlib.Omega.{arith}
-use lib.Dec.{eqb, ltb, leb}
+use lib.Dec.{eqb, ltb}
 use lib.Seq.{getD-set-same, getD-set-other}
-use lib.ListN.{length, getD, set, length-set}
+use lib.ListN.{getD, set, length-set}
 use borrow.Author.Tests.{ne-eqb, lt-ltb, le-ltb, ltb-true, ltb-false, eqb-true, eqb-false}
 use Rattle.text.specs.Bytes.{Bytes, any, isEmpty, splitOn}
-use Rattle.text.specs.Lines.{cells}
-use Rattle.book.specs.Columns.{columnOf}
-use Rattle.names.specs.Names.{isKnown}
-use Rattle.breaks.specs.Sorts.{cell, sortOf, headerIn, rowIn, header, isTable, width, controlCell}
-use Rattle.breaks.specs.Breaks.{Break, spot, atLine}
-use Rattle.breaks.specs.Rules.{keyFound, namesUndeclared, columnUndeclared, ofSection, ofLater, nearer, nearest, nearestIn, rules}
-use Rattle.breaks.specs.Machine.{Ids, undeclaredIn, columnIn, hasSlot, Kinds, SLOTS, Slots}
-use Rattle.breaks.specs.Carried.{initial, afterHeader, afterRow, sortState, sortBreaks, lineBreaks, Stands, Follows}
+use Rattle.breaks.specs.Sorts.{sortOf, headerIn, rowIn, isTable, width}
+use Rattle.breaks.specs.Rules.{ofSection, ofLater, nearer, nearest, nearestIn}
+use Rattle.breaks.specs.Machine.{hasSlot, Slots}
+use Rattle.breaks.specs.Carried.{initial, afterHeader, afterRow, Stands, Follows}
 use Rattle.breaks.specs.declared.state.State.{State}
 use Rattle.breaks.specs.declared.sorts.Sort.{Sort}
 use Rattle.breaks.specs.declared.sorts.Sort.the-variants.{Silent, Unknown, Meta, Header, Row}
 use Rattle.breaks.proofs.Laws.Sorting.{header-section, row-section}
-use Rattle.breaks.proofs.Laws.Rowing.{test-eq}
 use Rattle.breaks.proofs.Laws.Celling.{any-append}
 
 nearest-append : (xs : List Bytes) (x found : Bytes) → nearestIn (xs ++ (x ∷ [])) found ≡ nearer x (nearestIn xs found)

@@ -1,23 +1,21 @@
 -- What is carried along says what the rules ask of the lines above and of the whole file. Assumes nothing.
-use mathlib.Core.Path.{_≡_, refl, sym, ap, subst, _∙_}
-use mathlib.Core.Bool.{Bool, true, false, not, _&&_, _||_}
-use mathlib.Core.List.{List, [], _∷_, _++_}
-use Prim.Native.Nat.{ℕ, suc, _+_, _-_, _*_, _≤_, _<_}
+use mathlib.Core.Path.{_≡_, refl, sym, subst}
+use mathlib.Core.Bool.{Bool, true, not, _&&_}
+use mathlib.Core.List.{List, [], _∷_}
+use Prim.Native.Nat.{ℕ, _<_}
 use native.Mathlib.Omega.{arith}
-use lib.Dec.{eqb, ltb, leb}
-use lib.ListN.{length, getD}
+use lib.Dec.{eqb}
+use lib.ListN.{length}
 use borrow.Author.Tests.{eq-eqb, eqb-true}
 use Rattle.text.specs.Bytes.{Bytes, same, any}
-use Rattle.text.specs.Lines.{cells}
 use Rattle.text.proofs.Laws.Tests.{and-both}
-use Rattle.names.specs.Names.{slotOf, lookupIn, isKnown}
+use Rattle.names.specs.Names.{slotOf, isKnown}
 use Rattle.book.specs.Keys.{keys, keyOf, keyEntries, isColunit}
-use Rattle.ids.specs.Ids.{declares}
 use Rattle.names.specs.declared.Found.{Found}
 use Rattle.names.specs.declared.Found.the-variants.{Unknown, Known}
 use Rattle.names.proofs.Laws.Known.{same-slot, slot-below}
-use Rattle.breaks.specs.Sorts.{cell, isMeta}
-use Rattle.breaks.specs.Rules.{isThree, keyFound, sameKey}
+use Rattle.breaks.specs.Sorts.{cell}
+use Rattle.breaks.specs.Rules.{keyFound, sameKey}
 use Rattle.breaks.specs.Machine.{SLOTS, againIn, isSlot, hasSlot, Slots}
 use Rattle.breaks.proofs.Laws.Rowing.{test-eq}
 

@@ -11,7 +11,7 @@ use Rattle.book.specs.Keys.{keyOf}
 use Rattle.book.specs.Columns.{columnOf}
 use Rattle.breaks.specs.Sorts.{cell, sortOf, controlCell}
 use Rattle.breaks.specs.Breaks.{Break, spot, atLine}
-use Rattle.breaks.specs.Rules.{keyFound, namesUndeclared, columnUndeclared, rules}
+use Rattle.breaks.specs.Rules.{namesUndeclared, columnUndeclared, rules}
 use Rattle.breaks.specs.Machine.{Ids, undeclaredIn, columnIn}
 use Rattle.breaks.specs.Carried.{sortBreaks, lineBreaks, Stands}
 use Rattle.breaks.specs.declared.state.State.{State}

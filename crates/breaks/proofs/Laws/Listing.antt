@@ -4,10 +4,10 @@ use mathlib.Core.Path.{_≡_, refl, sym, ap, _∙_}
 use mathlib.Core.Bool.{Bool, true, false, cond}
 use mathlib.Core.List.{List, [], _∷_, _++_}
 use mathlib.Core.Logic.{_⊎_, inl, inr, ⊎-elim}
-use Prim.Native.Nat.{ℕ, zero, suc, _+_, _-_, _≤_, _<_}
+use Prim.Native.Nat.{ℕ, zero, suc, _+_, _≤_, _<_}
 use native.Mathlib.Nat.{eq-or-lt-of-le}
 use native.Mathlib.Omega.{arith}
-use lib.ListN.{length, getD}
+use lib.ListN.{length}
 use Rattle.text.specs.Bytes.{Bytes}
 use Rattle.breaks.specs.Sorts.{isSilent, width}
 use Rattle.breaks.specs.Breaks.{Break, breakAt, when, Spot, spotAt, Rule, each, atCell, atLine, inLines, atEnd, Broken, Breaks, Lacks, In, Before, Sorted, Rising}

@@ -1,8 +1,8 @@
 -- What a scan carries along means: the breaks that it puts of a line are those that the rules give. Assumes nothing.
 use mathlib.Core.Path.{_≡_, refl, sym, ap, _∙_}
-use mathlib.Core.Bool.{Bool, true, false, cond, not, _&&_, _||_}
+use mathlib.Core.Bool.{Bool, true, false, not, _&&_}
 use mathlib.Core.List.{List, [], _∷_, _++_}
-use Prim.Native.Nat.{ℕ, zero, suc, _+_, _-_, _≤_, _<_}
+use Prim.Native.Nat.{ℕ, suc, _+_, _-_, _≤_, _<_}
 use native.Mathlib.Omega.{arith}
 use lib.Dec.{eqb, ltb, leb}
 use lib.Seq.{getD-drop}
@@ -11,13 +11,13 @@ use borrow.Author.Tests.{ne-eqb, le-leb, lt-ltb, le-ltb, leb-true, leb-false, eq
 use Rattle.text.specs.Bytes.{Bytes, any}
 use Rattle.text.specs.Lines.{cells}
 use Rattle.text.proofs.Laws.Tests.{and-both}
-use Rattle.book.specs.Keys.{keyOf, isColunit}
+use Rattle.book.specs.Keys.{isColunit}
 use Rattle.book.specs.Columns.{columnOf}
 use Rattle.names.specs.Names.{isKnown}
 use Rattle.breaks.specs.Sorts.{cell, sortOf, header, isTable, width, controlCell}
-use Rattle.breaks.specs.Breaks.{Break, breakAt, when, Spot, spot, Rule, each, atCell, atLine}
+use Rattle.breaks.specs.Breaks.{Break, breakAt, when, Spot, spot, Rule, atCell, atLine}
 use Rattle.breaks.specs.Rules.{isThree, keyFound, sameKey, namesUndeclared, ofSection, ofLater, isWide, names, columnUndeclared, lacksColumn, nearest, kindIn, rules}
-use Rattle.breaks.specs.Machine.{eachCell, controlAt, plainRest, Ids, againIn, undeclaredIn, metaCell, metaBreaks, columnIn, headCell, headBreaks, Kinds, rowCell, rowBreaks, unknownBreaks}
+use Rattle.breaks.specs.Machine.{controlAt, Ids, againIn, undeclaredIn, metaCell, metaBreaks, columnIn, headCell, headBreaks, Kinds, rowCell, rowBreaks, unknownBreaks}
 use Rattle.breaks.specs.declared.sorts.Sort.the-variants.{Silent, Unknown, Meta, Header, Row}
 use Rattle.breaks.proofs.Laws.Sorting.{header-section, row-section}
 use Rattle.breaks.proofs.Laws.Rowing.{Says, line-cells, plainCell, plain-rest}

@@ -1,25 +1,18 @@
 -- From the rules at each cell by its number to the cells in a row, and where only rule 1 judges them. Assumes nothing.
 use mathlib.Core.Path.{_≡_, refl, sym, ap, _∙_}
-use mathlib.Core.Bool.{Bool, true, false, cond, not, _&&_, _||_}
+use mathlib.Core.Bool.{Bool, true, false, cond}
 use mathlib.Core.List.{List, [], _∷_, _++_, append-assoc}
-use mathlib.Core.Logic.{⊎-elim}
-use Prim.Native.Nat.{ℕ, zero, suc, _+_, _-_, _*_, _≤_, _<_}
-use native.Mathlib.Nat.{eq-or-lt-of-le}
-use native.Mathlib.Numerals.{add-one}
+use Prim.Native.Nat.{ℕ, suc, _+_, _≤_, _<_}
 use native.Mathlib.Omega.{arith}
-use lib.Dec.{eqb, ltb, leb}
-use lib.Seq.{take-all, take-suc, take-nil, getD-drop, drop-drop}
-use lib.ListN.{length, take, drop, getD, length-take, length-drop}
-use borrow.Author.Tests.{eq-eqb, ne-eqb, le-leb, lt-leb, leb-true, eqb-true, eqb-false}
+use lib.Dec.{eqb, leb}
+use lib.Seq.{getD-drop, drop-drop}
+use lib.ListN.{length, drop, getD, length-drop}
+use borrow.Author.Tests.{le-leb, lt-leb, leb-true, eqb-true, eqb-false}
 use Rattle.text.specs.Bytes.{Bytes, any, onFirst, splitOn}
 use Rattle.text.specs.Lines.{cells, control, firstControl}
-use Rattle.text.specs.Places.{part, Ends}
-use Rattle.text.proofs.Laws.Pieces.{piece-cut, piece-last}
 use Rattle.breaks.specs.Sorts.{width, controlCell}
 use Rattle.breaks.specs.Breaks.{Break, breakAt, when, each}
-use Rattle.breaks.specs.Places.{Lent, lent, putAll, Puts}
 use Rattle.breaks.specs.Machine.{eachCell, controlAt, plainRest}
-use Rattle.breaks.proofs.Laws.Putting.{puts-none}
 
 pub cells-some : (b : ℕ) (l : List ℕ) → splitOn b l ≡ getD (splitOn b l) 0 [] ∷ drop 1 (splitOn b l)
 unfolding splitOn onFirst

@@ -1,13 +1,13 @@
 -- What a line code says, by the tests that lead to each answer. Assumes nothing.
-use mathlib.Core.Path.{_≡_, refl, sym, subst}
+use mathlib.Core.Path.{_≡_, refl, subst}
 use mathlib.Core.Bool.{Bool, true, false, cond}
-use mathlib.Core.List.{List, [], _∷_}
+use mathlib.Core.List.{[], _∷_}
 use Prim.Native.Nat.{ℕ, suc, _≤_, _<_}
 use native.Mathlib.Omega.{arith}
 use lib.Dec.{eqb, ltb}
 use lib.ListN.{length}
 use borrow.Author.Tests.{lt-ltb, le-ltb, ne-eqb}
-use Rattle.text.specs.Bytes.{Bytes, bytes, same, is, isEmpty}
+use Rattle.text.specs.Bytes.{Bytes, same, is, isEmpty}
 use Rattle.text.specs.Codes.{headerCode, rowCode}
 use Rattle.breaks.specs.Sorts.{cell, sectionOf, rowSection, headerSection, codeSort, sortOf}
 use Rattle.breaks.specs.declared.sorts.Sort.{Sort}

@@ -1,5 +1,5 @@
 -- `cells_run::run_case` is safe and ends: every place stays within its slice. Assumes nothing.
-use Prim.Native.Nat.{ℕ, _+_, _*_, _-_, _≤_, _<_}
+use Prim.Native.Nat.{_-_, _≤_}
 use lib.ListN.{length}
 use borrow.Author.Needs.{needs}
 use Rattle.cells_run.proofs.run_case.Statement.{statement}

@@ -6,7 +6,7 @@ use mathlib.Core.List.{List, [], _∷_, _++_, map}
 use native.Mathlib.Omega.{arith}
 use lib.Dec.{eqb}
 use lib.ListN.{length, getD, drop}
-use borrow.Author.Tests.{eq-eqb, ne-eqb, eqb-true, eqb-false, lt-ltb, le-ltb}
+use borrow.Author.Tests.{eq-eqb, ne-eqb, eqb-true, eqb-false}
 use Rattle.text.specs.Bytes.{bytes, begins}
 use Rattle.text.proofs.Laws.Begins.{begins-is, begins-self}
 use Rattle.references.specs.Index.{indexAt, written}
@@ -14,10 +14,7 @@ use Rattle.references.specs.declared.index.Index.{Index}
 use Rattle.references.specs.declared.index.Index.the-variants.{Not, Is}
 use Rattle.references.specs.References.{families, family}
 use Rattle.references.proofs.Laws.Indices.{index-read, index-written}
-use Rattle.names.specs.Names.{lookupIn}
-use Rattle.book.specs.Columns.{isOpt, optOf, columnOf, columnEntries}
 use Rattle.ids.specs.Ids.{valueOf, indexAfter, idIn, idOf}
-use Rattle.names.specs.declared.Found.the-variants.{Unknown, Known}
 use Rattle.ids.specs.declared.Id.{Id}
 use Rattle.ids.specs.declared.Id.the-variants.{Nothing, Of}
 use Rattle.text.proofs.Laws.Tests.{absurd-bool, and-both}

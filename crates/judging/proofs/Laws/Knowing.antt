@@ -16,7 +16,7 @@ use Rattle.breaks.proofs.Laws.Lining.{Knows}
 use Rattle.breaks.proofs.Laws.Ending.{end-means}
 use Rattle.breaks.proofs.Laws.Scanning.{scan-all, scan-last}
 use Rattle.breaks.proofs.Laws.Families.{column-ids}
-use Rattle.metaline.proofs.Laws.Ids.{value-ids, declares-flags}
+use Rattle.metavalues.proofs.Laws.Ids.{value-ids, declares-flags}
 
 -- the flags say which ids the file declares
 pub flags-know : (flags : List (List Bool)) (file : Bytes) → Declared flags file → Knows (lines file) (idsOf flags)

@@ -1,23 +1,21 @@
 -- A line judged by its sort: what it puts, and what is carried after it. Assumes nothing.
 use mathlib.Core.Path.{_≡_, refl, sym, ap, _∙_}
-use mathlib.Core.Bool.{Bool, true, false, not, _&&_, _||_, or-false}
-use mathlib.Core.List.{List, []}
-use Prim.Native.Nat.{ℕ, _+_, _≤_, _<_}
+use mathlib.Core.Bool.{Bool, false, _||_, or-false}
+use mathlib.Core.List.{List}
+use Prim.Native.Nat.{ℕ, _≤_, _<_}
 use native.Mathlib.Omega.{arith}
-use lib.Dec.{eqb, ltb}
 use lib.ListN.{length, getD}
 use borrow.Author.Tests.{lt-ltb}
 use Rattle.text.specs.Bytes.{Bytes}
 use Rattle.text.specs.Lines.{cells}
-use Rattle.breaks.specs.Sorts.{sortOf, headerIn, metaIn, header, isHeader, width, controlCell}
-use Rattle.breaks.specs.Breaks.{Break}
+use Rattle.breaks.specs.Sorts.{sortOf, headerIn, metaIn, width, controlCell}
 use Rattle.breaks.specs.Places.{Lent, Puts}
-use Rattle.breaks.specs.Rules.{isThree, keyFound, names, nearer}
-use Rattle.breaks.specs.Machine.{Ids, isSlot, hasSlot, SLOTS, Kinds, KindsOf}
+use Rattle.breaks.specs.Rules.{names}
+use Rattle.breaks.specs.Machine.{Ids, hasSlot, SLOTS, KindsOf}
 use Rattle.breaks.specs.Carried.{sortState, sortBreaks, lineBreaks, Follows}
 use Rattle.breaks.specs.declared.state.State.{State}
 use Rattle.breaks.specs.declared.sorts.Sort.{Sort}
-use Rattle.breaks.specs.declared.sorts.Sort.the-variants.{Silent, Unknown, Meta, Header, Row}
+use Rattle.breaks.specs.declared.sorts.Sort.the-variants.{Meta, Header}
 use Rattle.breaks.proofs.Laws.Sorting.{header-section}
 
 module _ (ids : Ids) (s : State) (kinds : List ℕ) (slots : List Bool) (n : ℕ) (l : Bytes) (σ : Sort) (e : sortOf l ≡ σ) where

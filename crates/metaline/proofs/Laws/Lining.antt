@@ -18,8 +18,8 @@ use Rattle.breaks.specs.Places.{Lent, Puts}
 use Rattle.breaks.specs.Machine.{Ids, eachCell, controlAt, plainRest, metaCell, metaBreaks}
 use Rattle.breaks.proofs.Laws.Putting.{puts2, puts3}
 use Rattle.breaks.proofs.Laws.Celling.{cell-here, cells-last}
-use Rattle.metaline.specs.Metas.{Judged}
-use Rattle.metaline.specs.declared.keys.Judgement.{Judgement}
+use Rattle.metakeys.specs.Keys.{Judged}
+use Rattle.metakeys.specs.declared.Judgement.{Judgement}
 
 -- more than one cell: a tab stands there
 pub first-tab : {l : List ℕ} {e : ℕ} → Ends 9 l 0 e → length (cells l) ≡ 3 → e < length l

@@ -6,7 +6,7 @@ use native.Mathlib.Omega.{arith}
 use borrow.Author.Needs.{needs}
 use Rattle.text.specs.Lines.{cells}
 use Rattle.breaks.proofs.Laws.Celling.{three-second, three-cells, three-key}
-use Rattle.metaline.proofs.Laws.Slotting.{in-slots}
+use Rattle.metakeys.proofs.Laws.Slotting.{in-slots}
 use Rattle.metaline.proofs.Laws.Lining.{first-tab, three-puts}
 use Rattle.metaline.proofs.judge_three.Statement.{statement}
 use Rattle.metaline.proofs.judge_three.Tie as tie

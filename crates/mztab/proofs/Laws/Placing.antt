@@ -1,18 +1,18 @@
 -- Places that answer what is sought, by the tests that lead to each answer. Assumes nothing.
-use mathlib.Core.Path.{_≡_, refl, sym, ap, _∙_}
+use mathlib.Core.Path.{_≡_, ap, _∙_}
 use mathlib.Core.Bool.{true, false}
-use mathlib.Core.Option.{Option, none, some}
+use mathlib.Core.Option.{none, some}
 use Prim.Native.Nat.{ℕ, _+_, _-_, _≤_, _<_}
 use native.Mathlib.Omega.{arith}
-use lib.ListN.{length, take, drop, length-take, length-drop}
+use lib.ListN.{length, drop, length-take, length-drop}
 use borrow.Author.Tests.{lt-ltb, le-ltb, eq-eqb, ne-eqb}
-use Rattle.text.specs.Bytes.{Bytes, bytes, same, is}
+use Rattle.text.specs.Bytes.{Bytes, is}
 use Rattle.text.specs.Lines.{LIMIT, TAB, LF}
 use Rattle.text.specs.Codes.{isSection}
 use Rattle.text.specs.Places.{part, after}
 use Rattle.text.proofs.Laws.Parts.{part-part}
 use Rattle.mztab.specs.Rows.{Line, lineOf, rowOf, columnOf}
-use Rattle.mztab.specs.Shown.{Sought, refused, refusal, startOf, soughtRow, soughtCell, sought, Shown, given, shown, orElse, Placed}
+use Rattle.mztab.specs.Shown.{Sought, refused, refusal, startOf, soughtRow, sought, Shown, given, shown, orElse, Placed}
 use Rattle.mztab.specs.Readings.{told, unread, readingOf}
 use Rattle.mztab.specs.declared.cells.Place.{Place}
 use Rattle.values.specs.Reading.{valueOf}

@@ -10,7 +10,7 @@ use lib.Seq.{getD-drop}
 use borrow.Author.Tests.{eqb-true, eqb-false, leb-true, ltb-true, ltb-false}
 use Rattle.text.specs.Bytes.{all}
 use Rattle.text.proofs.Laws.Tests.{and-both}
-use Rattle.references.specs.Index.{written, indexAt}
+use Rattle.references.specs.Index.{indexAt}
 use Rattle.references.specs.declared.index.Index.{Index}
 use Rattle.references.specs.declared.index.Index.the-variants.{Not, Is}
 use Rattle.references.proofs.Laws.Indices.{Read, index-read, written-one, written-two}

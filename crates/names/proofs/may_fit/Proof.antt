@@ -1,5 +1,4 @@
 -- `names::may_fit`: the tests that led to each `return` decide. Assumes nothing.
-use mathlib.Core.Path.{_≡_, refl}
 use borrow.Author.Tests.{eq-eqb, ne-eqb}
 use Rattle.names.specs.Names.{mayFit}
 use Rattle.names.proofs.may_fit.Statement.{statement}

@@ -1,5 +1,5 @@
 -- `breaks::sorts::sort_of` meets its contract: the bytes up to the first tab are cell 1. Assumes nothing.
-use mathlib.Core.Path.{_≡_, sym}
+use mathlib.Core.Path.{sym}
 use borrow.Author.Needs.{needs}
 use lib.Seq.{length-take-le}
 use Rattle.text.proofs.Laws.Pieces.{first-piece}

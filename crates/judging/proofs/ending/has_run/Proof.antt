@@ -1,6 +1,6 @@
 -- `judging::ending::has_run` meets its contract. The invariant: some run has a location just where one from index i on has. Assumes nothing.
 use mathlib.Core.Path.{_≡_, refl, sym, _∙_}
-use Prim.Native.Nat.{ℕ, _-_, _≤_}
+use Prim.Native.Nat.{_-_, _≤_}
 use native.Mathlib.Omega.{arith}
 use borrow.Author.Needs.{needs}
 use Rattle.breaks.specs.Machine.{hasRun}

@@ -1,9 +1,8 @@
 -- `judging::lines::judge_line` meets its contract: in each arm the sort says which breaks are put, and what is carried after the line. Assumes nothing.
 use mathlib.Core.Path.{_≡_, refl, sym, _∙_}
-use Prim.Native.Nat.{ℕ, _<_}
+use Prim.Native.Nat.{_<_}
 use native.Mathlib.Omega.{arith}
 use borrow.Author.Needs.{needs}
-use Rattle.text.specs.Bytes.{Bytes}
 use Rattle.breaks.specs.Sorts.{sortOf}
 use Rattle.breaks.specs.Machine.{idsOf}
 use Rattle.breaks.specs.declared.sorts.Sort.{Sort}

@@ -1,6 +1,6 @@
 -- `mztab::rows::nth_coded` meets its contract. The invariant: line n of those with the code is line `left` of those from `at` on, the first of which is line `line_no`. Assumes nothing.
 use mathlib.Core.Path.{_≡_, refl, sym, _∙_}
-use Prim.Native.Nat.{ℕ, _+_, _-_, _≤_}
+use Prim.Native.Nat.{_+_, _-_, _≤_}
 use borrow.Author.Needs.{needs}
 use lib.ListN.{length, drop, getElem?}
 use Rattle.text.specs.Lines.{LF, lines}

@@ -1,8 +1,7 @@
 -- `text::cells::count_cells` meets its contract. The invariant: the cells of the line are those counted and those of what is left. Assumes nothing.
 use mathlib.Core.Path.{_≡_}
-use Prim.Native.Nat.{ℕ, _+_, _-_, _≤_}
+use Prim.Native.Nat.{_+_, _-_, _≤_}
 use native.Mathlib.Omega.{arith}
-use borrow.Author.Needs.{needs}
 use lib.ListN.{length, drop}
 use Rattle.text.specs.Lines.{cells}
 use Rattle.text.proofs.Laws.Pieces.{count-next, count-last}

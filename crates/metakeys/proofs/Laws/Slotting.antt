@@ -1,0 +1,50 @@
+-- The slots of keys: a known key has one, and it is the one that is set. Assumes nothing.
+use Prim.Native.Nat.{ℕ, _<_}
+use mathlib.Core.Path.{_≡_, refl, sym, _∙_}
+use mathlib.Core.Bool.{Bool, true, false, _||_, or-false, or-true}
+use mathlib.Core.List.{List}
+use native.Mathlib.Omega.{arith}
+use lib.Dec.{eqb}
+use lib.Seq.{getD-set-same, getD-set-other}
+use lib.ListN.{length, getD, set, length-set}
+use borrow.Author.Tests.{eqb-true, eqb-false}
+use Rattle.text.specs.Bytes.{Bytes}
+use Rattle.names.specs.Names.{slotOf}
+use Rattle.book.specs.Keys.{keys, keyEntries, keyOf}
+use Rattle.names.specs.declared.Found.{Found}
+use Rattle.names.specs.declared.Found.the-variants.{Unknown, Known}
+use Rattle.names.proofs.Laws.Known.{slot-below}
+use Rattle.breaks.specs.Machine.{SLOTS, isSlot}
+use Rattle.metakeys.specs.Keys.{InSlots, marked}
+
+keys-61 : length keyEntries ≡ 61
+unfolding keyEntries keys
+keys-61 = refl
+
+-- a known key has one of the slots
+pub in-slots : (x : Bytes) → InSlots (keyOf x)
+unfolding keyOf
+in-slots x = go (keyOf x) refl
+  where
+    go : (r : Found) → keyOf x ≡ r → InSlots r
+    go Unknown q = tt
+    go (Known e k f i j) q = omega (arith, slot-below keyEntries x e k f i j q .3, keys-61)
+
+pub inside : {r : Found} {e k f i j : ℕ} → r ≡ Known e k f i j → InSlots r → slotOf e i j < SLOTS
+inside q h = rw q at h
+
+module _ (slots : List Bool) (whole : length slots ≡ SLOTS) where
+  pub marked-length : (r : Found) → length (marked slots r) ≡ SLOTS
+  marked-length Unknown = whole
+  marked-length (Known e k f i j) = length-set slots (slotOf e i j) true ∙ whole
+
+  set-slot : (s i : ℕ) → i < SLOTS → getD (set slots s true) i false ≡ (getD slots i false || eqb s i)
+  set-slot s i h = go (eqb s i) refl
+    where
+      go : (t : Bool) → eqb s i ≡ t → getD (set slots s true) i false ≡ (getD slots i false || t)
+      go true e = let z : s ≡ i = eqb-true s i e in rw (z, or-true (getD slots i false)) (getD-set-same slots i true false (omega arith))
+      go false e = getD-set-other slots s i true false (λ z. eqb-false s i e (sym z)) ∙ sym (or-false (getD slots i false))
+
+  pub marked-slot : (r : Found) (i : ℕ) → i < SLOTS → getD (marked slots r) i false ≡ (getD slots i false || isSlot i r)
+  marked-slot Unknown i h = sym (or-false (getD slots i false))
+  marked-slot (Known e k f i₁ j) i h = set-slot (slotOf e i₁ j) i h

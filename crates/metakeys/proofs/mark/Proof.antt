@@ -1,0 +1,32 @@
+-- `metakeys::mark` meets its contract. Assumes nothing.
+use native.Mathlib.Omega.{arith}
+use borrow.Author.Needs.{needs}
+use Rattle.metakeys.proofs.Laws.Slotting.{inside}
+use Rattle.metakeys.proofs.mark.Statement.{statement}
+use Rattle.metakeys.proofs.mark.Tie as tie
+
+slot-of-requires : tie.Need-slot-of-requires
+slot-of-requires c κs =
+    let f = c .before in
+    inside (f .found .given .1) (f .before .before .before .pre .0)
+
+slice-write-slots : tie.Need-slice-write-slots
+slice-write-slots c =
+    let f = c .before .before in
+    let start = f .before .before .before in
+    omega (arith, c .slot-of .ensures, inside (f .found .given .1) (start .pre .0), start .pre .1)
+
+returns-2 : tie.Need-returns-2
+returns-2 c = rw (c .slot-of .ensures, c .before .before .found .given .1)
+
+pub mark-spec : {M : Type 1} → statement M
+mark-spec =
+    tie.close
+    (tie.spec
+    (λ c. search needs)
+    (λ c. search needs)
+    slot-of-requires
+    slice-write-slots
+    (λ c. search needs)
+    (λ c. search needs)
+    returns-2)

@@ -1,0 +1,32 @@
+-- The slots after a metadata line say which keys came before, the line's own too. Assumes nothing.
+use mathlib.Core.Path.{_≡_, sym}
+use mathlib.Core.Bool.{Bool, false, or-false, and-false}
+use mathlib.Core.List.{List, []}
+use lib.ListN.{length, getD}
+use borrow.Author.Tests.{eq-eqb, ne-eqb}
+use Rattle.text.specs.Bytes.{Bytes}
+use Rattle.text.specs.Lines.{cells}
+use Rattle.book.specs.Keys.{keyOf}
+use Rattle.breaks.specs.Sorts.{cell, sortOf, isMeta}
+use Rattle.breaks.specs.Machine.{SLOTS, hasSlot}
+use Rattle.breaks.specs.declared.sorts.Sort.the-variants.{Meta}
+use Rattle.metakeys.specs.Keys.{marked}
+use Rattle.metakeys.proofs.Laws.Slotting.{marked-length, marked-slot}
+use Rattle.metaline.specs.Metas.{Keeps}
+
+module _ (slots : List Bool) (whole : length slots ≡ SLOTS) (l : Bytes) where
+  -- a metadata line of three cells marks its key
+  pub keeps-three : sortOf l ≡ Meta → length (cells l) ≡ 3 → Keeps l slots (marked slots (keyOf (getD (cells l) 1 [])))
+  unfolding hasSlot cell
+  keeps-three m t = record {
+    keys = λ i h. rw (m, eq-eqb (length (cells l)) 3 t) (marked-slot slots whole (keyOf (getD (cells l) 1 [])) i h);
+    places = marked-length slots whole (keyOf (getD (cells l) 1 []));
+  }
+
+  -- and any other none
+  pub keeps-other : (length (cells l) ≡ 3 → ⊥) → Keeps l slots slots
+  unfolding hasSlot
+  keeps-other t = record {
+    keys = λ i h. rw (ne-eqb (length (cells l)) 3 t, and-false (isMeta l)) (sym (or-false (getD slots i false)));
+    places = whole;
+  }

@@ -1,0 +1,93 @@
+-- The ids that are carried say what rule 8 asks of the whole file: every id that a value names is of one of the four families, with an index 1 to 64. Assumes nothing.
+use Prim.Native.Nat.{ℕ, _+_, _-_, _<_}
+use mathlib.Core.Path.{_≡_, refl, sym, ap, _∙_}
+use mathlib.Core.Bool.{Bool, true, false, not, _&&_, _||_}
+use mathlib.Core.List.{List, [], _∷_}
+use native.Mathlib.Omega.{arith}
+use lib.Dec.{eqb, ltb}
+use borrow.Author.Tests.{ltb-true, eqb-true, eqb-false}
+use Rattle.text.specs.Bytes.{Bytes, bytes, any, all}
+use Rattle.text.specs.Lines.{lines}
+use Rattle.text.proofs.Laws.Each.{all-at}
+use Rattle.references.specs.References.{refTo, refsTo}
+use Rattle.book.specs.Book.{REFERENCE, REFERENCES}
+use Rattle.names.specs.Names.{Entry, entry, piecesFrom, entryOf, kindOf, familyOf}
+use Rattle.book.specs.Keys.{keys, keyEntries, keyOf}
+use Rattle.ids.specs.Ids.{declares, declared, Declared}
+use Rattle.kinds.specs.Kinds.{familyNumber, wordOf, ofKind}
+use Rattle.names.specs.declared.Found.{Found}
+use Rattle.names.specs.declared.Found.the-variants.{Unknown, Known}
+use Rattle.names.proofs.Laws.Known.{known}
+use Rattle.breaks.specs.Rules.{namedIn, isUndeclared, namesUndeclared}
+use Rattle.breaks.specs.Machine.{Ids, idsOf, undeclaredIn, Declares}
+use Rattle.breaks.proofs.Laws.Families.{undeclared-is}
+use Rattle.metavalues.proofs.Laws.Naming.{one-good, one-named, list-good, list-named, none-named, isHigh, ref-high, refs-high, any-high}
+
+-- KEYS: one whose values name ids is of one of the four families
+
+-- a kind whose values name ids
+abbrev isNaming : ℕ → Bool
+isNaming k = eqb k REFERENCE || eqb k REFERENCES
+
+keyNames : Entry → Bool
+keyNames e = not (isNaming (kindOf e)) || ltb (familyNumber (familyOf e)) 4
+
+keys-name : all keyNames keyEntries ≡ true
+unfolding all keyNames familyNumber entryOf piecesFrom bytes keys keyEntries
+keys-name = refl
+
+module _ (x : Bytes) (e k f i j : ℕ) (q : keyOf x ≡ Known e k f i j) where
+  key-family : isNaming k ≡ true → familyNumber f < 4
+  unfolding keyOf keyNames
+  key-family h =
+      let a = known keyEntries x e k f i j q in
+      let t = all-at keyNames keyEntries (entry 0 0 []) e keys-name (a .inside) in
+      ltb-true (familyNumber f) 4 (rw (← a .kind, ← a .family, h) at t)
+
+  one-family : k ≡ REFERENCE → familyNumber f < 4
+  one-family h = key-family (rw h)
+
+  list-family : k ≡ REFERENCES → familyNumber f < 4
+  list-family h = key-family (rw h)
+
+-- THE LAWS
+module _ (file : List Bytes) (ids : Ids) (d : Declares file ids) where
+  module _ (x v : Bytes) (e k f i j : ℕ) (q : keyOf x ≡ Known e k f i j) (good : ofKind k f v ≡ true) where
+    abbrev Alike : List ℕ → Type 0
+    Alike is = any (isUndeclared file (familyNumber f)) is ≡ any (λ n. not (ids (familyNumber f) n)) is
+
+    high-alike : familyNumber f < 4 → (is : List ℕ) → all isHigh is ≡ true → Alike is
+    high-alike h is a = any-high _ _ (λ n lo hi. undeclared-is file ids d (familyNumber f) n h lo hi) is a
+
+    named-ids : Alike (namedIn k f v)
+    unfolding any all
+    named-ids = go (eqb k 114) (eqb k 108) refl refl
+      where
+        go : (t u : Bool) → eqb k 114 ≡ t → eqb k 108 ≡ u → Alike (namedIn k f v)
+        go true u a b =
+            let r = eqb-true k 114 a in
+            rw (one-named k f v r) (high-alike (one-family x e k f i j q r) (refTo (wordOf f) v ∷ []) (rw (ref-high (wordOf f) v (sym (one-good k f v r) ∙ good))))
+        go false true a b =
+            let r = eqb-true k 108 b in
+            rw (list-named k f v r) (high-alike (list-family x e k f i j q r) (refsTo (wordOf f) v) (refs-high (wordOf f) v (sym (list-good k f v r) ∙ good)))
+        go false false a b = rw (none-named k f v (eqb-false k 114 a) (eqb-false k 108 b))
+
+  -- rule 8, by the ids that are carried
+  pub value-ids : (x v : Bytes) → namesUndeclared file (keyOf x) v ≡ undeclaredIn ids (keyOf x) v
+  value-ids x v = go (keyOf x) refl
+    where
+      go : (r : Found) → keyOf x ≡ r → namesUndeclared file r v ≡ undeclaredIn ids r v
+      go Unknown q = refl
+      go (Known e k f i j) q = by (ofKind k f v) refl
+        where
+          by : (t : Bool) → ofKind k f v ≡ t
+              → (t && any (isUndeclared file (familyNumber f)) (namedIn k f v)) ≡ (t && any (λ n. not (ids (familyNumber f) n)) (namedIn k f v))
+          by true g = named-ids x v e k f i j q g
+          by false g = refl
+
+-- the flags of a file are its ids
+pub declares-flags : (flags : List (List Bool)) (file : Bytes) → Declared flags file → Declares (lines file) (idsOf flags)
+unfolding declared
+declares-flags flags file d f i h lo hi =
+    let z : i - 1 + 1 ≡ i = omega arith in
+    d .flags f (i - 1) h (omega arith) ∙ ap (λ (n : ℕ). any (declares f n) (lines file)) z
