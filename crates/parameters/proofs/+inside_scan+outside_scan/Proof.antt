@@ -6,7 +6,7 @@ use mathlib.Core.Bool.{true, false}
 use Rattle.text.specs.Places.{part}
 use Rattle.parameters.specs.Scan.{state, run}
 use Rattle.parameters.proofs.Laws.Scans.{run-none, run-inner, run-closes, run-opens, run-stops, run-outer}
-use Prim.Native.Nat.{ℕ, _-_, _≤_}
+use Prim.Native.Nat.{ℕ, _-_, _≤_, _<_}
 use borrow.Fn.Kinds.{In}
 use borrow.Fn.PlainCycle.{Measures, is, falls, and}
 use Rattle.parameters.proofs.inside_scan.Reads as inside-scan
