@@ -2,11 +2,9 @@
  *
  * Hostile files are judged on a stack of 2 MB. With HOSTILE_FILES_ONLY defined there is nothing but the making of these files, for the benchmark. */
 #define _GNU_SOURCE
-#include <pthread.h>
 #include <stdio.h>
 #include <stdlib.h>
 #include <string.h>
-#include <sys/mman.h>
 #include <unistd.h>
 #include "../crates/capi/mztab.h"
 
@@ -296,6 +294,7 @@ static uint64_t draw(uint64_t n) {
 }
 
 #ifndef HOSTILE_FILES_ONLY
+#include "stack.h"
 
 /* ---- checks */
 
@@ -471,16 +470,6 @@ static void records(void) {
     file[LIMIT] = 10;
     for (size_t k = 0; k < 8; k++) check(same_records(LIMIT + 1, k), "records: over the limit", k);
     group("records as places");
-}
-
-/* A page between two that may not be touched. */
-static uint8_t *page(size_t length) {
-    uint8_t *p = mmap(NULL, 3 * length, PROT_NONE, MAP_PRIVATE | MAP_ANONYMOUS, -1, 0);
-    if (p == MAP_FAILED || mprotect(p + length, length, PROT_READ | PROT_WRITE)) {
-        perror("mmap");
-        exit(2);
-    }
-    return p + length;
 }
 
 /* The example at either edge of a page, and each front part of it: a byte touched outside is a fault. */
@@ -669,8 +658,7 @@ static void doubles(void) {
 
 static size_t most = LIMIT; /* the bytes of the hostile files */
 
-static void *hostile(void *unused) {
-    (void)unused;
+static void hostile(void) {
     for (int i = 0; i < FILES; i++) {
         struct want w = HOSTILE[i].make(most);
         uint32_t places[12], number = 77;
@@ -691,7 +679,6 @@ static void *hostile(void *unused) {
     digits(LIMIT);
     struct read r = reading(file, LIMIT, 1, 1, 5);
     check(r.number == 0 && r.kind == 5 && r.line == 2 && r.cell == 6 && bare(r), "reading of digits", r.kind);
-    return NULL;
 }
 
 /* On a stack of 2 MB, with pages around it that may not be touched; says how much of it was used. */
@@ -699,13 +686,7 @@ static void on_small_stack(void) {
     size_t length = (size_t)2 << 20;
     uint8_t *stack = page(length);
     memset(stack, 0xA5, length);
-    pthread_attr_t attr;
-    pthread_t thread;
-    if (pthread_attr_init(&attr) || pthread_attr_setstack(&attr, stack, length) || pthread_create(&thread, &attr, hostile, NULL)) {
-        fprintf(stderr, "no thread\n");
-        exit(2);
-    }
-    pthread_join(thread, NULL);
+    on_stack(stack, length, hostile);
     size_t free_bytes = 0;
     while (free_bytes < length && stack[free_bytes] == 0xA5) free_bytes++;
     check(free_bytes > 0, "stack", free_bytes);

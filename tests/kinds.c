@@ -1,18 +1,17 @@
 /* Tests and measures the kinds through libkinds_c.a, on a stack of 2 MB.
  *
  *   rt staticlib kinds_c
- *   gcc -O2 -Wall -Wextra -pthread tests/kinds.c target/staticlib/libkinds_c.a -o target/kinds_test && target/kinds_test
+ *   gcc -O2 -Wall -Wextra tests/kinds.c target/staticlib/libkinds_c.a -o target/kinds_test && target/kinds_test
  *
  * The archive is for x86-64. Under an emulator the answers count, and that time is linear; the nanoseconds say nothing.
  *
  * Fails where an answer is wrong. With a word, as `kinds measure`, it also prints the nanoseconds a byte of each kind on long values, 1 MB and 16 MB,
  * hostile ones among them, and fails where the time of a byte grows with the length. */
-#include <pthread.h>
 #include <stdint.h>
 #include <stdio.h>
-#include <stdlib.h>
 #include <string.h>
 #include <time.h>
+#include "stack.h"
 
 uint32_t kinds_is(uint32_t kind, const uint8_t *s, size_t n);
 
@@ -134,11 +133,10 @@ static void quoted_bars(size_t n) { over("\"|", n); }
 static void decimals(size_t n) { over("1123.25|", n); }
 static void window(size_t n) { memset(buffer, '7', n); buffer[n / 2] = '|'; }
 
-static void *run(void *unused) {
-    (void)unused;
+static void run(void) {
     answers();
     if (!measuring)
-        return NULL;
+        return;
     printf("nanoseconds a byte, of 1 MB and of 16 MB\n%-28s", "");
     for (uint32_t kind = 0; kind < KINDS; kind++)
         printf("  %11.11s", NAMES[kind]);
@@ -156,19 +154,12 @@ static void *run(void *unused) {
     measure("all spaces", all_spaces);
     measure("all [", all_opens);
     measure("all commas", all_commas);
-    return NULL;
 }
 
 int main(int words, char **word) {
     (void)word;
     measuring = words > 1;
-    pthread_t thread;
-    pthread_attr_t attr;
-    if (pthread_attr_init(&attr) || pthread_attr_setstacksize(&attr, 2 * MB) || pthread_create(&thread, &attr, run, NULL)) {
-        fprintf(stderr, "no thread\n");
-        return 2;
-    }
-    pthread_join(thread, NULL);
+    on_stack(page(2 * MB), 2 * MB, run);
     printf(failed ? "FAILED\n" : "ok\n");
     return failed;
 }

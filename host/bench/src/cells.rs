@@ -6,7 +6,7 @@ use std::path::Path;
 use samples::ordinary;
 
 use crate::judging::SIZES;
-use crate::tables::{heads, line, ms, ratio, size};
+use crate::tables::{beside, heads};
 use crate::times::{best, mawk, wc};
 
 /// A row that no file has.
@@ -78,17 +78,7 @@ fn one(
             "{name}: the library and the independent reading differ"
         ));
     }
-    let (wc, mawk) = (wc(&path), mawk(&path));
-    line(&[
-        name.to_string(),
-        size(file.len()),
-        ms(Some(cell)),
-        ms(Some(independent)),
-        ratio(cell, Some(independent)),
-        ms(wc),
-        ratio(cell, wc),
-        ms(mawk),
-        ratio(cell, mawk),
-    ]);
+    let others = [Some(independent), wc(&path), mawk(&path)];
+    beside(name, file.len(), cell, &[], &others);
     Ok(())
 }

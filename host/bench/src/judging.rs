@@ -5,7 +5,7 @@ use std::path::Path;
 
 use samples::{hostile, ordinary};
 
-use crate::tables::{heads, line, ms, ratio, size};
+use crate::tables::{beside, heads};
 use crate::times::{best, mawk, wc};
 
 pub const SIZES: [usize; 2] = [1 << 20, mztab::LIMIT];
@@ -49,18 +49,8 @@ fn one(name: &str, file: &[u8], breaks: u32, folder: &Path) -> Result<(), String
             "{name}: {count} breaks, not {breaks}; the independent reading has {expected}"
         ));
     }
-    let (wc, mawk) = (wc(&path), mawk(&path));
-    line(&[
-        name.to_string(),
-        size(file.len()),
-        ms(Some(judge)),
-        format!("{:.2}", judge * 1e6 / file.len() as f64),
-        ms(Some(independent)),
-        ratio(judge, Some(independent)),
-        ms(wc),
-        ratio(judge, wc),
-        ms(mawk),
-        ratio(judge, mawk),
-    ]);
+    let a_byte = format!("{:.2}", judge * 1e6 / file.len() as f64);
+    let others = [Some(independent), wc(&path), mawk(&path)];
+    beside(name, file.len(), judge, &[a_byte], &others);
     Ok(())
 }

@@ -10,6 +10,16 @@ pub fn line(cells: &[String]) {
     println!("| {} |", cells.join(" | "));
 }
 
+/// The line of a call: its time, what more is said of it, and the times beside it, each with how many times that one it is.
+pub fn beside(name: &str, bytes: usize, time: f64, more: &[String], others: &[Option<f64>]) {
+    let mut cells = vec![name.to_string(), size(bytes), ms(Some(time))];
+    cells.extend_from_slice(more);
+    for other in others {
+        cells.extend([ms(*other), ratio(time, *other)]);
+    }
+    line(&cells);
+}
+
 /// Milliseconds, or a dash where there are none.
 pub fn ms(time: Option<f64>) -> String {
     time.map_or("-".to_string(), |time| format!("{time:.2}"))
@@ -21,6 +31,6 @@ pub fn ratio(time: f64, other: Option<f64>) -> String {
 }
 
 /// A size in bytes, as people say it.
-pub fn size(bytes: usize) -> String {
+fn size(bytes: usize) -> String {
     format!("{} MB", bytes >> 20)
 }

@@ -200,25 +200,38 @@ fn questions(file: &[u8]) -> Vec<Question> {
     asked
 }
 
-fn cell(file: &[u8], (section, row, column): Question) -> Result<(), String> {
-    let at = format!("section {section}, row {row}, column {column}");
-    let number = independent::cell(file, section, row, column)
-        .err()
-        .unwrap_or(0);
+/// What the independent reading finds: line, cell and reading, or a refusal.
+type Expected = Result<(u32, u32, Reading), u32>;
+
+fn cell(file: &[u8], question: Question) -> Result<(), String> {
+    let (section, row, column) = question;
+    // The independent reading is asked once, and each call of the library held to it.
+    let shown = independent::cell(file, section, row, column);
+    let expected = independent::reading(file, section, row, column);
+    plain(file, question, shown.err().unwrap_or(0))
+        .and_then(|()| views(file, question, shown))
+        .and_then(|()| reading(file, question, expected))
+        .and_then(|()| bound(file, question, expected))
+        .map_err(|words| format!("section {section}, row {row}, column {column}: {words}"))
+}
+
+fn plain(file: &[u8], (section, row, column): Question, number: u32) -> Result<(), String> {
     let plain = raw::cell(file, section, row, column);
     if plain.number != number || (number != 0 && (plain.start, plain.length) != (0, 0)) {
         return Err(format!(
-            "{at}: the library answers {plain:?}; the independent reading number {number}"
+            "the library answers {plain:?}; the independent reading number {number}"
         ));
     }
-    views(file, (section, row, column)).map_err(|words| format!("{at}: {words}"))?;
-    reading(file, (section, row, column)).map_err(|words| format!("{at}: {words}"))
+    Ok(())
 }
 
 /// The cell with and without a stand-in: the same bytes, at the same place.
-fn views(file: &[u8], (section, row, column): Question) -> Result<(), String> {
+fn views(
+    file: &[u8],
+    (section, row, column): Question,
+    expected: Result<&[u8], u32>,
+) -> Result<(), String> {
     let stand_in: &[u8] = b"-";
-    let expected = independent::cell(file, section, row, column);
     let found = mztab::cell(file, section, row, column).map_err(|refusal| refusal.number());
     let expected_or = independent::cell_or(file, section, row, column, stand_in);
     let found_or =
@@ -241,7 +254,11 @@ fn same_place(found: Result<&[u8], u32>, expected: Result<&[u8], u32>) -> bool {
 }
 
 /// Line, cell and reading, the double bit for bit, and 0 for what a case does not carry.
-fn reading(file: &[u8], (section, row, column): Question) -> Result<(), String> {
+fn reading(
+    file: &[u8],
+    (section, row, column): Question,
+    expected: Expected,
+) -> Result<(), String> {
     let found = raw::reading(file, section, row, column);
     let found = (
         found.number,
@@ -252,7 +269,7 @@ fn reading(file: &[u8], (section, row, column): Question) -> Result<(), String> 
         found.places,
         found.decimal.to_bits(),
     );
-    let expected = match independent::reading(file, section, row, column) {
+    let expected = match expected {
         Err(number) => (number, 0, 0, 0, 0, 0, 0),
         Ok((line, cell, reading)) => {
             let (case, whole, places, bits) = carried(&reading);
@@ -262,7 +279,7 @@ fn reading(file: &[u8], (section, row, column): Question) -> Result<(), String> 
     if found != expected {
         return Err(format!("the library reads {found:?}; the independent reading {expected:?} (number, line, cell, case, whole, places, bits)"));
     }
-    bound(file, (section, row, column), expected.0)
+    Ok(())
 }
 
 /// The case of a reading, and what it carries.
@@ -283,11 +300,10 @@ fn carried(reading: &Reading) -> (u32, i64, u32, u64) {
 }
 
 /// The binding's own record says the same.
-fn bound(file: &[u8], (section, row, column): Question, number: u32) -> Result<(), String> {
-    let expected = independent::reading(file, section, row, column);
+fn bound(file: &[u8], (section, row, column): Question, expected: Expected) -> Result<(), String> {
     let found = mztab::reading(file, section, row, column);
     let same = match (&found, &expected) {
-        (Err(refusal), Err(_)) => refusal.number() == number,
+        (Err(refusal), Err(number)) => refusal.number() == *number,
         (Ok(found), Ok((line, cell, reading))) => {
             (found.line, found.cell) == (*line, *cell) && same_value(&found.value, reading)
         }

@@ -1,8 +1,8 @@
 //! Compares the library, through its binding, with the independent reading of the paper: every break, every place of the lent list, and
 //! every cell, on files written by hand, hostile ones, and files drawn by a grammar, most of them damaged.
 //!
-//! `differential [--seed S] [--count N] [--sample M]`: N drawn files beside every M-th of those written by hand, else all. The same seed
-//! draws the same files.
+//! `differential [--seed S] [--from K] [--count N] [--sample M]`: N drawn files, beside the hostile ones and every M-th of those written by
+//! hand, else all. With `--from` the drawn files K to K + N - 1 alone, so that a run can be cut into parts. The same seed draws the same files.
 
 #![forbid(unsafe_code)]
 
@@ -19,6 +19,8 @@ use samples::Draws;
 
 const SEED: u64 = 1;
 const COUNT: u64 = 10_000;
+/// So many drawn files must break every rule.
+const MANY: u64 = 4_000;
 /// So many bytes have the hostile files.
 const HOSTILE: [usize; 2] = [10_000, 40_000];
 /// After so many differences no more are looked for.
@@ -29,16 +31,18 @@ fn main() -> ExitCode {
         Ok(options) => options,
         Err(words) => {
             eprintln!(
-                "differential: {words}: use differential [--seed S] [--count N] [--sample M]"
+                "differential: {words}: use differential [--seed S] [--from K] [--count N] [--sample M]"
             );
             return ExitCode::from(2);
         }
     };
     let mut run = Run::default();
-    run.by_hand(&options);
-    run.hostile(&options);
+    if options.from.is_none() {
+        run.by_hand(&options);
+        run.hostile(&options);
+    }
     run.drawn(&options);
-    if options.count >= COUNT {
+    if options.count >= MANY {
         run.every_rule();
     }
     if run.different == 0 {
@@ -88,7 +92,8 @@ impl Run {
 
     fn drawn(&mut self, options: &Options) {
         let near = grammar::near_values();
-        for k in 0..options.count {
+        let from = options.from.unwrap_or(0);
+        for k in from..from.saturating_add(options.count) {
             // Each file has draws of its own, so that one can be drawn again without those before it.
             let mut draws = Draws::new(options.seed ^ k.wrapping_mul(0x2545_f491_4f6c_dd1d));
             let file = grammar::file(&near, &mut draws);
@@ -107,7 +112,7 @@ impl Run {
             ..
         } = self.tried;
         println!(
-            "differential: {files} files tried (seed {}), {accepted} accepted; {breaks} breaks, {lists} lists and {cells} cells compared; {} differences",
+            "differential: {files} files tried (seed {}, drawn from {from} on), {accepted} accepted; {breaks} breaks, {lists} lists and {cells} cells compared; {} differences",
             options.seed, self.different
         );
     }
@@ -137,6 +142,7 @@ impl Run {
 
 struct Options {
     seed: u64,
+    from: Option<u64>,
     count: u64,
     sample: usize,
 }
@@ -144,6 +150,7 @@ struct Options {
 fn options() -> Result<Options, String> {
     let mut options = Options {
         seed: SEED,
+        from: None,
         count: COUNT,
         sample: 1,
     };
@@ -153,6 +160,7 @@ fn options() -> Result<Options, String> {
         let value = value.ok_or_else(|| format!("`{word}` needs a number after it"))?;
         match word.as_str() {
             "--seed" => options.seed = value,
+            "--from" => options.from = Some(value),
             "--count" => options.count = value,
             "--sample" => options.sample = value.max(1) as usize,
             _ => return Err(format!("there is no option `{word}`")),
