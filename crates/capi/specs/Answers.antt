@@ -5,7 +5,7 @@ use lib.ListN.{length, take, drop}
 use Rattle.text.specs.Bytes.{Bytes}
 use lib.IntN.{ℤ}
 use lib.Ieee.{Float}
-use Rattle.values.specs.Reading.{numberOf, wholeOf, placesOf, doubleOf}
+use Rattle.readings.specs.Reading.{numberOf, wholeOf, placesOf, doubleOf}
 use Rattle.mztab.specs.Shown.{Sought}
 use Rattle.mztab.specs.Readings.{Told}
 

@@ -1,4 +1,2 @@
-// Judging one line by its sort, and what is required at the end of a file.
-pub mod ending;
-pub mod lines;
+// Judging a file line by line, in parts or in one.
 pub mod parts;

@@ -1,8 +1,8 @@
 // Judging a file in parts, each of as many breaks as a lent list has room for, or in one.
-use crate::ending::judge_end;
-use crate::lines::judge_line;
+use anyline::judge_line;
 use breaks::state::State;
 use breaks::state::start;
+use ending::judge_end;
 use text::lines::line_at;
 ghost use mathlib.Core.Path.{_≡_};
 ghost use mathlib.Core.Bool.{true};

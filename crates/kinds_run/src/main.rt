@@ -2,6 +2,7 @@
 // A line is what LF ends, its CR with it; a last one without LF counts if it is not empty.
 use parameters::is_parameter;
 use parameters::is_parameters;
+use readings::read;
 use references::reference;
 use references::references;
 use telling::tell;
@@ -11,7 +12,6 @@ use values::is_decimals;
 use values::is_text;
 use values::is_whole;
 use values::is_window;
-use values::reading::read;
 
 const LF: u8 = 10;
 

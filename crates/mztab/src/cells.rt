@@ -2,13 +2,13 @@
 use crate::records::Reading;
 use crate::rows::Row;
 use crate::rows::row_of;
+use readings::Value;
+use readings::read;
 use text::LIMIT;
 use text::Part;
 use text::bytes::same_bytes;
 use text::cells::nth_cell;
 use text::codes::is_section;
-use values::reading::Value;
-use values::reading::read;
 ghost use mathlib.Core.Path.{_≡_};
 ghost use Rattle.mztab.specs.Rows.{FindsColumn};
 ghost use Rattle.mztab.specs.Readings.{told, readingOf};

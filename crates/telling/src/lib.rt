@@ -1,5 +1,5 @@
 // What a reading says, printed in words: for the run tests.
-use values::reading::Value;
+use readings::Value;
 
 const OUT: i32 = 1;
 

@@ -1,6 +1,4 @@
 // Text, whole, decimal, decimal list, window and null. Each answers for any bytes, the empty ones too.
-pub mod reading;
-
 use text::bytes::BAR;
 use text::bytes::same_bytes;
 use text::bytes::seek;

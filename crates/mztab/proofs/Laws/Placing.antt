@@ -15,8 +15,8 @@ use Rattle.mztab.specs.Rows.{Line, lineOf, rowOf, columnOf}
 use Rattle.mztab.specs.Shown.{Sought, refused, refusal, startOf, soughtRow, sought, Shown, given, shown, orElse, Placed}
 use Rattle.mztab.specs.Readings.{told, unread, readingOf}
 use Rattle.mztab.specs.declared.cells.Place.{Place}
-use Rattle.values.specs.Reading.{valueOf}
-use Rattle.values.specs.declared.reading.Value.{Value}
+use Rattle.readings.specs.Reading.{valueOf}
+use Rattle.readings.specs.declared.Value.{Value}
 
 -- a refusal's place
 pub placed-refused : (f : Bytes) {s : Sought} {n : ℕ} {p : Place} → p ≡ refusal n → refused n ≡ s → Placed f s p

@@ -1,0 +1,25 @@
+-- `ending::first_ends` meets its contract: three puts, one after the other. Assumes nothing.
+use borrow.Author.Needs.{needs}
+use Rattle.breaks.proofs.Laws.Putting.{puts3}
+use Rattle.ending.proofs.first_ends.Statement.{statement}
+use Rattle.ending.proofs.first_ends.Tie as tie
+
+returns : tie.Need-returns
+returns c =
+    let p3 = c .before .before in
+    let p2 = p3 .before .before .before .before .before in
+    let p1 = p2 .before .before .before .before .before in
+    puts3 (p1 .put-if .ensures) (p2 .put-if2 .ensures) (p3 .put-if3 .ensures)
+
+pub first-ends-spec : {M : Type 1} → statement M
+first-ends-spec =
+    tie.close
+    (tie.spec
+    (λ c. search needs)
+    (λ c κs. search needs)
+    (λ c. search needs)
+    (λ c κs. search needs)
+    (λ c. search needs)
+    (λ c κs. search needs)
+    (λ c. search needs)
+    returns)

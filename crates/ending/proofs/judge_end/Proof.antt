@@ -1,0 +1,26 @@
+-- `ending::judge_end` meets its contract: the first three, and two puts after them. Assumes nothing.
+use borrow.Author.Needs.{needs}
+use Rattle.breaks.specs.Machine.{endBreaks}
+use Rattle.breaks.proofs.Laws.Putting.{puts3}
+use Rattle.ending.proofs.judge_end.Statement.{statement}
+use Rattle.ending.proofs.judge_end.Tie as tie
+
+returns : tie.Need-returns
+unfolding endBreaks
+returns c =
+    let p3 = c .before .before in
+    let p2 = p3 .before .before .before .before in
+    let p1 = p2 .before .before .before .before .before in
+    rw (p1 .before .before .has-run .ensures) at (puts3 (p1 .first-ends .ensures) (p2 .put-if .ensures) (p3 .put-if2 .ensures))
+
+pub judge-end-spec : {M : Type 1} → statement M
+judge-end-spec =
+    tie.close
+    (tie.spec
+    (λ c κs. search needs)
+    (λ c κs. search needs)
+    (λ c. search needs)
+    (λ c κs. search needs)
+    (λ c κs. search needs)
+    (λ c. search needs)
+    returns)
