@@ -14,6 +14,7 @@ use Rattle.text.specs.Bytes.{Bytes, bytes, same, any, all}
 use Rattle.text.proofs.Laws.Tests.{absurd-bool}
 use Rattle.names.specs.Names.{piecesFrom, entryOf, slotOf, formOf}
 use Rattle.book.specs.Keys.{keys, keyOf, keyEntries, demanded}
+use Rattle.book.proofs.Laws.Apart.{keys-count}
 use Rattle.names.specs.declared.Found.{Found}
 use Rattle.names.specs.declared.Found.the-variants.{Unknown, Known}
 use Rattle.names.proofs.Laws.Known.{holes, nth, known, Shape}
@@ -22,7 +23,7 @@ use Rattle.breaks.specs.Breaks.{Break, breakAt, when, each, atCell, atEn
 use Rattle.breaks.specs.Rules.{isThree, keyFound, isForm, hasKey, endRules, ENDS}
 use Rattle.breaks.specs.Machine.{isSlot, hasSlot, Slots, upFrom, hasEntry, endBreaks}
 use Rattle.breaks.proofs.Laws.Rowing.{test-eq}
-use Rattle.breaks.proofs.Laws.Keeping.{any-alike, keys-61}
+use Rattle.breaks.proofs.Laws.Keeping.{any-alike}
 
 -- A RANGE
 
@@ -105,7 +106,7 @@ only d E e o h s = eqb-true e E (rw s at (all-up (λ k. not (same (form k) (byte
 module _ (x : Bytes) (e k f i j : ℕ) (q : keyOf x ≡ Known e k f i j) where
   inside : e < 61
   unfolding keyOf
-  inside = omega (arith, known keyEntries x e k f i j q .inside, keys-61)
+  inside = omega (arith, known keyEntries x e k f i j q .inside, keys-count)
 
   shape : Shape (holes (formOf (nth keyEntries e))) i j
   unfolding keyOf

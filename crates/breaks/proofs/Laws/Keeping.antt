@@ -5,12 +5,12 @@ use mathlib.Core.List.{List, [], _∷_}
 use Prim.Native.Nat.{ℕ, _<_}
 use native.Mathlib.Omega.{arith}
 use lib.Dec.{eqb}
-use lib.ListN.{length}
 use borrow.Author.Tests.{eq-eqb, eqb-true}
 use Rattle.text.specs.Bytes.{Bytes, same, any}
 use Rattle.text.proofs.Laws.Tests.{and-both}
 use Rattle.names.specs.Names.{slotOf, isKnown}
-use Rattle.book.specs.Keys.{keys, keyOf, keyEntries, isColunit}
+use Rattle.book.specs.Keys.{keyOf, keyEntries, isColunit}
+use Rattle.book.proofs.Laws.Apart.{keys-count}
 use Rattle.names.specs.declared.Found.{Found}
 use Rattle.names.specs.declared.Found.the-variants.{Unknown, Known}
 use Rattle.names.proofs.Laws.Known.{same-slot, slot-below}
@@ -45,10 +45,6 @@ any-alike f g h (x ∷ xs) = rw (h x, any-alike f g h xs)
 
 -- KEYS THAT CAME BEFORE: a key has a slot of its own
 
-pub keys-61 : length keyEntries ≡ 61
-unfolding keyEntries keys
-keys-61 = refl
-
 module _ (x : Bytes) (e k f i j : ℕ) (q : keyOf x ≡ Known e k f i j) where
   -- a key with the same slot is the same
   slot-equal : (y : Bytes) (e′ k′ f′ i′ j′ : ℕ) → keyOf y ≡ Known e′ k′ f′ i′ j′ → slotOf e′ i′ j′ ≡ slotOf e i j → x ≡ y
@@ -67,7 +63,7 @@ module _ (x : Bytes) (e k f i j : ℕ) (q : keyOf x ≡ Known e k f i j) where
 
   slot-in : slotOf e i j < SLOTS
   unfolding keyOf
-  slot-in = omega (arith, slot-below keyEntries x e k f i j q .3, keys-61)
+  slot-in = omega (arith, slot-below keyEntries x e k f i j q .3, keys-count)
 
 -- a line has the key of l exactly where it has its slot
 module _ (l : Bytes) (above : List Bytes) (slots : List Bool) (h : Slots above slots) where

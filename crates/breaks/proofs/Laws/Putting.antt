@@ -1,22 +1,16 @@
 -- Putting breaks one after the other. Assumes nothing.
 use mathlib.Core.Path.{_≡_, refl, _∙_}
-use mathlib.Core.Bool.{Bool, true, false}
 use mathlib.Core.List.{List, [], _∷_, _++_}
 use Prim.Native.Nat.{ℕ, _+_}
 use native.Mathlib.Omega.{arith}
 use lib.ListN.{length}
-use Rattle.breaks.specs.Breaks.{Break, when}
+use Rattle.breaks.specs.Breaks.{Break}
 use Rattle.breaks.specs.Places.{Lent, put, putAll, Puts}
 
 pub put-append : (fs gs : List Break) (o : Lent) → putAll o (fs ++ gs) ≡ putAll (putAll o fs) gs
 unfolding putAll
 put-append [] gs o = refl
 put-append (f ∷ fs) gs o = put-append fs gs (put o f)
-
-pub put-when : (t : Bool) (f : Break) (fs : List Break) (o : Lent) → putAll o (when t f fs) ≡ putAll (putAll o (when t f [])) fs
-unfolding putAll
-put-when true f fs o = refl
-put-when false f fs o = refl
 
 -- each break put counts
 pub put-count : (fs : List Break) (o : Lent) → (putAll o fs) .count ≡ o .count + length fs

@@ -10,16 +10,13 @@ use lib.ListN.{length, getD, set, length-set}
 use borrow.Author.Tests.{eqb-true, eqb-false}
 use Rattle.text.specs.Bytes.{Bytes}
 use Rattle.names.specs.Names.{slotOf}
-use Rattle.book.specs.Keys.{keys, keyEntries, keyOf}
+use Rattle.book.specs.Keys.{keyEntries, keyOf}
+use Rattle.book.proofs.Laws.Apart.{keys-count}
 use Rattle.names.specs.declared.Found.{Found}
 use Rattle.names.specs.declared.Found.the-variants.{Unknown, Known}
 use Rattle.names.proofs.Laws.Known.{slot-below}
 use Rattle.breaks.specs.Machine.{SLOTS, isSlot}
 use Rattle.metakeys.specs.Keys.{InSlots, marked}
-
-keys-61 : length keyEntries ≡ 61
-unfolding keyEntries keys
-keys-61 = refl
 
 -- a known key has one of the slots
 pub in-slots : (x : Bytes) → InSlots (keyOf x)
@@ -28,7 +25,7 @@ in-slots x = go (keyOf x) refl
   where
     go : (r : Found) → keyOf x ≡ r → InSlots r
     go Unknown q = tt
-    go (Known e k f i j) q = omega (arith, slot-below keyEntries x e k f i j q .3, keys-61)
+    go (Known e k f i j) q = omega (arith, slot-below keyEntries x e k f i j q .3, keys-count)
 
 pub inside : {r : Found} {e k f i j : ℕ} → r ≡ Known e k f i j → InSlots r → slotOf e i j < SLOTS
 inside q h = rw q at h

@@ -6,16 +6,15 @@ use mathlib.Core.List.{List, [], _∷_}
 use native.Mathlib.Omega.{arith}
 use lib.Dec.{eqb, ltb}
 use lib.ListN.{length, getD, drop}
-use borrow.Author.Tests.{eq-eqb, eqb-true, eqb-false, ne-eqb, ltb-true, ltb-false}
+use borrow.Author.Tests.{eq-eqb, eqb-true, eqb-false, ltb-true, ltb-false}
 use Rattle.references.specs.Index.{indexAt}
 use Rattle.references.specs.declared.index.Index.the-variants.{Is}
 use Rattle.references.proofs.Laws.Indices.{index-unopened}
-use Rattle.names.specs.Names.{Piece, byte, place, Entry, kindOf, familyOf, formOf, filled, fits, isFit, lookupIn}
-use Rattle.names.specs.declared.Match.{Match}
+use Rattle.names.specs.Names.{Piece, byte, place, Entry, kindOf, familyOf, formOf, filled, fits, lookupIn}
 use Rattle.names.specs.declared.Match.the-variants.{Differs, Fits}
 use Rattle.names.specs.declared.Found.{Found}
 use Rattle.names.specs.declared.Found.the-variants.{Unknown, Known}
-use Rattle.names.proofs.Laws.Known.{never, both, on-index, holes, Shape, filled-fits, nth, At, known, unknown-miss}
+use Rattle.names.proofs.Laws.Known.{never, both, on-index, holes, Shape, filled-fits, nth, known, unknown-miss}
 use Rattle.text.proofs.Laws.Tests.{absurd-bool, and-both}
 
 -- two patterns that no text fits both: at some piece they part
@@ -163,19 +162,3 @@ complete es n i j h hn s = go (lookupIn es name) refl
         let ef : f ≡ familyOf (nth es n) = a .family ∙ ap (λ (m : ℕ). familyOf (nth es m)) en in
         q ∙ ap (λ (x : ℕ). Known x k f i′ j′) en ∙ ap (λ (x : ℕ). Known n x f i′ j′) ek ∙ ap (λ (x : ℕ). Known n (kindOf (nth es n)) x i′ j′) ef
         ∙ ap (λ (x : ℕ). Known n (kindOf (nth es n)) (familyOf (nth es n)) x j′) ei ∙ ap (λ (x : ℕ). Known n (kindOf (nth es n)) (familyOf (nth es n)) i x) ej
-
--- a known name fits the line where it was found and no other
-pub entry-fits : (es : List Entry) (name : List ℕ) (e k f i j n : ℕ) → allApart es ≡ true → lookupIn es name ≡ Known e k f i j → n < length es
-    → isFit (fits (formOf (nth es n)) name 0 0) ≡ eqb e n
-entry-fits es name e k f i j n h q hn = go (fits (formOf (nth es n)) name 0 0) refl
-  where
-    a : At es name e k f i j
-    a = known es name e k f i j q
-
-    go : (m : Match) → fits (formOf (nth es n)) name 0 0 ≡ m → isFit m ≡ eqb e n
-    go Differs d =
-        sym (ne-eqb e n (λ (x : e ≡ n).
-        let b : fits (formOf (nth es n)) name 0 0 ≡ Fits i j = subst (λ (m : ℕ). fits (formOf (nth es m)) name 0 0 ≡ Fits i j) x (a .fit) in
-        let z : _≡_ {A = ℕ} 0 1 = cc in
-        omega arith))
-    go (Fits i′ j′) d = sym (eq-eqb e n (one-line es name e n i j i′ j′ h (a .inside) hn (a .fit) d))
