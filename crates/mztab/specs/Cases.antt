@@ -5,7 +5,7 @@ use Rattle.text.specs.Bytes.{Bytes, bytes, same, onFirst, splitOn}
 use Rattle.text.specs.Lines.{lines, startsLf, coded}
 use Rattle.text.specs.Places.{after}
 use Rattle.text.specs.Codes.{codeFor, headerCode, rowCode}
-use Rattle.mztab.specs.Rows.{numbered, having, rowOf, columnOf}
+use Rattle.rows.specs.Rows.{numbered, having, rowOf, columnOf}
 use Rattle.mztab.specs.Shown.{refused, sought}
 
 file : Bytes

@@ -10,7 +10,7 @@ use Rattle.text.specs.Bytes.{Bytes, is}
 use Rattle.text.specs.Lines.{LIMIT, TAB, LF}
 use Rattle.text.specs.Codes.{isSection}
 use Rattle.text.specs.Places.{part, after}
-use Rattle.mztab.specs.Rows.{Line, rowOf, columnOf}
+use Rattle.rows.specs.Rows.{Line, rowOf, columnOf}
 use Rattle.mztab.specs.declared.cells.Place.{Place}
 
 -- what a cell call finds: a number, the numbers of the line and the cell, where the cell begins in the file, and its bytes

@@ -1,16 +1,15 @@
 // The cell calls: one function finds the place, and each call shows it in its own way.
 use crate::records::Reading;
-use crate::rows::Row;
-use crate::rows::row_of;
 use readings::Value;
 use readings::read;
+use rows::Row;
+use rows::column_of;
+use rows::row_of;
 use text::LIMIT;
 use text::Part;
 use text::bytes::same_bytes;
-use text::cells::nth_cell;
 use text::codes::is_section;
 ghost use mathlib.Core.Path.{_≡_};
-ghost use Rattle.mztab.specs.Rows.{FindsColumn};
 ghost use Rattle.mztab.specs.Readings.{told, readingOf};
 ghost use Rattle.mztab.specs.Shown.{Placed, given, refusal, sought, shown, orElse};
 
@@ -34,16 +33,6 @@ fn refused(number: u32) -> Place
         start: 0,
         end: 0,
     }
-}
-
-// Column c of a line is its cell c + 1; there is no column 0.
-fn column_of(line: &[u8], column: u32) -> Part
-    ensures { λ r. ⌜ FindsColumn (now (line .entry)) column r ⌝ }
-{
-    if column == 0 {
-        return Part::Nothing;
-    }
-    nth_cell(line, column as usize)
 }
 
 // Where the cell stands, or what is refused: tried in the order 1, 2, 3, 4.

@@ -2,4 +2,3 @@
 pub mod cells;
 pub mod judged;
 pub mod records;
-pub mod rows;

@@ -11,7 +11,7 @@ use Rattle.text.specs.Lines.{LIMIT, TAB, LF}
 use Rattle.text.specs.Codes.{isSection}
 use Rattle.text.specs.Places.{part, after}
 use Rattle.text.proofs.Laws.Parts.{part-part}
-use Rattle.mztab.specs.Rows.{Line, lineOf, rowOf, columnOf}
+use Rattle.rows.specs.Rows.{Line, lineOf, rowOf, columnOf}
 use Rattle.mztab.specs.Shown.{Sought, refused, refusal, startOf, soughtRow, sought, Shown, given, shown, orElse, Placed}
 use Rattle.mztab.specs.Readings.{told, unread, readingOf}
 use Rattle.mztab.specs.declared.cells.Place.{Place}

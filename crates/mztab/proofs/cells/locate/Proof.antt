@@ -11,8 +11,8 @@ use Rattle.text.specs.Bytes.{Bytes}
 use Rattle.text.specs.Codes.{isSection}
 use Rattle.text.specs.Lines.{TAB, LF}
 use Rattle.text.specs.Places.{part, after}
-use Rattle.mztab.specs.Rows.{lineOf, rowOf, columnOf}
-use Rattle.mztab.proofs.Laws.Rowing.{row-found, row-missing, column-found, column-missing, column-below}
+use Rattle.rows.specs.Rows.{lineOf, rowOf, columnOf}
+use Rattle.rows.proofs.Laws.Rowing.{row-found, row-missing, column-found, column-missing, column-below}
 use Rattle.mztab.proofs.Laws.Placing.{placed-refused, placed-cell, sought-long, sought-nowhere, sought-no-row, sought-no-cell}
 use Rattle.mztab.proofs.cells.locate.Statement.{statement}
 use Rattle.mztab.proofs.cells.locate.Tie as tie

@@ -1,14 +1,14 @@
--- `mztab::rows::nth_coded` meets its contract. The invariant: line n of those with the code is line `left` of those from `at` on, the first of which is line `line_no`. Assumes nothing.
+-- `rows::nth_coded` meets its contract. The invariant: line n of those with the code is line `left` of those from `at` on, the first of which is line `line_no`. Assumes nothing.
 use mathlib.Core.Path.{_≡_, refl, sym, _∙_}
 use Prim.Native.Nat.{_+_, _-_, _≤_}
 use borrow.Author.Needs.{needs}
 use lib.ListN.{length, drop, getElem?}
 use Rattle.text.specs.Lines.{LF, lines}
 use Rattle.text.specs.Places.{after}
-use Rattle.mztab.specs.Rows.{numbered, having}
-use Rattle.mztab.proofs.Laws.Rowing.{row-here, row-next, row-miss, row-none, start-first, start-next}
-use Rattle.mztab.proofs.rows.nth_coded.Statement.{statement}
-use Rattle.mztab.proofs.rows.nth_coded.Tie as tie
+use Rattle.rows.specs.Rows.{numbered, having}
+use Rattle.rows.proofs.Laws.Rowing.{row-here, row-next, row-miss, row-none, start-first, start-next}
+use Rattle.rows.proofs.nth_coded.Statement.{statement}
+use Rattle.rows.proofs.nth_coded.Tie as tie
 
 abbrev Inv-loop : tie.InvT-loop
 Inv-loop file code n at₀ left₀ line-no₀ at left line-no =

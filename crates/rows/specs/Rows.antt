@@ -12,8 +12,8 @@ use Rattle.text.specs.Codes.{codeFor}
 use Rattle.text.specs.Places.{part, after}
 use Rattle.text.specs.declared.Part.{Part}
 use Rattle.text.specs.declared.Part.the-variants.{At, Nothing}
-use Rattle.mztab.specs.declared.rows.Row.{Row}
-use Rattle.mztab.specs.declared.rows.Row.the-variants.{On, Absent}
+use Rattle.rows.specs.declared.Row.{Row}
+use Rattle.rows.specs.declared.Row.the-variants.{On, Absent}
 
 -- a line with its number
 pub record Line : Type 0 where

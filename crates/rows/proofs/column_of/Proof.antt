@@ -1,10 +1,10 @@
--- `mztab::cells::column_of` meets its contract: there is no column 0. Assumes nothing.
+-- `rows::column_of` meets its contract: there is no column 0. Assumes nothing.
 use borrow.Author.Tests.{eq-eqb}
 use borrow.Author.Needs.{needs}
-use Rattle.mztab.specs.Rows.{columnOf}
-use Rattle.mztab.proofs.Laws.Rowing.{column-cell}
-use Rattle.mztab.proofs.cells.column_of.Statement.{statement}
-use Rattle.mztab.proofs.cells.column_of.Tie as tie
+use Rattle.rows.specs.Rows.{columnOf}
+use Rattle.rows.proofs.Laws.Rowing.{column-cell}
+use Rattle.rows.proofs.column_of.Statement.{statement}
+use Rattle.rows.proofs.column_of.Tie as tie
 
 returns : tie.Need-returns
 unfolding columnOf

@@ -17,9 +17,9 @@ use Rattle.text.proofs.Laws.Starts.{after-more}
 use Rattle.text.proofs.Laws.Lines.{lines-done}
 use Rattle.text.proofs.Laws.Parts.{get-next, get-below}
 use Rattle.text.proofs.Laws.Pieces.{pieces-bound}
-use Rattle.mztab.specs.Rows.{Line, lineOf, numbered, having, columnOf, FindsRow, FindsColumn}
-use Rattle.mztab.specs.declared.rows.Row.{Row}
-use Rattle.mztab.specs.declared.rows.Row.the-variants.{On, Absent}
+use Rattle.rows.specs.Rows.{Line, lineOf, numbered, having, columnOf, FindsRow, FindsColumn}
+use Rattle.rows.specs.declared.Row.{Row}
+use Rattle.rows.specs.declared.Row.the-variants.{On, Absent}
 
 -- the line at s has the number n: by whether it has the code, and the lines after it
 module _ (code : Bytes) (n : ℕ) {f : Bytes} {s e next : ℕ} (at : LineAt f s e next) where

@@ -1,4 +1,5 @@
-// The rows of a section, in the file's order, whatever breaks the file has.
+// The rows of a section, in the file's order, whatever breaks the file has, and the columns of a line.
+use text::Part;
 use text::cells;
 use text::codes::code_of;
 use text::lines;
@@ -8,7 +9,7 @@ ghost use Prim.Native.Nat.{_≤_};
 ghost use lib.ListN.{length, getElem?};
 ghost use Rattle.text.specs.Lines.{LIMIT, lines};
 ghost use Rattle.text.specs.Codes.{isSection};
-ghost use Rattle.mztab.specs.Rows.{numbered, having, rowOf, FindsRow};
+ghost use Rattle.rows.specs.Rows.{numbered, having, rowOf, FindsRow, FindsColumn};
 
 // A line's number and its part of the file, or none.
 pub enum Row {
@@ -50,4 +51,14 @@ pub fn row_of(file: &[u8], section: u32, row: u32) -> Row
         return nth_coded(file, &code, 0);
     }
     nth_coded(file, &code, (row - 1) as usize)
+}
+
+// Column c of a line is its cell c + 1; there is no column 0.
+pub fn column_of(line: &[u8], column: u32) -> Part
+    ensures { λ r. ⌜ FindsColumn (now (line .entry)) column r ⌝ }
+{
+    if column == 0 {
+        return Part::Nothing;
+    }
+    cells::nth_cell(line, column as usize)
 }

@@ -1,11 +1,11 @@
--- `mztab::rows::row_of` meets its contract: row 0 has none before it, row r has r less 1. Assumes nothing.
+-- `rows::row_of` meets its contract: row 0 has none before it, row r has r less 1. Assumes nothing.
 use mathlib.Core.Path.{_≡_}
 use Prim.Native.Nat.{_-_}
 use native.Mathlib.Omega.{arith}
 use borrow.Author.Needs.{needs}
-use Rattle.mztab.specs.Rows.{rowOf}
-use Rattle.mztab.proofs.rows.row_of.Statement.{statement}
-use Rattle.mztab.proofs.rows.row_of.Tie as tie
+use Rattle.rows.specs.Rows.{rowOf}
+use Rattle.rows.proofs.row_of.Statement.{statement}
+use Rattle.rows.proofs.row_of.Tie as tie
 
 returns : tie.Need-returns
 unfolding rowOf
