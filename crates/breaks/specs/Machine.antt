@@ -82,28 +82,33 @@ abbrev pub Within : Found → Type 0
 Within Unknown = Unit
 Within (Known e k f i j) = eqb f NONE ≡ false → (familyNumber f < 4) × (1 ≤ lastIndex i j) × (lastIndex i j ≤ 64)
 
--- a column name that the book answers so, by whether it came before, and whether an optional one did
+-- a column name that the book answers so, by whether it came before: what its bytes and the ids do not decide
+abbrev pub knownBreaks : Bool → Found → ℕ → ℕ → ℕ → List Break → List Break
+knownBreaks again found cc n c rest = controlAt cc n c (when (not (isKnown found)) (breakAt n c 12) (when again (breakAt n c 13) rest))
+
+-- and by whether an optional one came before
 abbrev pub nameCell : Bool → Bool → Ids → Found → ℕ → ℕ → ℕ → Bytes → List Break → List Break
 nameCell again opt ids found cc n c x rest =
-    controlAt cc n c
-    (when (not (isKnown found)) (breakAt n c 12)
-    (when again (breakAt n c 13)
+    knownBreaks again found cc n c
     (when (not (isOpt x) && opt) (breakAt n c 14)
-    (when (columnIn ids found) (breakAt n c 15) rest))))
+    (when (columnIn ids found) (breakAt n c 15) rest))
 
 abbrev pub headCell : ℕ → List Bytes → Ids → ℕ → ℕ → ℕ → Bytes → List Break → List Break
 headCell section ns ids cc n c x rest = nameCell (any (same x) (take (c - 2) ns)) (any isOpt (take (c - 2) ns)) ids (columnOf section x) cc n c x rest
 
--- a header of the cells xs; `again` and `later` say whether a header of its section, of a later one stands above
+-- cell 1, where the names do not decide; `again` and `later` say whether a header of its section, of a later one stands above
+abbrev pub headFirst : Bool → Bool → Bool → ℕ → ℕ → List Break → List Break
+headFirst again later wide cc n rest = controlAt cc n 1 (when again (breakAt n 1 9) (when later (breakAt n 1 10) (when wide (breakAt n 1 11) rest)))
+
+-- the names: one rule at cell 1, and those at each
+abbrev pub nameBreaks : ℕ → Ids → ℕ → ℕ → List Bytes → List Break → List Break
+nameBreaks section ids cc n ns rest = when (lacksColumn section ns) (breakAt n 1 16) (eachCell (headCell section ns ids cc n) 2 ns rest)
+
+-- a header of the cells xs
 unfoldable pub headBreaks : ℕ → Bool → Bool → Ids → ℕ → ℕ → List Bytes → List Break → List Break
 headBreaks section again later ids cc n xs rest =
-    controlAt cc n 1
-    (when again (breakAt n 1 9)
-    (when later (breakAt n 1 10)
-    (when (ltb 256 (length xs)) (breakAt n 1 11)
-    (cond (ltb 256 (length xs))
-    (plainRest cc n rest)
-    (when (lacksColumn section (drop 1 xs)) (breakAt n 1 16) (eachCell (headCell section (drop 1 xs) ids cc n) 2 (drop 1 xs) rest))))))
+    let wide = ltb 256 (length xs) in
+    headFirst again later wide cc n (cond wide (plainRest cc n rest) (nameBreaks section ids cc n (drop 1 xs) rest))
 
 -- the kinds of a header's columns, cell c's at place c - 1
 abbrev pub KindsOf : ℕ → List Bytes → List ℕ → Type 0
@@ -124,16 +129,17 @@ kindCell kind cc n c x rest =
 abbrev pub rowCell : List ℕ → ℕ → ℕ → ℕ → Bytes → List Break → List Break
 rowCell kinds cc n c x rest = kindCell (getD kinds (c - 1) 0) cc n c x rest
 
+-- cell 1; `headed` says whether the nearest header above is of the row's section, `uneven` whether it has another number of cells and not over 256
+abbrev pub rowFirst : Bool → Bool → ℕ → ℕ → List Break → List Break
+rowFirst headed uneven cc n rest = controlAt cc n 1 (when (not headed) (breakAt n 1 17) (when uneven (breakAt n 1 18) rest))
+
 -- a row of the cells xs; the nearest header is of the section h and has w cells
 unfoldable pub rowBreaks : ℕ → ℕ → List ℕ → ℕ → ℕ → ℕ → List Bytes → List Break → List Break
 rowBreaks h w kinds section cc n xs rest =
     let headed = eqb h section in
     let under = headed && leb w 256 in
     let even = eqb (length xs) w in
-    controlAt cc n 1
-    (when (not headed) (breakAt n 1 17)
-    (when (under && not even) (breakAt n 1 18)
-    (cond (under && even) (eachCell (rowCell kinds cc n) 2 (drop 1 xs) rest) (plainRest cc n rest))))
+    rowFirst headed (under && not even) cc n (cond (under && even) (eachCell (rowCell kinds cc n) 2 (drop 1 xs) rest) (plainRest cc n rest))
 
 -- OTHER LINES
 
@@ -176,11 +182,13 @@ hasEntry slots e = getD slots (slotOf e 0 0) false
 abbrev pub hasRun : List Bool → Bool
 hasRun slots = any (λ i. getD slots (slotOf 16 i 0) false) (upFrom 64 1)
 
--- rule 21, at line n
-unfoldable pub endBreaks : List Bool → ℕ → List Break → List Break
-endBreaks slots n rest =
+-- rule 21, at line n: the first three of the five
+abbrev pub firstEnds : List Bool → ℕ → List Break → List Break
+firstEnds slots n rest =
     when (not (hasEntry slots 0)) (breakAt n 1 21)
     (when (not (hasEntry slots 1)) (breakAt n 2 21)
-    (when (not (hasEntry slots 2)) (breakAt n 3 21)
-    (when (not (hasEntry slots 5)) (breakAt n 4 21)
-    (when (not (hasRun slots)) (breakAt n 5 21) rest))))
+    (when (not (hasEntry slots 2)) (breakAt n 3 21) rest))
+
+-- and all
+unfoldable pub endBreaks : List Bool → ℕ → List Break → List Break
+endBreaks slots n rest = firstEnds slots n (when (not (hasEntry slots 5)) (breakAt n 4 21) (when (not (hasRun slots)) (breakAt n 5 21) rest))

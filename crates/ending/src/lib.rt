@@ -4,8 +4,7 @@ ghost use mathlib.Core.Path.{_≡_};
 ghost use Prim.Native.Nat.{_≤_};
 ghost use lib.ListN.{length};
 ghost use Rattle.breaks.specs.Places.{lent, Puts};
-ghost use Rattle.breaks.specs.Machine.{SLOTS, hasRun, endBreaks};
-ghost use Rattle.ending.specs.Ends.{firstEnds};
+ghost use Rattle.breaks.specs.Machine.{SLOTS, hasRun, endBreaks, firstEnds};
 
 // The slots of mzTab-version, mzTab-mode, mzTab-type, description: 4,225 for each key of the table.
 const VERSION: usize = 0;

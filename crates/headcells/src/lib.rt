@@ -17,9 +17,8 @@ ghost use Rattle.names.specs.Names.{isKnown};
 ghost use Rattle.book.specs.Columns.{columnOf};
 ghost use Rattle.breaks.specs.Places.{lent, Puts};
 ghost use Rattle.breaks.specs.Rules.{lastIndex, kindIn};
-ghost use Rattle.breaks.specs.Machine.{idsOf, columnIn, eachCell, nameCell, headCell, KindsOf, Within};
+ghost use Rattle.breaks.specs.Machine.{idsOf, columnIn, eachCell, nameCell, headCell, KindsOf, Within, knownBreaks};
 ghost use Rattle.headnames.specs.Stamps.{STAMPS as room};
-ghost use Rattle.headcells.specs.Columns.{knownBreaks};
 
 // The letter of a column that names no id.
 const NO_FAMILY: u8 = b'-';

@@ -10,9 +10,9 @@ ghost use lib.ListN.{length, drop};
 ghost use Rattle.text.specs.Lines.{cells};
 ghost use Rattle.book.specs.Rows.{IsBook};
 ghost use Rattle.breaks.specs.Places.{lent, Puts};
-ghost use Rattle.breaks.specs.Machine.{idsOf, headBreaks};
+ghost use Rattle.breaks.specs.Machine.{idsOf, headBreaks, headFirst, nameBreaks};
 ghost use Rattle.headnames.specs.Stamps.{STAMPS as room};
-ghost use Rattle.headline.specs.Heads.{codeBreaks, nameBreaks, Kept, Keeps};
+ghost use Rattle.headline.specs.Heads.{Kept, Keeps};
 
 const MOST_CELLS: usize = 256;
 
@@ -27,7 +27,7 @@ fn head_code(
     wide: bool,
 ) -> u32
     requires { ⌜ count ≤ 4294967000 ⌝ }
-    ensures { λ r. ⌜ Puts (codeBreaks again later wide control «line_no») 4 (lent (now (places .entry)) count) (lent (now (places .exit)) r) ⌝ }
+    ensures { λ r. ⌜ Puts (headFirst again later wide control «line_no») 4 (lent (now (places .entry)) count) (lent (now (places .exit)) r) ⌝ }
 {
     let k1 = put_if(places, count, control == 1, 1, line_no, 1);
     let k2 = put_if(places, k1, again, 9, line_no, 1);

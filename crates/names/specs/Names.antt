@@ -4,8 +4,7 @@ use mathlib.Core.Bool.{Bool, true, false, cond, _&&_, _||_}
 use mathlib.Core.List.{List, [], _∷_, _++_}
 use lib.Dec.{eqb}
 use lib.ListN.{getD, drop}
-use Prim.Native.String.{String}
-use Rattle.text.specs.Bytes.{Bytes, SPACE, bytes}
+use Rattle.text.specs.Bytes.{Bytes, SPACE}
 use Rattle.references.specs.Index.{written, indexAt}
 use Rattle.references.specs.declared.index.Index.{Index}
 use Rattle.references.specs.declared.index.Index.the-variants.{Not, Is}
@@ -73,14 +72,6 @@ fits (place ∷ ps) s i j =
     let first = fits ps (drop w s) v j in
     let second = fits ps (drop w s) i v in
     cond (eqb i 0) first (cond (eqb j 0) second Differs)
-
-abbrev pub isFit : Match → Bool
-isFit Differs = false
-isFit (Fits i j) = true
-
--- whether a name is one that a pattern stands for
-unfoldable pub named : String → Bytes → Bool
-named pattern name = isFit (fits (pieces (bytes pattern)) name 0 0)
 
 -- whether a table has a name
 abbrev pub isKnown : Found → Bool

@@ -12,9 +12,8 @@ use Rattle.text.proofs.Laws.Tests.{and-left, and-right}
 use Rattle.kinds.specs.Kinds.{cellOfKind}
 use Rattle.breaks.specs.Breaks.{breakAt, when}
 use Rattle.breaks.specs.Places.{Lent, Puts}
-use Rattle.breaks.specs.Machine.{eachCell, plainRest, kindCell, rowCell, rowBreaks}
+use Rattle.breaks.specs.Machine.{eachCell, plainRest, kindCell, rowCell, rowBreaks, rowFirst}
 use Rattle.breaks.proofs.Laws.Putting.{puts2}
-use Rattle.rowline.specs.First.{codeBreaks}
 
 -- a cell that has not the first control byte, is not empty, and is of its kind
 pub cell-good : (kind first n c : ℕ) (x : Bytes) (o : Lent) → not (eqb first c || (isEmpty x || not (cellOfKind kind x))) ≡ true → Puts (kindCell kind first n c x) 3 o o
@@ -35,7 +34,7 @@ row-narrow t w v h =
 
 -- cell 1, and the cells after it
 module _ (h w : ℕ) (kinds : List ℕ) (section first n : ℕ) (xs : List Bytes) {o o₁ o₂ : Lent}
-    (p : Puts (codeBreaks (eqb h section) ((eqb h section && leb w 256) && not (eqb (length xs) w)) first n) 3 o o₁) where
+    (p : Puts (rowFirst (eqb h section) ((eqb h section && leb w 256) && not (eqb (length xs) w)) first n) 3 o o₁) where
   pub row-under : {m : ℕ} → not ((eqb h section && leb w 256) && eqb (length xs) w) ≡ false → Puts (eachCell (rowCell kinds first n) 2 (drop 1 xs)) m o₁ o₂ → m ≤ 765
       → Puts (rowBreaks h w kinds section first n xs) 1300 o o₂
   unfolding rowBreaks

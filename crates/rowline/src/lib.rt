@@ -9,8 +9,7 @@ ghost use Prim.Native.Nat.{_+_, _≤_};
 ghost use lib.ListN.{length, drop};
 ghost use Rattle.text.specs.Lines.{cells};
 ghost use Rattle.breaks.specs.Places.{lent, Puts};
-ghost use Rattle.breaks.specs.Machine.{eachCell, kindCell, rowCell, rowBreaks};
-ghost use Rattle.rowline.specs.First.{codeBreaks};
+ghost use Rattle.breaks.specs.Machine.{eachCell, kindCell, rowCell, rowBreaks, rowFirst};
 
 // A header of more cells has no kinds for its columns.
 const MOST_CELLS: usize = 256;
@@ -79,7 +78,7 @@ fn row_code(
     uneven: bool,
 ) -> u32
     requires { ⌜ count ≤ 4294967000 ⌝ }
-    ensures { λ r. ⌜ Puts (codeBreaks headed uneven control «line_no») 3 (lent (now (places .entry)) count) (lent (now (places .exit)) r) ⌝ }
+    ensures { λ r. ⌜ Puts (rowFirst headed uneven control «line_no») 3 (lent (now (places .entry)) count) (lent (now (places .exit)) r) ⌝ }
 {
     let k1 = put_if(places, count, control == 1, 1, line_no, 1);
     let k2 = put_if(places, k1, !headed, 17, line_no, 1);

@@ -9,14 +9,13 @@ use lib.ListN.{length, drop}
 use Rattle.text.specs.Bytes.{Bytes}
 use Rattle.breaks.specs.Breaks.{breakAt, when}
 use Rattle.breaks.specs.Places.{Lent, Puts}
-use Rattle.breaks.specs.Machine.{Ids, eachCell, plainRest, headBreaks}
+use Rattle.breaks.specs.Machine.{Ids, eachCell, plainRest, headBreaks, headFirst, nameBreaks}
 use Rattle.breaks.proofs.Laws.Putting.{puts2}
 use Rattle.headnames.proofs.Laws.Wanting.{lacks-none}
-use Rattle.headline.specs.Heads.{codeBreaks, nameBreaks}
 
 -- A HEADER: cell 1, and what comes after it
 module _ (section : ℕ) (again later : Bool) (ids : Ids) (first n : ℕ) (xs : List Bytes) {o o₁ o₂ : Lent}
-    (p : Puts (codeBreaks again later (ltb 256 (length xs)) first n) 4 o o₁) where
+    (p : Puts (headFirst again later (ltb 256 (length xs)) first n) 4 o o₁) where
   pub head-wide : ltb 256 (length xs) ≡ true → Puts (plainRest first n) 1 o₁ o₂ → Puts (headBreaks section again later ids first n xs) 1300 o o₂
   unfolding headBreaks
   head-wide t q = record { does = λ rest. rw t (puts2 (rw t at p) q .does rest); most = omega arith }
