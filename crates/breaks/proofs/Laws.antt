@@ -12,4 +12,5 @@ pub mod Lining
 pub mod Scanning
 pub mod Ending
 pub mod Promises
+pub mod Accepted
 pub mod Placing

@@ -3,7 +3,7 @@ use Prim.Native.Nat.{ℕ, _-_}
 use Prim.Native.String.{String}
 use mathlib.Core.Bool.{Bool, false, cond, not, _&&_}
 use mathlib.Core.List.{List, [], _∷_, _++_}
-use lib.ListN.{getD, take, drop}
+use lib.ListN.{length, getD, take, drop}
 use lib.Dec.{eqb, leb, ltb}
 use Rattle.text.specs.Bytes.{Bytes, bytes, same, isEmpty, any, all}
 use Rattle.text.specs.Lines.{lines, cells}
@@ -167,3 +167,7 @@ ENDS = 5
 -- ALL BREAKS of a file, in order of line, then cell, then rule
 unfoldable pub breaks : Bytes → List Break
 breaks file = inLines rules (lines file) ++ atEnd endRules ENDS (lines file)
+
+-- a file is accepted where it breaks none
+abbrev pub isAccepted : Bytes → Bool
+isAccepted file = eqb (length (breaks file)) 0

@@ -1,2 +1,3 @@
 -- Laws over plain lists and positions, with no code in them.
 pub mod Placing
+pub mod Counting

@@ -1,14 +1,14 @@
--- Rows and columns, as the cell calls count them. Assumes nothing.
+-- Rows and columns, as the cell calls count them; how many rows a section has; a column by its name. Assumes nothing.
 use Prim.Native.Nat.{ℕ, suc, _-_, _≤_}
 use mathlib.Core.Path.{_≡_}
 use mathlib.Core.Bool.{cond}
 use mathlib.Core.List.{List, [], _∷_}
 use mathlib.Core.Option.{Option, none, some}
-use lib.ListN.{length, getElem?}
+use lib.ListN.{length, drop, getElem?}
 use lib.Dec.{eqb}
-use Rattle.text.specs.Bytes.{Bytes}
+use Rattle.text.specs.Bytes.{Bytes, same, count}
 use Rattle.text.specs.Lines.{TAB, LF, lines, cells, coded}
-use Rattle.text.specs.Codes.{codeFor}
+use Rattle.text.specs.Codes.{codeFor, rowCode}
 use Rattle.text.specs.Places.{part, after}
 use Rattle.text.specs.declared.Part.{Part}
 use Rattle.text.specs.declared.Part.the-variants.{At, Nothing}
@@ -36,6 +36,27 @@ having code (l ∷ ls) = cond (coded code (l .text)) (l ∷ having code ls) (hav
 -- row 0 is the first header of the section, row r the r-th line with its row code
 unfoldable pub rowOf : Bytes → ℕ → ℕ → Option Line
 rowOf file section row = getElem? (having (codeFor section row) (numbered 1 (lines file))) (row - 1)
+
+-- how many rows a section has: the lines with its row code
+unfoldable pub rowCount : Bytes → ℕ → ℕ
+rowCount file section = count (coded (rowCode section)) (lines file)
+
+-- the text of a section's first header; empty where it has none
+abbrev pub textOf : Option Line → Bytes
+textOf none = []
+textOf (some l) = l .text
+
+abbrev pub headerOf : Bytes → ℕ → Bytes
+headerOf file section = textOf (rowOf file section 0)
+
+-- where a name stands first among these, of which the first has the number k; 0 where it is none of them
+unfoldable pub placeOf : ℕ → Bytes → List Bytes → ℕ
+placeOf k name [] = 0
+placeOf k name (c ∷ cs) = cond (same c name) k (placeOf (suc k) name cs)
+
+-- the first column of a header that has this name: cell 1 is no column name; 0 where there is none
+abbrev pub columnNamed : Bytes → Bytes → ℕ
+columnNamed header name = placeOf 1 name (drop 1 (cells header))
 
 -- column c is cell c + 1; column 0 is refused
 unfoldable pub columnOf : Bytes → ℕ → Option Bytes

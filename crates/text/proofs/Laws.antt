@@ -6,6 +6,7 @@ pub mod Starts
 pub mod Pieces
 pub mod Each
 pub mod Lines
+pub mod Counts
 pub mod Same
 pub mod Begins
 pub mod Control

@@ -7,7 +7,7 @@ use native.Mathlib.Omega.{arith}
 use lib.Dec.{eqb}
 use borrow.Author.Tests.{eq-eqb, eqb-true}
 use Rattle.text.specs.Bytes.{Bytes, same, any}
-use Rattle.text.proofs.Laws.Tests.{and-both}
+use Rattle.text.proofs.Laws.Same.{same-equal, same-self}
 use Rattle.names.specs.Names.{slotOf, isKnown}
 use Rattle.book.specs.Keys.{keyOf, keyEntries, isColunit}
 use Rattle.book.proofs.Laws.Apart.{keys-count}
@@ -18,24 +18,6 @@ use Rattle.breaks.specs.Sorts.{cell}
 use Rattle.breaks.specs.Rules.{keyFound, sameKey}
 use Rattle.breaks.specs.Machine.{SLOTS, againIn, isSlot, hasSlot, Slots}
 use Rattle.breaks.proofs.Laws.Rowing.{test-eq}
-
--- THE SAME BYTES are equal
-
-pub same-equal : (a b : Bytes) → same a b ≡ true → a ≡ b
-unfolding same
-same-equal [] [] h = refl
-same-equal [] (y ∷ ys) h = absurd (let z : _≡_ {A = ℕ} 0 1 = cc in omega arith)
-same-equal (x ∷ xs) [] h = absurd (let z : _≡_ {A = ℕ} 0 1 = cc in omega arith)
-same-equal (x ∷ xs) (y ∷ ys) h =
-    let p = and-both (eqb x y) (same xs ys) h in
-    let e : x ≡ y = eqb-true x y (p .0) in
-    let t : xs ≡ ys = same-equal xs ys (p .1) in
-    cc
-
-pub same-self : (a : Bytes) → same a a ≡ true
-unfolding same
-same-self [] = refl
-same-self (x ∷ xs) = rw (eq-eqb x x refl, same-self xs)
 
 -- two tests that agree on every element
 pub any-alike : {A : Type 0} (f g : A → Bool) → ((x : A) → f x ≡ g x) → (xs : List A) → any f xs ≡ any g xs

@@ -11,8 +11,8 @@ use lib.ListN.{length, take, drop, getD, set, drop-of-length-le}
 use borrow.Author.Tests.{eqb-true, eqb-false}
 use Rattle.text.specs.Bytes.{Bytes, same, any}
 use Rattle.text.proofs.Laws.Pieces.{drop-step}
+use Rattle.text.proofs.Laws.Same.{same-equal}
 use Rattle.breaks.proofs.Laws.Celling.{any-more}
-use Rattle.breaks.proofs.Laws.Keeping.{same-equal}
 use Rattle.headnames.specs.Stamps.{STAMPS, hashFrom, hashOf, Stamped}
 
 -- THE HASH

@@ -6,7 +6,7 @@ use mathlib.Core.List.{List, [], _∷_, _++_}
 use mathlib.Core.Logic.{⊎-elim}
 use native.Mathlib.Nat.{eq-or-lt-of-le}
 use native.Mathlib.Omega.{arith}
-use borrow.Author.Tests.{eqb-true, le-leb, lt-leb, leb-true}
+use borrow.Author.Tests.{le-leb, lt-leb, leb-true}
 use lib.Dec.{eqb, leb}
 use lib.Ieee.{Float}
 use lib.IntN.{ℤ}
@@ -18,6 +18,7 @@ use Rattle.references.specs.Index.{isDigit, number}
 use Rattle.values.specs.Values.{areDigits, unsigned, dotted, isNull, isWhole, isNumeral}
 use Rattle.readings.specs.Reading.{hasMinus, signed, double, beforeDot, afterDot, decimalOf, isShort, valueOf}
 use Rattle.readings.specs.declared.Value.the-variants.{Missing, Whole, Decimal, Infinite, NotANumber, LongDecimal, Text}
+use Rattle.text.proofs.Laws.Same.{same-equal}
 use Rattle.text.proofs.Laws.Tests.{and-left, and-right}
 use Rattle.text.proofs.Laws.Each.{to-end}
 use Rattle.values.proofs.Laws.Digits.{dotted-none, dotted-one, digits-dot}
@@ -28,23 +29,12 @@ unfolding hasMinus
 minus-none [] h = refl
 minus-none (x ∷ xs) h = absurd (omega arith)
 
--- the same bytes are the same text
-same-eq : (a b : List ℕ) → same a b ≡ true → a ≡ b
-unfolding same
-same-eq [] [] e = refl
-same-eq [] (y ∷ ys) e = absurd (let z : _≡_ {A = ℕ} 0 1 = cc in omega arith)
-same-eq (x ∷ xs) [] e = absurd (let z : _≡_ {A = ℕ} 0 1 = cc in omega arith)
-same-eq (x ∷ xs) (y ∷ ys) e =
-    let p : x ≡ y = eqb-true x y (and-left (eqb x y) (same xs ys) e) in
-    let q : xs ≡ ys = same-eq xs ys (and-right (eqb x y) (same xs ys) e) in
-    cc
-
 -- a numeral is neither of the words
 no-word : (b w : List ℕ) → isNumeral b ≡ true → isNumeral w ≡ false → same b w ≡ false
 no-word b w e f = go (same b w) refl
   where
     go : (t : Bool) → same b w ≡ t → t ≡ false
-    go true s = absurd (let q : b ≡ w = same-eq b w s in let z : _≡_ {A = ℕ} 0 1 = cc in omega arith)
+    go true s = absurd (let q : b ≡ w = same-equal b w s in let z : _≡_ {A = ℕ} 0 1 = cc in omega arith)
     go false s = refl
 
 no-inf : (b : List ℕ) → isNumeral b ≡ true → is b "INF" ≡ false

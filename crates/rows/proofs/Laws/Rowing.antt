@@ -1,15 +1,17 @@
 -- The rows of a code with their line numbers, by positions of the file. Assumes nothing.
-use mathlib.Core.Path.{_≡_, refl, subst}
+use mathlib.Core.Path.{_≡_, refl, sym, ap, subst, _∙_}
 use mathlib.Core.Bool.{Bool, true, false, cond}
+use mathlib.Core.List.{List, [], _∷_}
 use mathlib.Core.Option.{Option, none, some}
-use Prim.Native.Nat.{ℕ, suc, _+_, _-_, _≤_}
+use Prim.Native.Nat.{ℕ, zero, suc, _+_, _-_, _≤_, _<_}
 use native.Mathlib.Numerals.{add-one}
 use native.Mathlib.Omega.{arith}
 use lib.Dec.{eqb}
-use borrow.Author.Tests.{ne-eqb, eqb-true}
-use lib.ListN.{length, getElem?, drop}
-use Rattle.text.specs.Bytes.{Bytes}
-use Rattle.text.specs.Lines.{TAB, LF, lines, cells, coded}
+use borrow.Author.Tests.{ne-eqb, eqb-true, lt-ltb, le-ltb}
+use lib.ListN.{length, getD, getElem?, drop}
+use Rattle.text.specs.Bytes.{Bytes, count}
+use Rattle.text.specs.Lines.{LIMIT, TAB, LF, lines, cells, coded}
+use Rattle.text.specs.Codes.{isSection, headerCode, rowCode, codeFor}
 use Rattle.text.specs.Places.{part, after, LineAt, FindsCell}
 use Rattle.text.specs.declared.Part.{Part}
 use Rattle.text.specs.declared.Part.the-variants.{At, Nothing}
@@ -17,7 +19,8 @@ use Rattle.text.proofs.Laws.Starts.{after-more}
 use Rattle.text.proofs.Laws.Lines.{lines-done}
 use Rattle.text.proofs.Laws.Parts.{get-next, get-below}
 use Rattle.text.proofs.Laws.Pieces.{pieces-bound}
-use Rattle.rows.specs.Rows.{Line, lineOf, numbered, having, columnOf, FindsRow, FindsColumn}
+use Rattle.rows.specs.Rows.{Line, lineOf, numbered, having, rowOf, rowCount, columnOf, FindsRow, FindsColumn}
+use Rattle.rows.specs.Counted.{counted, rowsIn}
 use Rattle.rows.specs.declared.Row.{Row}
 use Rattle.rows.specs.declared.Row.the-variants.{On, Absent}
 
@@ -84,3 +87,88 @@ column-below line column x h = go (eqb column 0) refl h
     go : (t : Bool) → eqb column 0 ≡ t → cond t none (getElem? (cells line) column) ≡ some x → column ≤ length line
     go true e k = omega (arith, eqb-true column 0 e)
     go false e k = omega (arith, get-below (cells line) column x k, pieces-bound TAB line)
+
+-- HOW MANY ROWS
+
+-- the lines that have a code are as many as are counted
+having-count : (code : Bytes) (n : ℕ) (ls : List Bytes) → length (having code (numbered n ls)) ≡ count (coded code) ls
+unfolding having numbered count
+having-count code n [] = refl
+having-count code n (l ∷ ls) = go (coded code l) (having-count code (suc n) ls)
+  where
+    rest : List Line
+    rest = having code (numbered (suc n) ls)
+
+    go : (t : Bool) → length rest ≡ count (coded code) ls → length (cond t (lineOf n l ∷ rest) rest) ≡ cond t (suc (count (coded code) ls)) (count (coded code) ls)
+    go true h = ap suc h
+    go false h = h
+
+get-none : {A : Type 0} (l : List A) (k : ℕ) → length l ≤ k → getElem? l k ≡ none
+get-none [] k h = refl
+get-none (x ∷ xs) zero h = absurd (omega arith)
+get-none (x ∷ xs) (suc k) h = get-none xs k (omega arith)
+
+get-some : {A : Type 0} (l : List A) (k : ℕ) → k < length l → getElem? l k ≡ none → ⊥
+get-some [] k h e = omega arith
+get-some (x ∷ xs) zero h e = let z : _≡_ {A = ℕ} 0 1 = cc in omega arith
+get-some (x ∷ xs) (suc k) h e = get-some xs k (omega arith) e
+
+-- row r is there exactly for r up to the count
+module _ (file : Bytes) (section row : ℕ) (low : 1 ≤ row) where
+  row-coded : rowOf file section row ≡ getElem? (having (rowCode section) (numbered 1 (lines file))) (row - 1)
+  unfolding rowOf codeFor
+  row-coded = rw (ne-eqb row 0 (λ e. omega arith))
+
+  rows-long : length (having (rowCode section) (numbered 1 (lines file))) ≡ rowCount file section
+  unfolding rowCount
+  rows-long = having-count (rowCode section) 1 (lines file)
+
+  pub row-beyond : rowCount file section < row → rowOf file section row ≡ none
+  row-beyond h = row-coded ∙ get-none (having (rowCode section) (numbered 1 (lines file))) (row - 1) (omega (arith, rows-long))
+
+  pub row-within : row ≤ rowCount file section → rowOf file section row ≡ none → ⊥
+  row-within h e = get-some (having (rowCode section) (numbered 1 (lines file))) (row - 1) (omega (arith, rows-long)) (sym row-coded ∙ e)
+
+-- A ROW IS A LINE of the file: its number, its text and its code
+
+abbrev pub LineIn : Bytes → ℕ → List Bytes → Line → Type 0
+LineIn code n ls l = (n ≤ l .line) × (l .line < n + length ls) × (getD ls (l .line - n) [] ≡ l .text) × (coded code (l .text) ≡ true)
+
+having-line : (code : Bytes) (n : ℕ) (ls : List Bytes) (k : ℕ) (l : Line) → getElem? (having code (numbered n ls)) k ≡ some l → LineIn code n ls l
+unfolding having numbered
+having-line code n [] k l e = absurd (let z : _≡_ {A = ℕ} 0 1 = cc in omega arith)
+having-line code n (x ∷ ls) k l e = go (coded code x) refl k e (λ j d. having-line code (suc n) ls j l d)
+  where
+    rest : List Line
+    rest = having code (numbered (suc n) ls)
+
+    later : LineIn code (suc n) ls l → LineIn code n (x ∷ ls) l
+    later h =
+        let z : l .line - n ≡ suc (l .line - suc n) = omega arith in
+        (omega arith, omega arith, rw z (h .2), h .3)
+
+    go : (t : Bool) → coded code x ≡ t → (j : ℕ) → getElem? (cond t (lineOf n x ∷ rest) rest) j ≡ some l → ((i : ℕ) → getElem? rest i ≡ some l → LineIn code (suc n) ls l) → LineIn code n (x ∷ ls) l
+    go true c zero d f =
+        let a : lineOf n x ≡ l = cc in
+        let z : n - n ≡ 0 = omega arith in
+        subst (LineIn code n (x ∷ ls)) a (omega arith, omega arith, rw z, c)
+    go true c (suc j) d f = later (f j d)
+    go false c j d f = later (f j d)
+
+pub header-line : (file : Bytes) (section : ℕ) (l : Line) → rowOf file section 0 ≡ some l → LineIn (headerCode section) 1 (lines file) l
+unfolding rowOf codeFor
+header-line file section l e = having-line (headerCode section) 1 (lines file) 0 l e
+
+-- THE CALL `rows`, by the tests that lead to each answer
+module _ (f : Bytes) (section : ℕ) where
+  pub rows-over : LIMIT < length f → counted 1 0 ≡ rowsIn f section
+  unfolding rowsIn
+  rows-over h = rw (lt-ltb LIMIT (length f) h)
+
+  pub rows-nowhere : length f ≤ LIMIT → isSection section ≡ false → counted 2 0 ≡ rowsIn f section
+  unfolding rowsIn
+  rows-nowhere h e = rw (le-ltb LIMIT (length f) h, e)
+
+  pub rows-there : length f ≤ LIMIT → isSection section ≡ true → {code : Bytes} {k : ℕ} → code ≡ codeFor section 1 → k ≡ count (coded code) (lines f) → counted 0 k ≡ rowsIn f section
+  unfolding rowsIn rowCount codeFor
+  rows-there h e c d = rw (le-ltb LIMIT (length f) h, e, d, c)

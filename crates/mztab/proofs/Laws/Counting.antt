@@ -1,0 +1,48 @@
+-- The call `rows` and the cell calls: row r is there exactly for r up to the number of rows. Assumes nothing.
+use mathlib.Core.Path.{_≡_, refl, sym, ap, _∙_}
+use mathlib.Core.Bool.{Bool, true, false, cond}
+use mathlib.Core.Option.{Option, none, some}
+use Prim.Native.Nat.{ℕ, _≤_, _<_}
+use native.Mathlib.Omega.{arith}
+use lib.Dec.{ltb}
+use lib.ListN.{length}
+use borrow.Author.Tests.{ltb-true, ltb-false}
+use Rattle.text.specs.Bytes.{Bytes}
+use Rattle.text.specs.Lines.{LIMIT}
+use Rattle.text.specs.Codes.{isSection}
+use Rattle.rows.specs.Rows.{Line, rowOf, rowCount, columnOf}
+use Rattle.rows.specs.Counted.{Counted, counted, rowsIn}
+use Rattle.rows.proofs.Laws.Rowing.{row-beyond, row-within}
+use Rattle.mztab.specs.Shown.{Sought, Shown, refused, soughtCell, soughtRow, sought, given, shown}
+
+-- a row that is there is refused with 4, if at all
+row-there : (file : Bytes) (o : Option Line) (column : ℕ) → (o ≡ none → ⊥) → soughtRow file o column .number ≡ 3 → ⊥
+row-there file none column ne e = ne refl
+row-there file (some l) column ne e = go (columnOf (l .text) column) e
+  where
+    go : (o : Option Bytes) → soughtCell (l .line) _ _ o .number ≡ 3 → ⊥
+    go none d = omega arith
+    go (some b) d = omega arith
+
+-- where `rows` counts k rows, `cell` finds no row r, from 1 on, exactly where r is beyond k
+pub rows-cell :
+    (file : Bytes) (section row column : ℕ) {k n : ℕ} {v : Bytes} → counted 0 k ≡ rowsIn file section → given n v ≡ shown (sought file section row column) → 1 ≤ row
+    → (n ≡ 3 → k < row) × (k < row → n ≡ 3)
+unfolding rowsIn sought
+rows-cell file section row column {k} {n} a b low =
+    go (ltb LIMIT (length file)) (isSection section) (ap (λ (x : Counted). x .number) a) (ap (λ (x : Counted). x .rows) a) (ap (λ (x : Shown). x .number) b)
+  where
+    go : (t u : Bool)
+        → 0 ≡ cond t (counted 1 0) (cond u (counted 0 (rowCount file section)) (counted 2 0)) .number
+        → k ≡ cond t (counted 1 0) (cond u (counted 0 (rowCount file section)) (counted 2 0)) .rows
+        → n ≡ cond t (refused 1) (cond u (soughtRow file (rowOf file section row) column) (refused 2)) .number → (n ≡ 3 → k < row) × (k < row → n ≡ 3)
+    go true u z q r = absurd (omega arith)
+    go false false z q r = absurd (omega arith)
+    go false true z q r = (there (ltb k row) refl, beyond)
+      where
+        there : (t : Bool) → ltb k row ≡ t → n ≡ 3 → k < row
+        there true e d = ltb-true k row e
+        there false e d = absurd (row-there file (rowOf file section row) column (row-within file section row low (omega (arith, ltb-false k row e))) (sym r ∙ d))
+
+        beyond : k < row → n ≡ 3
+        beyond h = r ∙ ap (λ (o : Option Line). soughtRow file o column .number) (row-beyond file section row low (omega arith))

@@ -1,0 +1,93 @@
+-- What cells, rows and lines add to the weights. Assumes nothing.
+use mathlib.Core.Path.{_≡_, refl, sym, ap, _∙_}
+use mathlib.Core.Bool.{Bool, true, false, cond, not, _&&_}
+use mathlib.Core.List.{List, [], _∷_}
+use Prim.Native.Nat.{ℕ, suc, _+_, _-_, _≤_, _<_}
+use native.Mathlib.Numerals.{add-one}
+use native.Mathlib.Omega.{arith}
+use lib.Dec.{eqb}
+use lib.ListN.{length, drop, getD, set, length-set}
+use lib.Seq.{getD-set-same, getD-set-other}
+use borrow.Author.Tests.{eq-eqb, ne-eqb, eqb-true, eqb-false}
+use Rattle.text.specs.Bytes.{Bytes, is}
+use Rattle.text.specs.Lines.{LIMIT, TAB, lines, cells, coded}
+use Rattle.text.specs.Codes.{rowCode}
+use Rattle.text.specs.Places.{part, Ends, LineAt}
+use Rattle.text.proofs.Laws.Lines.{lines-done}
+use Rattle.text.proofs.Laws.Pieces.{piece-cut, piece-last}
+use Rattle.fee.specs.Sums.{bit}
+use Rattle.weights.specs.Weights.{PROTEIN}
+use Rattle.weights.specs.Marks.{isCounted, withCell, adds, marks, lineAdds, linesAdd, Room, Adds}
+
+-- ONE CELL
+
+module _ (mark : ℕ) (cell : Bytes) (ws : List ℕ) where
+  pub cell-unmarked : mark ≡ 0 → ws ≡ withCell mark cell ws
+  unfolding withCell
+  cell-unmarked e = rw (eq-eqb mark 0 e)
+
+  pub cell-null : (mark ≡ 0 → ⊥) → is cell "null" ≡ true → ws ≡ withCell mark cell ws
+  unfolding withCell
+  cell-null n e = rw (ne-eqb mark 0 n, e)
+
+  pub cell-counts : (mark ≡ 0 → ⊥) → is cell "null" ≡ false → set ws (mark - 1) (getD ws (mark - 1) 0 + 1) ≡ withCell mark cell ws
+  unfolding withCell
+  cell-counts n e = rw (ne-eqb mark 0 n, e)
+
+  pub cell-long : length (withCell mark cell ws) ≡ length ws
+  unfolding withCell
+  cell-long = go (isCounted mark cell)
+    where
+      go : (t : Bool) → length (cond t (set ws (mark - 1) (getD ws (mark - 1) 0 + 1)) ws) ≡ length ws
+      go true = length-set ws (mark - 1) (getD ws (mark - 1) 0 + 1)
+      go false = refl
+
+  -- it adds one to the weight of its study variable
+  pub cell-adds : mark ≤ length ws → (i : ℕ) → getD (withCell mark cell ws) i 0 ≡ getD ws i 0 + bit (eqb mark (suc i) && not (is cell "null"))
+  unfolding withCell
+  cell-adds h i = go (eqb mark 0) refl (is cell "null") (eqb mark (suc i)) refl
+    where
+      go : (t : Bool) → eqb mark 0 ≡ t → (u v : Bool) → eqb mark (suc i) ≡ v
+          → getD (cond (not t && not u) (set ws (mark - 1) (getD ws (mark - 1) 0 + 1)) ws) i 0 ≡ getD ws i 0 + bit (v && not u)
+      go true p u true q = absurd (omega (arith, eqb-true mark 0 p, eqb-true mark (suc i) q))
+      go true p u false q = omega arith
+      go false p true true q = omega arith
+      go false p true false q = omega arith
+      go false p false true q =
+          let z : mark - 1 ≡ i = omega (arith, eqb-true mark (suc i) q) in
+          rw z (getD-set-same ws i (getD ws i 0 + 1) 0 (omega (arith, eqb-true mark (suc i) q)))
+      go false p false false q =
+          let n = eqb-false mark 0 p in
+          getD-set-other ws (mark - 1) i (getD ws (mark - 1) 0 + 1) 0 (λ z. eqb-false mark (suc i) q (omega arith)) ∙ omega arith
+
+-- THE CELLS OF A ROW
+
+module _ (p : ℕ → Bool) (k : ℕ) {line : Bytes} {at e : ℕ} (ends : Ends TAB line at e) where
+  pub adds-next : e < length line → adds p k (cells (drop at line)) ≡ bit (p k && not (is (part at e line) "null")) + adds p (k + 1) (cells (drop (e + 1) line))
+  unfolding adds
+  adds-next lt = rw (add-one k, piece-cut ends lt)
+
+  pub adds-last : e ≡ length line → adds p k (cells (drop at line)) ≡ bit (p k && not (is (part at e line) "null"))
+  unfolding adds
+  adds-last q = rw (piece-last ends q) (omega arith)
+
+-- no column from k on passes the test
+pub adds-none : (p : ℕ → Bool) (k : ℕ) (cs : List Bytes) → ((j : ℕ) → k ≤ j → p j ≡ false) → adds p k cs ≡ 0
+unfolding adds
+adds-none p k [] h = refl
+adds-none p k (c ∷ cs) h = rw (h k (omega arith)) (adds-none p (suc k) cs (λ j l. h j (omega arith)))
+
+pub adds-alike : (p q : ℕ → Bool) (k : ℕ) (cs : List Bytes) → ((j : ℕ) → p j ≡ q j) → adds p k cs ≡ adds q k cs
+unfolding adds
+adds-alike p q k [] h = refl
+adds-alike p q k (c ∷ cs) h = rw (h k, adds-alike p q (suc k) cs h)
+
+-- THE LINES
+
+pub lines-next : (ms : List ℕ) (i : ℕ) {f : Bytes} {s e next : ℕ} → LineAt f s e next → linesAdd ms i (lines (drop s f)) ≡ lineAdds ms i (part s e f) + linesAdd ms i (lines (drop next f))
+unfolding linesAdd
+lines-next ms i at = rw (at .cut)
+
+pub lines-none : (ms : List ℕ) (i : ℕ) (f : Bytes) (s : ℕ) → length f ≤ s → linesAdd ms i (lines (drop s f)) ≡ 0
+unfolding linesAdd
+lines-none ms i f s h = rw (lines-done f s h)
