@@ -1,21 +1,21 @@
 -- What an accepted file gives to whoever walks its rows: where the list of breaks is empty, each line keeps each rule. Assumes nothing.
 use mathlib.Core.Path.{_≡_, refl, sym, ap, subst, _∙_}
-use mathlib.Core.Bool.{Bool, true, false, _&&_, _||_}
+use mathlib.Core.Bool.{Bool, true, false, not, _&&_, _||_}
 use mathlib.Core.List.{List, [], _∷_}
 use mathlib.Core.Option.{some}
 use mathlib.Core.Logic.{_⊎_, inl, inr}
-use Prim.Native.Nat.{ℕ, zero, suc, _-_, _≤_, _<_}
+use Prim.Native.Nat.{ℕ, zero, suc, _+_, _-_, _≤_, _<_}
 use native.Mathlib.Omega.{arith}
 use lib.Dec.{ltb}
 use lib.ListN.{length, getD, take, drop, getElem?, length-take, length-drop}
 use lib.Seq.{getD-take, getD-drop}
 use borrow.Author.Tests.{ltb-false, le-leb, eqb-true}
-use Rattle.text.specs.Bytes.{Bytes, bytes, same, isEmpty, any}
+use Rattle.text.specs.Bytes.{Bytes, bytes, same, isEmpty, any, splitOn}
 use Rattle.text.specs.Lines.{lines, cells, coded}
 use Rattle.text.specs.Codes.{isSection, headerCode, rowCode}
 use Rattle.text.proofs.Laws.Same.{same-equal}
 use Rattle.text.proofs.Laws.Sections.{section-bounds}
-use Rattle.text.proofs.Laws.Pieces.{split-some}
+use Rattle.text.proofs.Laws.Each.{split-some}
 use Rattle.breaks.specs.Sorts.{cell, headerSection, rowSection, codeSort, sortOf, headerIn, silentIn, isHeader, isSilent, width}
 use Rattle.breaks.specs.Breaks.{Break, Spot, spotAt, Rule, Broken}
 use Rattle.breaks.specs.Rules.{rules, breaks, isAccepted, isWide, names, namesBefore}
@@ -54,12 +54,13 @@ second-fails a b t e = rw t at e
 any-fails : {A : Type 0} (p : A → Bool) (xs : List A) (d : A) (i : ℕ) → any p xs ≡ false → i < length xs → p (getD xs i d) ≡ false
 unfolding any
 any-fails p [] d i e h = absurd (omega arith)
-any-fails p (x ∷ xs) d i e h = go (p x) refl i h e
+any-fails p (x ∷ xs) d i e h = go (p x) refl i h e (λ k f l. any-fails p xs d k f l)
   where
-    go : (t : Bool) → p x ≡ t → (i : ℕ) → i < suc (length xs) → (t || any p xs) ≡ false → p (getD (x ∷ xs) i d) ≡ false
-    go true q i l f = absurd (let z : _≡_ {A = ℕ} 0 1 = cc in omega arith)
-    go false q zero l f = q
-    go false q (suc i) l f = any-fails p xs d i f (omega arith)
+    go : (t : Bool) → p x ≡ t → (i : ℕ) → i < suc (length xs) → (t || any p xs) ≡ false → ((k : ℕ) → any p xs ≡ false → k < length xs → p (getD xs k d) ≡ false)
+        → p (getD (x ∷ xs) i d) ≡ false
+    go true q i l f r = absurd (let z : _≡_ {A = ℕ} 0 1 = cc in omega arith)
+    go false q zero l f r = q
+    go false q (suc i) l f r = r i f (omega arith)
 
 module _ (file : Bytes) (kept : breaks file ≡ []) (n : ℕ) (low : 1 ≤ n) (high : n ≤ length (lines file)) where
   abbrev here : Bytes
@@ -74,7 +75,7 @@ module _ (file : Bytes) (kept : breaks file ≡ []) (n : ℕ) (low : 1 ≤ n) (h
       go : (t : Bool) → r .broken (spotAt (lines file) n) c ≡ t → t ≡ false
       go true b =
           absurd
-          (accepted-whole file {n} {c} {r .number} kept
+          (accepted-whole file {k = r .number} kept
           (inl (record { line-low = low; line-high = high; judged = loud; cell-low = lo; cell-high = hi; broken = nth-broken rules (spotAt (lines file) n) c j r e b })))
       go false b = refl
 
@@ -99,10 +100,11 @@ module _ (file : Bytes) (kept : breaks file ≡ []) (n : ℕ) (low : 1 ≤ n) (h
     accepted-apart a b la ab bw =
         let q = accepted-rule loud (suc b) (omega arith) (omega arith) 12 _ refl in
         let t = second-fails _ _ (le-leb 2 (suc b) (omega arith)) q in
-        let u : any (same (getD (cells here) b [])) (take (suc b - 2) (drop 1 (cells here))) ≡ false = second-fails _ _ (rw (head, narrow)) t in
+        let w : suc b - 1 ≡ b = omega arith in
+        let u : any (same (getD (cells here) (suc b - 1) [])) (take (suc b - 2) (drop 1 (cells here))) ≡ false = second-fails (isHeader here && not (isWide here)) _ (rw (head, narrow)) t in
         let z : 1 + (a - 1) ≡ a = omega arith in
-        let v = any-fails (same (getD (cells here) b [])) (take (suc b - 2) (drop 1 (cells here))) [] (a - 1) u (rw (length-take, length-drop) (omega arith)) in
-        rw (getD-take (suc b - 2) (drop 1 (cells here)) (a - 1) [] (omega arith), getD-drop 1 (cells here) (a - 1) [], z) at v
+        let v = any-fails (same (getD (cells here) (suc b - 1) [])) (take (suc b - 2) (drop 1 (cells here))) [] (a - 1) u (rw (length-take, length-drop) (omega arith)) in
+        rw (getD-take (suc b - 2) (drop 1 (cells here)) (a - 1) [] (omega arith), getD-drop 1 (cells here) (a - 1) [], z, w) at v
 
 -- a line with a header's code is a header of that section
 code-sort : (section : ℕ) → isSection section ≡ true → codeSort (headerCode section) ≡ Header section
@@ -124,6 +126,6 @@ no-code (suc (suc (suc (suc zero)))) e q = let z : _≡_ {A = ℕ} 0 1 = cc in o
 no-code (suc (suc (suc (suc (suc s))))) e q = omega (arith, section-bounds (suc (suc (suc (suc (suc s))))) e)
 
 pub header-coded : (section : ℕ) (l : Bytes) → isSection section ≡ true → coded (headerCode section) l ≡ true → sortOf l ≡ Header section
-unfolding sortOf coded cell isEmpty
+unfolding sortOf coded cell isEmpty splitOn
 header-coded section [] s e = absurd (no-code section s e)
 header-coded section (x ∷ xs) s e = rw (same-equal (getD (cells (x ∷ xs)) 0 []) (headerCode section) e) (code-sort section s)
