@@ -2,7 +2,7 @@
 use mathlib.Core.Path.{_≡_, refl, sym, ap, _∙_}
 use mathlib.Core.Bool.{Bool, true, false, cond}
 use mathlib.Core.Option.{Option, none, some}
-use Prim.Native.Nat.{ℕ, _≤_, _<_}
+use Prim.Native.Nat.{ℕ, _+_, _≤_, _<_}
 use native.Mathlib.Omega.{arith}
 use lib.Dec.{ltb}
 use lib.ListN.{length}
@@ -13,16 +13,16 @@ use Rattle.text.specs.Codes.{isSection}
 use Rattle.rows.specs.Rows.{Line, rowOf, rowCount, columnOf}
 use Rattle.rows.specs.Counted.{Counted, counted, rowsIn}
 use Rattle.rows.proofs.Laws.Rowing.{row-beyond, row-within}
-use Rattle.mztab.specs.Shown.{Sought, Shown, refused, soughtCell, soughtRow, sought, given, shown}
+use Rattle.mztab.specs.Shown.{Shown, refused, startOf, soughtCell, soughtRow, sought, given, shown}
 
 -- a row that is there is refused with 4, if at all
+cell-there : (n c start : ℕ) (o : Option Bytes) → soughtCell n c start o .number ≡ 3 → ⊥
+cell-there n c start none e = omega arith
+cell-there n c start (some b) e = omega arith
+
 row-there : (file : Bytes) (o : Option Line) (column : ℕ) → (o ≡ none → ⊥) → soughtRow file o column .number ≡ 3 → ⊥
 row-there file none column ne e = ne refl
-row-there file (some l) column ne e = go (columnOf (l .text) column) e
-  where
-    go : (o : Option Bytes) → soughtCell (l .line) _ _ o .number ≡ 3 → ⊥
-    go none d = omega arith
-    go (some b) d = omega arith
+row-there file (some l) column ne e = cell-there (l .line) (column + 1) (startOf file l column) (columnOf (l .text) column) e
 
 -- where `rows` counts k rows, `cell` finds no row r, from 1 on, exactly where r is beyond k
 pub rows-cell :

@@ -75,7 +75,7 @@ module _ (p : ℕ → Bool) (k : ℕ) {line : Bytes} {at e : ℕ} (ends : Ends T
 pub adds-none : (p : ℕ → Bool) (k : ℕ) (cs : List Bytes) → ((j : ℕ) → k ≤ j → p j ≡ false) → adds p k cs ≡ 0
 unfolding adds
 adds-none p k [] h = refl
-adds-none p k (c ∷ cs) h = rw (h k (omega arith)) (adds-none p (suc k) cs (λ j l. h j (omega arith)))
+adds-none p k (c ∷ cs) h = rw (h k (omega arith)) (omega (arith, adds-none p (suc k) cs (λ j l. h j (omega arith))))
 
 pub adds-alike : (p q : ℕ → Bool) (k : ℕ) (cs : List Bytes) → ((j : ℕ) → p j ≡ q j) → adds p k cs ≡ adds q k cs
 unfolding adds

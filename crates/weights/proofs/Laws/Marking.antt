@@ -44,7 +44,7 @@ marks-start header = record {
   few = omega arith;
   done = λ j h. absurd (omega arith);
   none = λ j h. same-everywhere 256 j 0;
-  left = λ j. refl;
+  left = λ j. let z : 0 + j ≡ j = omega arith in ap (λ (i : ℕ). getD (cells header) i []) z;
 }
 
 -- marks that say what the cells are can be used

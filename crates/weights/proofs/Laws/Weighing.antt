@@ -49,6 +49,17 @@ not-same {x} {y} e q =
     let z : _≡_ {A = ℕ} 0 1 = cc in
     omega arith
 
+sound-line : (file : Bytes) → breaks file ≡ [] → (n : ℕ) → 1 ≤ n → n ≤ length (lines file) → coded (headerCode PROTEIN) (getD (lines file) (n - 1) []) ≡ true
+    → Sound (getD (lines file) (n - 1) [])
+unfolding coded
+sound-line file kept n lo hi e =
+    let head : isHeader (getD (lines file) (n - 1) []) ≡ true = rw (header-coded PROTEIN (getD (lines file) (n - 1) []) refl e) in
+    record {
+      narrow = accepted-width file kept n lo hi head;
+      apart = λ a b la ab bw q. not-same (accepted-apart file kept n lo hi head a b la ab bw) q;
+      first = ap variableOf (same-equal (getD (cells (getD (lines file) (n - 1) [])) 0 []) (headerCode PROTEIN) e) ∙ code-unnamed;
+    }
+
 sound-header : (file : Bytes) → breaks file ≡ [] → Sound (headerOf file PROTEIN)
 sound-header file kept = go (rowOf file PROTEIN 0) refl
   where
@@ -56,17 +67,7 @@ sound-header file kept = go (rowOf file PROTEIN 0) refl
     go none e = sound-none
     go (some l) e =
         let at = header-line file PROTEIN l e in
-        subst Sound (at .2) (of-line (l .line) (at .0) (omega (arith, at .1)) (subst (λ (x : Bytes). coded (headerCode PROTEIN) x ≡ true) (sym (at .2)) (at .3)))
-      where
-        of-line : (n : ℕ) → 1 ≤ n → n ≤ length (lines file) → coded (headerCode PROTEIN) (getD (lines file) (n - 1) []) ≡ true → Sound (getD (lines file) (n - 1) [])
-        unfolding coded
-        of-line n lo hi e =
-            let head : isHeader (getD (lines file) (n - 1) []) ≡ true = rw (header-coded PROTEIN (getD (lines file) (n - 1) []) refl e) in
-            record {
-              narrow = accepted-width file kept n lo hi head;
-              apart = λ a b la ab bw q. not-same (accepted-apart file kept n lo hi head a b la ab bw) q;
-              first = ap variableOf (same-equal _ _ e) ∙ code-unnamed;
-            }
+        subst Sound (at .2) (sound-line file kept (l .line) (at .0) (omega (arith, at .1)) (subst (λ (x : Bytes). coded (headerCode PROTEIN) x ≡ true) (sym (at .2)) (at .3)))
 
 -- ONE COLUMN: where one passes the test and no other does, the cell there decides
 adds-one : (p : ℕ → Bool) (k c : ℕ) (cs : List Bytes) → k ≤ c → p c ≡ true → ((j : ℕ) → (j ≡ c → ⊥) → p j ≡ false) → adds p k cs ≡ bit (isGiven (getElem? cs (c - k)))
