@@ -3,7 +3,7 @@
 use crate::refusals::wide;
 ghost use mathlib.Core.Path.{_≡_};
 ghost use mathlib.Core.Bool.{_&&_, _||_};
-ghost use Prim.Native.Nat.{_*_, _/_, _%_, _≤_, _<_};
+ghost use Prim.Native.Nat.{_*_, _/_, _%_, _^_, _≤_, _<_};
 ghost use lib.Dec.{eqb, ltb};
 ghost use lib.ListN.{length};
 ghost use Rattle.fee.specs.Sums.{sumTo, listTo, at, bit};
@@ -27,6 +27,7 @@ pub struct Divided {
 // 1 for true, 0 for false.
 fn one_if(b: bool) -> u64
     ensures { λ r. ⌜ r ≡ bit b ⌝ }
+    ensures { λ r. ⌜ r ≤ 1 ⌝ }
 {
     if b { 1 } else { 0 }
 }
@@ -38,6 +39,14 @@ fn comes_before(x: u64, j: usize, r: u64, i: usize) -> bool
     (r < x) | ((x == r) & (j < i))
 }
 
+// How often `all` goes into `whole`: rounded down.
+fn down(whole: u64, all: u64) -> u64
+    requires { ⌜ (whole < 2 ^ 63) × (0 < all) ⌝ }
+    ensures { λ r. ⌜ r ≡ whole / all ⌝ }
+{
+    whole / all
+}
+
 // What one weight of `all` has, rounded down, and the remainder.
 fn part_of(fee: u64, weight: u32, all: u64) -> Part
     requires { ⌜ (fee ≤ LIMIT) × ((weight < WEIGHT-END) × (0 < all)) ⌝ }
@@ -45,7 +54,7 @@ fn part_of(fee: u64, weight: u32, all: u64) -> Part
 {
     let whole = fee * wide(weight);
     Part {
-        cents: whole / all,
+        cents: down(whole, all),
         rest: whole % all,
     }
 }
