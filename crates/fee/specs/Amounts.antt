@@ -1,0 +1,24 @@
+-- Amounts in whole cents, their limit and their sum: paper 02, request 2026-10. Assumes nothing.
+use Prim.Native.Nat.{ℕ, _+_}
+use mathlib.Core.Bool.{cond}
+use lib.Dec.{leb}
+
+-- 1,000,000,000.00: the most that a fee or a sum may be
+abbrev pub LIMIT : ℕ
+LIMIT = 100000000000
+
+-- the number of a refusal: a fee, a sum or a weight is too large
+abbrev pub TOO-LARGE : ℕ
+TOO-LARGE = 16
+
+-- what adding gives: a number and an amount
+pub record Added : Type 0 where
+  pub number : ℕ
+  pub sum : ℕ
+
+abbrev pub added : ℕ → ℕ → Added
+added n c = record { number = n; sum = c }
+
+-- the sum of two amounts, with number 0; past the limit it is refused, and zero
+unfoldable pub sumOf : ℕ → ℕ → Added
+sumOf a b = cond (leb (a + b) LIMIT) (added 0 (a + b)) (added TOO-LARGE 0)
