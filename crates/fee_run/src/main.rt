@@ -76,7 +76,12 @@ fn run_split(line: &[u8], at: usize)
     let mut shares = [7u64; MOST];
     let k = places_of(short_at(line, second));
     let mut number: u32 = 9;
-    split_places(number_at(line, at), &weights[..n], &mut shares[..k], &mut number);
+    split_places(
+        number_at(line, at),
+        &weights[..n],
+        &mut shares[..k],
+        &mut number,
+    );
     io::print_decimal(1, number as u64);
     print_places(&shares[..k]);
 }

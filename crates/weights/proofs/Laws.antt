@@ -2,3 +2,4 @@
 pub mod Marking
 pub mod Adding
 pub mod Weighing
+pub mod Refusing

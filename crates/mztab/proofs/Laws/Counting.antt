@@ -1,18 +1,23 @@
--- The call `rows` and the cell calls: row r is there exactly for r up to the number of rows. Assumes nothing.
+-- What is counted: row r is there exactly for r up to the number of rows, and the judging call counts all breaks. Assumes nothing.
 use mathlib.Core.Path.{_≡_, refl, sym, ap, _∙_}
 use mathlib.Core.Bool.{Bool, true, false, cond}
+use mathlib.Core.List.{List}
 use mathlib.Core.Option.{Option, none, some}
 use Prim.Native.Nat.{ℕ, _+_, _≤_, _<_}
 use native.Mathlib.Omega.{arith}
 use lib.Dec.{ltb}
 use lib.ListN.{length}
-use borrow.Author.Tests.{ltb-true, ltb-false}
+use borrow.Author.Tests.{ltb-true, ltb-false, le-ltb}
 use Rattle.text.specs.Bytes.{Bytes}
 use Rattle.text.specs.Lines.{LIMIT}
 use Rattle.text.specs.Codes.{isSection}
 use Rattle.rows.specs.Rows.{Line, rowOf, rowCount, columnOf}
 use Rattle.rows.specs.Counted.{Counted, counted, rowsIn}
 use Rattle.rows.proofs.Laws.Rowing.{row-beyond, row-within}
+use Rattle.breaks.specs.Places.{lent}
+use Rattle.breaks.specs.Rules.{breaks}
+use Rattle.breaks.proofs.Laws.Putting.{put-count}
+use Rattle.mztab.specs.Judged.{Outcome, outcome, judged}
 use Rattle.mztab.specs.Shown.{Shown, refused, startOf, soughtCell, soughtRow, sought, given, shown}
 
 -- a row that is there is refused with 4, if at all
@@ -46,3 +51,9 @@ rows-cell file section row column {k} {n} a b low =
 
         beyond : k < row → n ≡ 3
         beyond h = r ∙ ap (λ (o : Option Line). soughtRow file o column .number) (row-beyond file section row low (omega arith))
+
+-- the count of the judging call is that of all breaks, whatever the list
+pub judged-count : (file : Bytes) (ys : List ℕ) {zs : List ℕ} {n k : ℕ} → length file ≤ LIMIT → outcome n k zs ≡ judged file ys → k ≡ length (breaks file)
+unfolding judged
+judged-count file ys fits e =
+    ap (λ (o : Outcome). o .count) e ∙ rw (le-ltb LIMIT (length file) fits) (put-count (breaks file) (lent ys 0) ∙ omega arith)

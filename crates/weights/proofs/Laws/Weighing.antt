@@ -86,7 +86,7 @@ adds-one p k c (x ∷ cs) h t f = go (eqb k c) refl (λ l. adds-one p (suc k) c 
     go false e ih =
         let n = eqb-false k c e in
         let m : c - k ≡ suc (c - suc k) = omega arith in
-        rw (m, f k n) (ih (omega arith))
+        rw (m, f k n) (omega (arith, ih (omega arith)))
 
 -- THE PLACE OF A NAME among names, the first of which has the number k
 place-there : (k : ℕ) (name : Bytes) (ns : List Bytes) → (placeOf k name ns ≡ 0 → ⊥) → (k ≤ placeOf k name ns) × (placeOf k name ns < k + length ns) × (same (getD ns (placeOf k name ns - k) []) name ≡ true)
@@ -157,7 +157,8 @@ module _ {header : Bytes} (sound : Sound header) (i : ℕ) (lo : 1 ≤ i) (hi : 
       go : (t : Bool) → ltb (suc j) (length (cells header)) ≡ t → p (suc j) ≡ false
       go true h =
           let l = ltb-true (suc j) (length (cells header)) h in
-          named (suc j) ∙ ap (λ (x : Bytes). same x (abundance i)) (sym (getD-drop 1 (cells header) j [])) ∙ place-none 1 (abundance i) (drop 1 (cells header)) (omega arith) z j (omega (arith, length-drop 1 (cells header)))
+          let w : suc j - 1 ≡ j = omega arith in
+          named (suc j) ∙ ap (λ (x : Bytes). same x (abundance i)) (sym (column-is (suc j) (omega arith)) ∙ ap (λ (x : ℕ). getD (drop 1 (cells header)) x []) w) ∙ place-none 1 (abundance i) (drop 1 (cells header)) (omega arith) z j (omega (arith, length-drop 1 (cells header)))
       go false h = past-not (suc j) (ltb-false (suc j) (length (cells header)) h)
 
   -- the one column
@@ -231,9 +232,9 @@ module _ {header : Bytes} (sound : Sound header) (i : ℕ) (lo : 1 ≤ i) (hi : 
         go false u e h = omega arith
 
 -- THE WEIGHTS of an accepted file are what its lines add
-pub weighed-lines : {file : Bytes} → breaks file ≡ [] → {m : Marks} → Marked (headerOf file PROTEIN) m → (i : ℕ) → 1 ≤ i → i ≤ 64 → linesAdd (m .of) i (lines file) ≡ weightOf file i
+pub weighed-lines : (file : Bytes) → breaks file ≡ [] → {m : Marks} → Marked (headerOf file PROTEIN) m → (i : ℕ) → 1 ≤ i → i ≤ 64 → linesAdd (m .of) i (lines file) ≡ weightOf file i
 unfolding weightOf
-weighed-lines {file} kept is i lo hi = lines-count (sound-header file kept) i lo hi is (lines file)
+weighed-lines file kept is i lo hi = lines-count (sound-header file kept) i lo hi is (lines file)
 
 -- a weight is at most the number of lines
 pub weight-most : (file : Bytes) (i : ℕ) → weightOf file i ≤ length file

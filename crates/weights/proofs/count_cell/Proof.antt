@@ -1,66 +1,44 @@
+-- `weights::count_cell` meets its contract: at each `return` the tests say whether the cell counts. Assumes nothing.
+use mathlib.Core.Path.{sym, _∙_}
 use borrow.Author.Needs.{needs}
+use Rattle.text.specs.Bytes.{bytes}
+use Rattle.weights.proofs.Laws.Adding.{cell-unmarked, cell-null, cell-counts}
 use Rattle.weights.proofs.count_cell.Statement.{statement}
 use Rattle.weights.proofs.count_cell.Tie as tie
-use Rattle.weights.proofs.count_cell.Reads as reads
-use Rattle.weights.proofs.count_cell.Lts as lts
-use Rattle.text.proofs.bytes.same_bytes.Reads as same-bytes-reads
 
--- src/lib.rt:97:9
 returns : tie.Need-returns
-returns c = ?
+returns c =
+    let args = c .before .before .before .args in
+    cell-unmarked (args .mark) (args .cell .now) (args .weights .now) (c .if1 .taken)
 
--- src/lib.rt:99:25
-slice-aggregate-same-bytes : tie.Need-slice-aggregate-same-bytes
-slice-aggregate-same-bytes c = search needs
-
--- src/lib.rt:99:8
-same-bytes-requires : tie.Need-same-bytes-requires
-same-bytes-requires c κs = search needs
-
--- src/lib.rt:100:9
 returns-2 : tie.Need-returns-2
-returns-2 c = ?
+unfolding bytes
+returns-2 c =
+    let at-same = c .before in
+    let unmarked = at-same .before .before in
+    let args = unmarked .before .before .before .args in
+    cell-null (args .mark) (args .cell .now) (args .weights .now) (unmarked .if1 .left) (sym (at-same .same-bytes .ensures) ∙ c .if2 .taken)
 
--- src/lib.rt:102:13
-sub-i : tie.Need-sub-i
-sub-i c = search needs
-
--- src/lib.rt:103:5
-mul-weights : tie.Need-mul-weights
-mul-weights c = search needs
-
--- src/lib.rt:103:5
-slice-read-weights : tie.Need-slice-read-weights
-slice-read-weights c = search needs
-
--- src/lib.rt:103:5
-add-weights : tie.Need-add-weights
-add-weights c = search needs
-
--- src/lib.rt:103:5
-slice-write-weights : tie.Need-slice-write-weights
-slice-write-weights c = search needs
-
--- src/lib.rt:92:1
-same-length : tie.Need-same-length
-same-length c = search needs
-
--- src/lib.rt:92:1
 returns-3 : tie.Need-returns-3
-returns-3 c = ?
+unfolding bytes
+returns-3 c =
+    let at-same = c .before .before in
+    let unmarked = at-same .before .before in
+    let args = unmarked .before .before .before .args in
+    cell-counts (args .mark) (args .cell .now) (args .weights .now) (unmarked .if1 .left) (sym (at-same .same-bytes .ensures) ∙ c .before .if2 .left)
 
 pub count-cell-spec : {M : Type 1} → statement M
 count-cell-spec =
     tie.close
     (tie.spec
     returns
-    slice-aggregate-same-bytes
-    same-bytes-requires
+    (λ c. search needs)
+    (λ c κs. search needs)
     returns-2
-    sub-i
-    mul-weights
-    slice-read-weights
-    add-weights
-    slice-write-weights
-    same-length
+    (λ c. search needs)
+    (λ c. search needs)
+    (λ c. search needs)
+    (λ c. search needs)
+    (λ c. search needs)
+    (λ c. search needs)
     returns-3)

@@ -1,72 +1,37 @@
+-- `weights::marks_in` meets its contract. The invariant: the cells before k are marked, and the cells from `at` on are left. Assumes nothing.
+use mathlib.Core.Path.{_≡_}
+use Prim.Native.Nat.{_-_, _≤_}
+use native.Mathlib.Omega.{arith}
+use borrow.Author.Needs.{needs}
+use lib.ListN.{length}
+use Rattle.weights.proofs.Laws.Marking.{SoFar, marks-start, marks-next, marks-last, marks-full}
 use Rattle.weights.proofs.marks_in.Statement.{statement}
 use Rattle.weights.proofs.marks_in.Tie as tie
-use Rattle.weights.proofs.marks_in.Reads as reads
-use Rattle.weights.proofs.marks_in.Lts as lts
-use Rattle.text.proofs.cells.cell_end.Reads as cell-end-reads
-use Rattle.weights.proofs.variable_of.Reads as variable-of-reads
-use Rattle.weights.proofs.widened.Reads as widened-reads
 
 abbrev Inv-loop : tie.InvT-loop
-Inv-loop header of₀ width₀ at₀ k₀ of width at k = ?
+Inv-loop header of₀ width₀ at₀ k₀ of width at k = (at ≤ length header) × SoFar header at k width of
 
 abbrev μ-loop : tie.MeasureT-loop
-μ-loop header of₀ width₀ at₀ k₀ of width at k = ?
+μ-loop header of₀ width₀ at₀ k₀ of width at k = 256 - k
 
--- src/lib.rt:66:5
-loop-holds : tie.Need-loop-holds Inv-loop μ-loop
-loop-holds c = ?
-
--- src/lib.rt:67:13
-cell-end-requires : tie.Need-cell-end-requires Inv-loop μ-loop
-cell-end-requires c κs = ?
-
--- src/lib.rt:68:32
-sub-variable-of : tie.Need-sub-variable-of Inv-loop μ-loop
-sub-variable-of c = ?
-
--- src/lib.rt:68:32
-part-variable-of-start : tie.Need-part-variable-of-start Inv-loop μ-loop
-part-variable-of-start c = ?
-
--- src/lib.rt:68:32
-part-variable-of-end : tie.Need-part-variable-of-end Inv-loop μ-loop
-part-variable-of-end c = ?
-
--- src/lib.rt:68:13
-variable-of-requires : tie.Need-variable-of-requires Inv-loop μ-loop
-variable-of-requires c κs = ?
-
--- src/lib.rt:69:9
-array-write-of : tie.Need-array-write-of Inv-loop μ-loop
-array-write-of c = ?
-
--- src/lib.rt:70:9
-widened-requires : tie.Need-widened-requires Inv-loop μ-loop
-widened-requires c κs = ?
-
--- src/lib.rt:72:13
 returns : tie.Need-returns Inv-loop μ-loop
-returns c = ?
+returns c =
+    let at-wide = c .before in
+    let at-mark = at-wide .before in
+    let at-end = at-mark .before .before in
+    let in-loop = at-end .before in
+    marks-last (in-loop .before .loop .inv .1) (at-end .cell-end .ensures) (at-mark .variable-of .ensures) (in-loop .loop-test .taken) (at-wide .widened .ensures) (c .if1 .taken)
 
--- src/lib.rt:74:14
-add-at : tie.Need-add-at Inv-loop μ-loop
-add-at c = ?
-
--- src/lib.rt:75:9
-add-k : tie.Need-add-k Inv-loop μ-loop
-add-k c = ?
-
--- src/lib.rt:66:5
-loop-less : tie.Need-loop-less Inv-loop μ-loop
-loop-less c = ?
-
--- src/lib.rt:66:5
 loop-again : tie.Need-loop-again Inv-loop μ-loop
-loop-again c = ?
+loop-again c =
+    let at-wide = c .before in
+    let at-mark = at-wide .before in
+    let at-end = at-mark .before .before in
+    let in-loop = at-end .before in
+    (omega arith, marks-next (in-loop .before .loop .inv .1) (at-end .cell-end .ensures) (at-mark .variable-of .ensures) (in-loop .loop-test .taken) (at-wide .widened .ensures) (omega arith))
 
--- src/lib.rt:59:1
 returns-2 : tie.Need-returns-2 Inv-loop μ-loop
-returns-2 c = ?
+returns-2 c = marks-full (c .before .loop .inv .1) (c .loop-test .left)
 
 pub marks-in-spec : {M : Type 1} → statement M
 marks-in-spec =
@@ -74,17 +39,17 @@ marks-in-spec =
     (tie.spec
     Inv-loop
     μ-loop
-    loop-holds
-    cell-end-requires
-    sub-variable-of
-    part-variable-of-start
-    part-variable-of-end
-    variable-of-requires
-    array-write-of
-    widened-requires
+    (λ c. (search needs, marks-start _))
+    (λ c κs. search needs)
+    (λ c. search needs)
+    (λ c. search needs)
+    (λ c. search needs)
+    (λ c κs. search needs)
+    (λ c. omega (arith, c .before .before .before .before .loop .inv .1 .long))
+    (λ c κs. search needs)
     returns
-    add-at
-    add-k
-    loop-less
+    (λ c. search needs)
+    (λ c. search needs)
+    (λ c. search needs)
     loop-again
     returns-2)

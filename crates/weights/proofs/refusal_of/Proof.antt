@@ -1,41 +1,34 @@
+-- `weights::refusal_of` meets its contract: a law for each return. Assumes nothing.
 use borrow.Author.Needs.{needs}
+use Rattle.weights.proofs.Laws.Refusing.{refuse-long, refuse-broken, refuse-places, refuse-none}
 use Rattle.weights.proofs.refusal_of.Statement.{statement}
 use Rattle.weights.proofs.refusal_of.Tie as tie
-use Rattle.weights.proofs.refusal_of.Reads as reads
-use Rattle.weights.proofs.refusal_of.Lts as lts
-use Rattle.mztab.proofs.judged.judge_places.Reads as judge-places-reads
 
--- src/lib.rt:168:9
 returns : tie.Need-returns
-returns c = ?
+returns c =
+    let args = c .before .before .args in
+    refuse-long (args .file .now) (args .places) (c .if1 .taken)
 
--- src/lib.rt:172:37
-slice-aggregate-judge-places : tie.Need-slice-aggregate-judge-places
-slice-aggregate-judge-places c = search needs
-
--- src/lib.rt:172:9
-judge-places-requires : tie.Need-judge-places-requires
-judge-places-requires c κs = search needs
-
--- src/lib.rt:174:9
 returns-2 : tie.Need-returns-2
-returns-2 c = ?
+returns-2 c =
+    let at-judge = c .before .before in
+    let short = at-judge .before .before .before in
+    let args = short .before .before .args in
+    refuse-broken (args .file .now) (args .places) (short .if1 .left) _ (at-judge .judge-places .ensures) (c .if2 .taken)
 
--- src/lib.rt:177:9
 returns-3 : tie.Need-returns-3
-returns-3 c = ?
+returns-3 c =
+    let at-judge = c .before .before .before in
+    let short = at-judge .before .before .before in
+    let args = short .before .before .args in
+    refuse-places (args .file .now) (args .places) (short .if1 .left) _ (at-judge .judge-places .ensures) (c .before .if2 .left) (c .if3 .taken)
 
--- src/lib.rt:164:1
 returns-4 : tie.Need-returns-4
-returns-4 c = ?
+returns-4 c =
+    let at-judge = c .before .before .before in
+    let short = at-judge .before .before .before in
+    let args = short .before .before .args in
+    refuse-none (args .file .now) (args .places) (short .if1 .left) _ (at-judge .judge-places .ensures) (c .before .if2 .left) (c .if3 .left)
 
 pub refusal-of-spec : {M : Type 1} → statement M
-refusal-of-spec =
-    tie.close
-    (tie.spec
-    returns
-    slice-aggregate-judge-places
-    judge-places-requires
-    returns-2
-    returns-3
-    returns-4)
+refusal-of-spec = tie.close (tie.spec returns (λ c. search needs) (λ c κs. search needs) returns-2 returns-3 returns-4)

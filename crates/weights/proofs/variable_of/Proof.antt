@@ -1,26 +1,20 @@
+-- `weights::variable_of` meets its contract: a column's name is the word and an index, as a reference is. Assumes nothing.
+use native.Mathlib.Omega.{arith}
 use borrow.Author.Needs.{needs}
+use Rattle.text.specs.Bytes.{bytes}
+use Rattle.references.proofs.Laws.Names.{ref-le}
+use Rattle.weights.specs.Weights.{WORD}
+use Rattle.weights.specs.Marks.{variableOf}
 use Rattle.weights.proofs.variable_of.Statement.{statement}
 use Rattle.weights.proofs.variable_of.Tie as tie
-use Rattle.weights.proofs.variable_of.Reads as reads
-use Rattle.weights.proofs.variable_of.Lts as lts
-use Rattle.references.proofs.reference.Reads as reference-reads
 
--- src/lib.rt:46:23
-slice-aggregate-reference : tie.Need-slice-aggregate-reference
-slice-aggregate-reference c = search needs
-
--- src/lib.rt:46:9
-reference-requires : tie.Need-reference-requires
-reference-requires c κs = search needs
-
--- src/lib.rt:47:5
 cast-result : tie.Need-cast-result
-cast-result c = ?
+unfolding bytes
+cast-result c = omega (arith, c .reference .ensures, ref-le WORD (c .before .before .before .args .name .now))
 
--- src/lib.rt:43:1
 returns : tie.Need-returns
-returns c = ?
+unfolding variableOf bytes
+returns c = c .reference .ensures
 
 pub variable-of-spec : {M : Type 1} → statement M
-variable-of-spec =
-    tie.close (tie.spec slice-aggregate-reference reference-requires cast-result returns)
+variable-of-spec = tie.close (tie.spec (λ c. search needs) (λ c κs. search needs) cast-result returns)

@@ -1,20 +1,14 @@
+-- `weights::widened` meets its contract: a cell without a mark needs nothing. Assumes nothing.
 use borrow.Author.Needs.{needs}
+use borrow.Author.Tests.{eq-eqb, ne-eqb}
 use Rattle.weights.proofs.widened.Statement.{statement}
 use Rattle.weights.proofs.widened.Tie as tie
-use Rattle.weights.proofs.widened.Reads as reads
-use Rattle.weights.proofs.widened.Lts as lts
 
--- src/lib.rt:55:35
-add-result : tie.Need-add-result
-add-result c = search needs
-
--- src/lib.rt:51:1
 returns : tie.Need-returns
-returns c = ?
+returns c = rw (eq-eqb (c .before .args .mark) 0 (c .if1 .taken))
 
--- src/lib.rt:51:1
 returns-2 : tie.Need-returns-2
-returns-2 c = ?
+returns-2 c = rw (ne-eqb (c .before .args .mark) 0 (c .if1 .left))
 
 pub widened-spec : {M : Type 1} → statement M
-widened-spec = tie.close (tie.spec add-result returns returns-2)
+widened-spec = tie.close (tie.spec (λ c. search needs) returns returns-2)
