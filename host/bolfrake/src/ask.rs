@@ -136,6 +136,7 @@ impl Question {
             ),
             Refusal::NoRow => self.no_row(),
             Refusal::NoCell => self.no_cell(),
+            other => format!("{} cannot be asked: {other}", self.name),
         };
         Failure::Refused(words)
     }
