@@ -462,6 +462,26 @@ r.mztab  small-molecule        2     3         1        2
 }
 
 #[test]
+fn rows_of_a_file_with_breaks_everywhere() {
+    let folder = Folder::new("rows broken");
+    // A row before its header and one under another's, a second header, a row without cells, codes that are none, several breaks on a line.
+    let file = "PRT\tx\nPRH\taccession\tdescription\tdatabase\tsearch_engine\r\nPRT\tP1\tnull\tdb\tnull\r\n\
+        PRT\tP2\t\t\t\nSMH\tidentifier\tcharge\nSML\tC1\t1\nPRT\tP3\tnull\tdb\tnull\nPRH\ta\nPRTx\nprt\n\nCOM\tPRT\nSML\nPRT";
+    let run = folder
+        .write("r.mztab", headed(file))
+        .run(&["rows", "r.mztab"]);
+    let expected = "\
+file     section         columns  rows  breaking  keeping
+r.mztab  protein               4     5         4        1
+r.mztab  peptide               -     0         0        0
+r.mztab  psm                   -     0         0        0
+r.mztab  small-molecule        2     2         1        1
+1 file   all                   -     7         5        2
+";
+    assert_eq!((run.status, run.out.as_str()), (0, expected));
+}
+
+#[test]
 fn cells_as_they_stand() {
     let folder = Folder::new("cell");
     folder.write(
