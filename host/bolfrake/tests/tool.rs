@@ -639,6 +639,11 @@ study variable  description             weight     share
         (run.status, run.out.as_str(), run.error.as_str()),
         (0, expected, "")
     );
+    let in_readme: String = expected
+        .lines()
+        .map(|line| format!("    {line}\n"))
+        .collect();
+    assert!(include_str!("../../../README.md").contains(&in_readme));
     for amount in ["1000.00", "1000.0", "01000"] {
         assert_eq!(folder.run(&["fee", "fee.mztab", amount]).out, expected);
     }
