@@ -5,9 +5,20 @@
  *
  * A `file` is a pointer to bytes and their count. The pointer is not null, also where the count is 0, and the bytes do not change during
  * the call. Each pointer that is written to (`number`, `length`, ..) is not null and aligned, and none points into the file or at another.
+ * A list of numbers is a pointer, not null and aligned, also where the list has no place, and the count of its places; one that is written
+ * to overlaps nothing else that is lent.
  *
- * The number that every call writes: 0 the answer was given; 1 the file is longer than 16,777,216 bytes; 2 the section is not 1 to 4;
- * 3 no such row; 4 no such cell. They are tried in this order.
+ * The number that every call writes says whether there is an answer, and else why not. Each call says which of them it gives.
+ *    0  the answer was given
+ *    1  the file is longer than 16,777,216 bytes
+ *    2  the section is not 1 to 4
+ *    3  no such row
+ *    4  no such cell
+ *    7  the file is not accepted: it breaks a rule
+ *   15  the number of weights, or of shares, is not what it should be
+ *   16  an amount or a weight is too large
+ *   17  all weights are zero
+ * They are tried in this order.
  */
 #ifndef MZTAB_H
 #define MZTAB_H
@@ -22,7 +33,7 @@ extern "C" {
 /* Shows a cell as a part of the file. Sections: 1 protein, 2 peptide, 3 PSM, 4 small molecule. Row 0 is the section's first header, row r
  * its r-th line with the row code, whatever breaks the file has. Column c is cell c + 1 of that line (cell 1 is the line code); column 0 is
  * refused with 4. The answer is where the view starts in the file; *length is how many bytes it has: file[answer .. answer + *length].
- * In a refusal both are 0. */
+ * Refused with 1 to 4, and both are then 0. */
 size_t mztab_cell(const uint8_t *file, size_t file_length, uint32_t section, uint32_t row, uint32_t column, uint32_t *number, size_t *length);
 
 /* Reads a cell, found as by mztab_cell. The answer is the case: 0 missing (`null`), 1 whole, 2 decimal, 3 infinite (`INF`), 4 not a number (`NaN`),
@@ -46,6 +57,25 @@ struct mztab_fault {
 /* The same as mztab_judge over a list of records: the first of all breaks that fit are written to faults, a record each. A record that no break fills is
  * left as it was. faults is a pointer to faults_length records, not null also where that is 0. The call needs some 500 KB of stack. */
 uint32_t mztab_faults(const uint8_t *file, size_t file_length, struct mztab_fault *faults, size_t faults_length, uint32_t *number);
+
+/* Counts the rows of a section: the lines with its row code, whatever breaks the file has. Row r of mztab_cell is there exactly for r from 1 to the
+ * answer. Refused with 1 and 2, and the answer is then 0. */
+uint32_t mztab_rows(const uint8_t *file, size_t file_length, uint32_t section, uint32_t *number);
+
+/* The weights of the study variables of an accepted file. weights is a list of exactly 64 places: place i - 1 gets the number of protein rows whose cell
+ * under `protein_abundance_study_variable[i]` is not `null`, 0 where the header has no such column. Refused with 1, 7, and 15 where the list has not 64
+ * places; no place is then written. The call judges the file: it needs as much stack as mztab_judge, some 400 KB. */
+void mztab_weights(const uint8_t *file, size_t file_length, uint32_t *weights, size_t weights_length, uint32_t *number);
+
+/* Adds two amounts in cents. The answer is their sum. Where that is over 100,000,000,000, of any two 64-bit numbers, it is refused with 16, and the
+ * answer is 0. */
+uint64_t mztab_add_cents(uint64_t a, uint64_t b, uint32_t *number);
+
+/* Splits a fee, in cents and at most 100,000,000,000, over 1 to 64 weights, each below 16,777,216, and writes as many shares. A share is the proportion
+ * rounded down; the cents left over go one each to the largest remainders, the lower number first among equals. So the shares add up to the fee, and
+ * each lies less than one cent from the exact proportion. Refused with 15 where the weights are not 1 to 64 or the shares not as many, 16 where the fee
+ * or a weight is too large, 17 where all weights are zero; no share is then written. */
+void mztab_split_fee(uint64_t fee, const uint32_t *weights, size_t weights_length, uint64_t *shares, size_t shares_length, uint32_t *number);
 
 #ifdef __cplusplus
 }

@@ -6,26 +6,38 @@
         print(fault.line, fault.cell, fault.rule)
     print(mztab.cell(data, mztab.PROTEIN, 1, 2, stand_in=b"-"))
     print(mztab.reading(data, mztab.PROTEIN, 2, 5).value)
+    print(mztab.rows(data, mztab.PROTEIN))
+
+and of an accepted file, with study variables, a fee in cents over them
+
+    data = open("fee.mztab", "rb").read()
+    print(mztab.split_fee(100_000, mztab.weights(data)))
 
 It needs the standard library alone, and target/libmztab.so, which ./build makes; MZTAB_LIBRARY names it where it stands elsewhere. Files are bytes of
 at most 16,777,216. Calls may run at the same time: no call keeps what it is lent, and the interpreter's lock is free while one runs.
 """
 
 import ctypes
+import operator
 import os
 import pathlib
-from typing import List, NamedTuple, Optional, Union
+from typing import List, NamedTuple, Optional, Sequence, Union
 
 LIMIT = 16_777_216
 PROTEIN, PEPTIDE, PSM, SMALL_MOLECULE = 1, 2, 3, 4
+# The largest fee and the largest sum, in cents; a weight is below WEIGHT_LIMIT; there are study variables 1 to 64.
+FEE_LIMIT = 100_000_000_000
+WEIGHT_LIMIT = 16_777_216
+STUDY_VARIABLES = 64
 
 _U32_MAX = 0xFFFFFFFF
+_U64_MAX = 0xFFFFFFFFFFFFFFFF
 # The first list has room for so many breaks; only a file with more is judged twice.
 _FIRST_LIST = 4096
 
 
 class Refusal(Exception):
-    """There is no answer; `number` is 1 to 4 and says why."""
+    """There is no answer; `number` is that of the kind of refusal, and says why."""
 
     number = 0
 
@@ -54,6 +66,30 @@ class NoCell(Refusal):
     number = 4
 
 
+class NotAccepted(Refusal):
+    """The file breaks a rule: `judge` says which, and where."""
+
+    number = 7
+
+
+class NotAsMany(Refusal):
+    """The weights are not 1 to 64."""
+
+    number = 15
+
+
+class TooLarge(Refusal):
+    """The fee or the sum is over 100,000,000,000 cents, or a weight is not below 16,777,216."""
+
+    number = 16
+
+
+class AllZero(Refusal):
+    """Every weight is zero: there is nothing to split by."""
+
+    number = 17
+
+
 class Break(NamedTuple):
     """A place where a file breaks a rule. Lines and cells count from 1; cell 1 is the line code."""
 
@@ -78,7 +114,7 @@ class Reading(NamedTuple):
 
 
 _CASES = ("missing", "whole", "decimal", "infinite", "not a number", "long decimal", "text")
-_REFUSALS = {kind.number: kind for kind in (TooLong, NoSection, NoRow, NoCell)}
+_REFUSALS = {kind.number: kind for kind in (TooLong, NoSection, NoRow, NoCell, NotAccepted, NotAsMany, TooLarge, AllZero)}
 
 
 def _load():
@@ -89,7 +125,15 @@ def _load():
         library = ctypes.CDLL(path)
     except OSError as error:
         raise ImportError(f"{path} cannot be loaded ({error}): run ./build, or name the library in MZTAB_LIBRARY") from error
-    size, u32 = ctypes.c_size_t, ctypes.c_uint32
+    try:
+        return _typed(library)
+    except AttributeError as error:
+        raise ImportError(f"{path} is of an earlier version ({error}): run ./build") from error
+
+
+def _typed(library):
+    """The library with the types of its calls."""
+    size, u32, u64 = ctypes.c_size_t, ctypes.c_uint32, ctypes.c_uint64
     u32_place = ctypes.POINTER(u32)
     file, asked = [ctypes.c_char_p, size], [u32, u32, u32]
     library.mztab_cell.argtypes = file + asked + [u32_place, ctypes.POINTER(size)]
@@ -100,6 +144,14 @@ def _load():
     library.mztab_reading.restype = u32
     library.mztab_judge.argtypes = file + [u32_place, size, u32_place]
     library.mztab_judge.restype = u32
+    library.mztab_rows.argtypes = file + [u32, u32_place]
+    library.mztab_rows.restype = u32
+    library.mztab_weights.argtypes = file + [u32_place, size, u32_place]
+    library.mztab_weights.restype = None
+    library.mztab_add_cents.argtypes = [u64, u64, u32_place]
+    library.mztab_add_cents.restype = u64
+    library.mztab_split_fee.argtypes = [u64, u32_place, size, ctypes.POINTER(u64), size, u32_place]
+    library.mztab_split_fee.restype = None
     return library
 
 
@@ -115,10 +167,15 @@ def _bytes(data) -> bytes:
 
 def _asked(*numbers: int):
     """Section, row and column as the library takes them. A larger number than it takes names nothing, and so does its largest."""
-    for number in numbers:
-        if number < 0:
-            raise ValueError("sections, rows and columns are not negative")
-    return [min(number, _U32_MAX) for number in numbers]
+    return [_whole("sections, rows and columns", number, _U32_MAX) for number in numbers]
+
+
+def _whole(what: str, number: int, most: int) -> int:
+    """A number as the library takes it. One that is larger than it takes is refused as its largest is."""
+    number = operator.index(number)
+    if number < 0:
+        raise ValueError(f"{what} are not negative")
+    return min(number, most)
 
 
 def _refuse(number: int) -> None:
@@ -181,3 +238,50 @@ def reading(data: bytes, section: int, row: int, column: int) -> Reading:
         return Reading(line.value, at.value, word, decimal.value, whole.value, places.value)
     value = {"infinite": float("inf"), "not a number": float("nan")}.get(word)
     return Reading(line.value, at.value, word, value)
+
+
+def rows(data: bytes, section: int) -> int:
+    """How many rows a section has, whatever breaks the file has: `cell` knows row r exactly for r up to it. Raises TooLong, NoSection."""
+    data = _bytes(data)
+    number = ctypes.c_uint32()
+    found = _library.mztab_rows(data, len(data), *_asked(section), number)
+    _refuse(number.value)
+    return found
+
+
+def weights(data: bytes) -> List[int]:
+    """The weights of the 64 study variables of an accepted file.
+
+    Place i - 1 has the number of protein rows whose cell under `protein_abundance_study_variable[i]` is not `null`, 0 where the header has no such
+    column. Raises TooLong, NotAccepted.
+    """
+    data = _bytes(data)
+    places, number = (ctypes.c_uint32 * STUDY_VARIABLES)(), ctypes.c_uint32()
+    _library.mztab_weights(data, len(data), places, STUDY_VARIABLES, number)
+    _refuse(number.value)
+    return list(places)
+
+
+def split_fee(fee: int, weights: Sequence[int]) -> List[int]:
+    """The shares of a fee in cents, one for each weight; they add up to the fee.
+
+    A share is the proportion rounded down; the cents left over go one each to the largest remainders, the lower number first among equals. Raises
+    NotAsMany, TooLarge, AllZero, in this order.
+    """
+    fee = _whole("amounts", fee, _U64_MAX)
+    lent = [_whole("weights", weight, _U32_MAX) for weight in weights]
+    # One place more is made than is lent, as for a list of breaks.
+    length = len(lent)
+    places, shares = (ctypes.c_uint32 * (length + 1))(*lent), (ctypes.c_uint64 * (length + 1))()
+    number = ctypes.c_uint32()
+    _library.mztab_split_fee(fee, places, length, shares, length, number)
+    _refuse(number.value)
+    return shares[:length]
+
+
+def add_cents(a: int, b: int) -> int:
+    """The sum of two amounts in cents. Raises TooLarge where it is over 100,000,000,000."""
+    number = ctypes.c_uint32()
+    found = _library.mztab_add_cents(_whole("amounts", a, _U64_MAX), _whole("amounts", b, _U64_MAX), number)
+    _refuse(number.value)
+    return found

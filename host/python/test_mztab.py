@@ -1,8 +1,10 @@
 """Tests of the module: python3 -m unittest, in this folder. Answers are those of the paper and of examples/."""
 
 import concurrent.futures
+import fractions
 import math
 import pathlib
+import random
 import struct
 import unittest
 
@@ -11,6 +13,8 @@ import mztab
 EXAMPLES = pathlib.Path(__file__).resolve().parents[2] / "examples"
 YEAST = (EXAMPLES / "yeast.mztab").read_bytes()
 ACCEPTED = (EXAMPLES / "accepted.mztab").read_bytes()
+FEE = (EXAMPLES / "fee.mztab").read_bytes()
+LONG = b"\n" * (mztab.LIMIT + 1)
 
 
 def read(text):
@@ -104,6 +108,169 @@ class Readings(unittest.TestCase):
     def test_doubles_bit_for_bit(self):
         for text in ["0.1", "-0.0", "1234567890", "999999999999999", "0.00000000000001", "12345678901234.5", "99999.9999999999"]:
             self.assertEqual(struct.pack("d", read(text.encode()).value), struct.pack("d", float(text)), text)
+
+
+class Rows(unittest.TestCase):
+    def test_each_section(self):
+        self.assertEqual([mztab.rows(YEAST, section) for section in (1, 2, 3, 4)], [2, 0, 0, 0])
+        self.assertEqual(mztab.rows(b"", mztab.PSM), 0)
+
+    def test_whatever_breaks_the_file_has(self):
+        file = b"PRT\nPRH\nPSM\tx\r\nPRT\ta\tb\nPRTx\nprt\n\nCOM\tPRT\nPRT"
+        self.assertEqual([mztab.rows(file, section) for section in (1, 2, 3, 4)], [3, 0, 1, 0])
+        # The cell call knows these rows, and none after them.
+        for row, kind in [(1, mztab.NoCell), (3, mztab.NoCell), (4, mztab.NoRow)]:
+            with self.assertRaises(kind):
+                mztab.cell(file, mztab.PROTEIN, row, 0)
+
+    def test_refusals_in_their_order(self):
+        with self.assertRaises(mztab.TooLong):
+            mztab.rows(LONG, 9)
+        for section in (0, 5, 2**32, 2**40):
+            with self.assertRaises(mztab.NoSection):
+                mztab.rows(YEAST, section)
+        with self.assertRaises(ValueError):
+            mztab.rows(YEAST, -1)
+
+
+class Weights(unittest.TestCase):
+    def test_the_example(self):
+        self.assertEqual(mztab.weights(FEE), [3, 2, 2] + [0] * 61)
+        self.assertEqual(mztab.split_fee(100_000, mztab.weights(FEE)), [42_857, 28_572, 28_571] + [0] * 61)
+
+    def test_a_file_without_such_columns(self):
+        self.assertEqual(mztab.weights(ACCEPTED), [0] * 64)
+
+    def test_null_alone_is_missing(self):
+        for cell, weight in [(b"0", 3), (b"-0.0", 3), (b"INF", 3), (b"NaN", 3), (b"null", 2)]:
+            self.assertEqual(mztab.weights(FEE.replace(b"\t12.5\t", b"\t" + cell + b"\t"))[0], weight, cell)
+
+    def test_the_last_study_variable(self):
+        self.assertEqual(mztab.weights(FEE.replace(b"variable[2]", b"variable[64]")), [3, 0, 2] + [0] * 60 + [2])
+
+    def test_other_columns_are_not_counted(self):
+        for name in (b"protein_abundance_stdev_study_variable[2]", b"protein_abundance_assay[2]"):
+            self.assertEqual(mztab.weights(FEE.replace(b"protein_abundance_study_variable[2]", name))[:3], [3, 0, 2])
+
+    def test_refusals(self):
+        with self.assertRaises(mztab.TooLong):
+            mztab.weights(LONG)
+        for file in (YEAST, b"", FEE + b"x", FEE.replace(b"12.5", b"")):
+            with self.assertRaises(mztab.NotAccepted) as caught:
+                mztab.weights(file)
+            self.assertEqual(caught.exception.number, 7)
+        with self.assertRaises(TypeError):
+            mztab.weights("text")
+
+
+class Amounts(unittest.TestCase):
+    def test_sums(self):
+        self.assertEqual(mztab.add_cents(0, 0), 0)
+        self.assertEqual(mztab.add_cents(1_250, 50), 1_300)
+        self.assertEqual(mztab.add_cents(mztab.FEE_LIMIT - 1, 1), mztab.FEE_LIMIT)
+
+    def test_past_the_limit(self):
+        for a, b in [(mztab.FEE_LIMIT, 1), (mztab.FEE_LIMIT + 1, 0), (2**64 - 1, 1), (2**63, 2**63), (2**64, 0), (1, 2**100)]:
+            for pair in ((a, b), (b, a)):
+                with self.assertRaises(mztab.TooLarge) as caught:
+                    mztab.add_cents(*pair)
+                self.assertEqual(caught.exception.number, 16)
+
+    def test_what_is_no_amount(self):
+        with self.assertRaises(ValueError):
+            mztab.add_cents(5, -1)
+        with self.assertRaises(TypeError):
+            mztab.add_cents(1.5, 1)
+
+
+def split_by_fractions(fee, weights):
+    """The split as the request says it, over exact fractions."""
+    parts = [fractions.Fraction(fee * weight, sum(weights)) for weight in weights]
+    shares = [math.floor(part) for part in parts]
+    # The sort keeps the order of equals, so the lower number comes first.
+    by_remainder = sorted(range(len(parts)), key=lambda k: shares[k] - parts[k])
+    for k in by_remainder[: fee - sum(shares)]:
+        shares[k] += 1
+    return shares
+
+
+class Splits(unittest.TestCase):
+    def test_one_weight(self):
+        for weight in (1, 2, 3, mztab.WEIGHT_LIMIT - 1):
+            for fee in (0, 1, 99_999, mztab.FEE_LIMIT):
+                self.assertEqual(mztab.split_fee(fee, [weight]), [fee])
+
+    def test_64_equal_weights(self):
+        self.assertEqual(mztab.split_fee(6_400, [7] * 64), [100] * 64)
+        self.assertEqual(mztab.split_fee(6_463, [7] * 64), [101] * 63 + [100])
+
+    def test_one_cent_over_64(self):
+        self.assertEqual(mztab.split_fee(1, [7] * 64), [1] + [0] * 63)
+        self.assertEqual(mztab.split_fee(1, [7] * 63 + [8]), [0] * 63 + [1])
+        self.assertEqual(mztab.split_fee(0, [7] * 64), [0] * 64)
+
+    def test_ties_go_to_the_lower_number(self):
+        # 100,000 by 3 of 7 is 42,857 and 1 over, by 2 of 7 it is 28,571 and 3 over, twice: one cent is left.
+        self.assertEqual(mztab.split_fee(100_000, [3, 2, 2]), [42_857, 28_572, 28_571])
+        self.assertEqual(mztab.split_fee(100_000, [2, 3, 2]), [28_572, 42_857, 28_571])
+        self.assertEqual(mztab.split_fee(100, [1, 1, 1]), [34, 33, 33])
+        self.assertEqual(mztab.split_fee(101, [1, 1, 1]), [34, 34, 33])
+
+    def test_the_largest_remainder_first(self):
+        # 10 by 6, 3 and 2 of 11 is 5 and 5 over, 2 and 8 over, 1 and 9 over: two cents are left.
+        self.assertEqual(mztab.split_fee(10, [6, 3, 2]), [5, 3, 2])
+        self.assertEqual(mztab.split_fee(100, [3, 3, 1]), [43, 43, 14])
+
+    def test_weights_of_zero_between_others(self):
+        self.assertEqual(mztab.split_fee(100, [0, 1, 0, 1, 1, 0]), [0, 34, 0, 33, 33, 0])
+        self.assertEqual(mztab.split_fee(5, [0] * 63 + [1]), [0] * 63 + [5])
+
+    def test_the_largest_fee_and_weights(self):
+        fee, heavy = mztab.FEE_LIMIT, mztab.WEIGHT_LIMIT - 1
+        self.assertEqual(mztab.split_fee(fee, [heavy] * 64), [1_562_500_000] * 64)
+        self.assertEqual(mztab.split_fee(fee, [heavy, 1]), [99_999_994_040, 5_960])
+        self.assertEqual(mztab.split_fee(fee, [heavy] * 3), [33_333_333_334, 33_333_333_333, 33_333_333_333])
+
+    def test_drawn_splits_against_exact_fractions(self):
+        draw = random.Random(2026_10)
+        limits = (2, 10, 1_000, mztab.WEIGHT_LIMIT)
+        for _ in range(2_000):
+            limit = draw.choice(limits)
+            weights = [draw.choice((0, draw.randrange(limit), limit - 1)) for _ in range(draw.randint(1, 64))]
+            weights[draw.randrange(len(weights))] = limit - 1
+            fee = draw.choice((draw.randint(0, 100), draw.randint(0, mztab.FEE_LIMIT), mztab.FEE_LIMIT - draw.randint(0, 100)))
+            shares = mztab.split_fee(fee, weights)
+            self.assertEqual(shares, split_by_fractions(fee, weights), (fee, weights))
+            self.assertEqual(sum(shares), fee)
+            for share, weight in zip(shares, weights):
+                self.assertLess(abs(share - fractions.Fraction(fee * weight, sum(weights))), 1)
+
+    def test_any_sort_of_whole_numbers(self):
+        self.assertEqual(mztab.split_fee(10, (2, 3)), [4, 6])
+        self.assertEqual(mztab.split_fee(10, (weight for weight in range(3))), [0, 3, 7])
+        for fee, weights in [(1.0, [1]), (1, [1.5]), ("1", [1]), (1, ["1"])]:
+            with self.assertRaises(TypeError):
+                mztab.split_fee(fee, weights)
+        for fee, weights in [(-1, [1]), (1, [2, -1])]:
+            with self.assertRaises(ValueError):
+                mztab.split_fee(fee, weights)
+
+    def test_refusals_in_their_order(self):
+        over = mztab.FEE_LIMIT + 1
+        for fee, weights, kind, number in [
+            (over, [], mztab.NotAsMany, 15),
+            (over, [mztab.WEIGHT_LIMIT] * 65, mztab.NotAsMany, 15),
+            (1, [0] * 65, mztab.NotAsMany, 15),
+            (over, [0], mztab.TooLarge, 16),
+            (2**64, [1], mztab.TooLarge, 16),
+            (0, [0, mztab.WEIGHT_LIMIT], mztab.TooLarge, 16),
+            (1, [2**32], mztab.TooLarge, 16),
+            (0, [0], mztab.AllZero, 17),
+            (mztab.FEE_LIMIT, [0] * 64, mztab.AllZero, 17),
+        ]:
+            with self.assertRaises(kind) as caught:
+                mztab.split_fee(fee, weights)
+            self.assertEqual(caught.exception.number, number)
 
 
 if __name__ == "__main__":

@@ -6,8 +6,8 @@ use std::os::unix::ffi::OsStringExt;
 
 use mztab::{Refusal, Value};
 
+use crate::files;
 use crate::files::tables::{self, SECTIONS};
-use crate::files::{self, Source};
 use crate::output::show;
 use crate::words::failure::Failure;
 use crate::words::{misused, number, Words};
@@ -96,9 +96,7 @@ fn question(command: &str, words: Vec<OsString>) -> Result<Question, Failure> {
     })?;
     let row = number(command, "ROW", &row)?;
     let column = number(command, "COLUMN", &column)?;
-    let source = files::one(file);
-    let name = source.name();
-    let file = read_source(&source, &name)?;
+    let (name, file) = files::one(file)?;
     Ok(Question {
         name,
         file,
@@ -106,12 +104,6 @@ fn question(command: &str, words: Vec<OsString>) -> Result<Question, Failure> {
         row,
         column,
     })
-}
-
-fn read_source(source: &Source, name: &str) -> Result<Vec<u8>, Failure> {
-    source
-        .read()
-        .map_err(|words| Failure::Stopped(format!("{name} {words}")))
 }
 
 fn every_section() -> String {
@@ -136,16 +128,14 @@ impl Question {
             ),
             Refusal::NoRow => self.no_row(),
             Refusal::NoCell => self.no_cell(),
+            other => format!("{} cannot be asked: {other}", self.name),
         };
         Failure::Refused(words)
     }
 
     fn no_row(&self) -> String {
         let section = tables::name(self.section);
-        let tables = tables::tables(&self.file, std::iter::empty());
-        let rows = tables
-            .get(self.section as usize - 1)
-            .map_or(0, |table| table.rows);
+        let rows = mztab::rows(&self.file, self.section).unwrap_or(0);
         let has = show::counted(u64::from(rows), "row");
         let there_is = match rows {
             0 => format!(

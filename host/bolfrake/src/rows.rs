@@ -4,7 +4,8 @@ use std::io::{self, Write};
 
 use crate::files::judged::judged;
 use crate::files::tables::{self, Table, SECTIONS};
-use crate::files::{self, Source};
+use crate::files::{self, Source, TOO_LONG};
+use crate::output::columns::table;
 use crate::output::in_order::{in_order, Out};
 use crate::output::show;
 use crate::output::terminal;
@@ -51,19 +52,11 @@ pub fn run(words: Words) -> Result<u8, Failure> {
     Ok(status)
 }
 
-/// The tables of a file, each held to what the library finds.
+/// The tables of a file.
 fn count(source: &Source, out: &Out) -> Result<[Table; 4], String> {
     let (file, judged) = judged(source, usize::MAX, out)?;
-    let found = tables::tables(&file, judged.breaks().map(|at| at.line));
-    for (table, (section, ..)) in found.iter().zip(SECTIONS) {
-        if !tables::confirmed(&file, section, table) {
-            return Err(format!(
-                "was counted in two ways that differ in section {}: please report this, with the file",
-                tables::name(section)
-            ));
-        }
-    }
-    Ok(found)
+    let broken = judged.breaks().map(|at| at.line);
+    tables::tables(&file, broken).map_err(|_| TOO_LONG.to_string())
 }
 
 fn line(name: &str, section: &str, table: &Table, number: fn(u64) -> String, none: &str) -> Line {
@@ -110,8 +103,7 @@ fn as_table(files: &[(String, [Table; 4])]) -> String {
     let mut all = vec![HEADS.map(str::to_string)];
     all.extend(lines(files, show::count, "-"));
     all.push(sum(files));
-    let widths: Vec<usize> = (0..HEADS.len()).map(|k| width(&all, k)).collect();
-    all.iter().map(|line| laid_out(line, &widths)).collect()
+    table(&all, &[0, 1])
 }
 
 /// The rows of all sections of all files. Columns do not add up.
@@ -130,28 +122,6 @@ fn sum(files: &[(String, [Table; 4])]) -> Line {
         breaking,
         keeping,
     ]
-}
-
-fn width(lines: &[Line], k: usize) -> usize {
-    lines
-        .iter()
-        .map(|line| line[k].chars().count())
-        .max()
-        .unwrap_or(0)
-}
-
-/// Names to the left, numbers to the right.
-fn laid_out(line: &Line, widths: &[usize]) -> String {
-    let mut out = String::new();
-    for (k, (field, width)) in line.iter().zip(widths).enumerate() {
-        let space = " ".repeat(width - field.chars().count());
-        match k {
-            0 => out += &format!("{field}{space}"),
-            1 => out += &format!("  {field}{space}"),
-            _ => out += &format!("  {space}{field}"),
-        }
-    }
-    out + "\n"
 }
 
 #[cfg(test)]

@@ -462,6 +462,26 @@ r.mztab  small-molecule        2     3         1        2
 }
 
 #[test]
+fn rows_of_a_file_with_breaks_everywhere() {
+    let folder = Folder::new("rows broken");
+    // A row before its header and one under another's, a second header, a row without cells, codes that are none, several breaks on a line.
+    let file = "PRT\tx\nPRH\taccession\tdescription\tdatabase\tsearch_engine\r\nPRT\tP1\tnull\tdb\tnull\r\n\
+        PRT\tP2\t\t\t\nSMH\tidentifier\tcharge\nSML\tC1\t1\nPRT\tP3\tnull\tdb\tnull\nPRH\ta\nPRTx\nprt\n\nCOM\tPRT\nSML\nPRT";
+    let run = folder
+        .write("r.mztab", headed(file))
+        .run(&["rows", "r.mztab"]);
+    let expected = "\
+file     section         columns  rows  breaking  keeping
+r.mztab  protein               4     5         4        1
+r.mztab  peptide               -     0         0        0
+r.mztab  psm                   -     0         0        0
+r.mztab  small-molecule        2     2         1        1
+1 file   all                   -     7         5        2
+";
+    assert_eq!((run.status, run.out.as_str()), (0, expected));
+}
+
+#[test]
 fn cells_as_they_stand() {
     let folder = Folder::new("cell");
     folder.write(
@@ -560,7 +580,7 @@ fn help_and_wrong_uses() {
         .out
         .contains("bolfrake check FILE|DIR..."));
     assert!(folder.run(&[]).out.contains("Exit status"));
-    for command in ["check", "rows", "cell", "read", "explain"] {
+    for command in ["check", "rows", "cell", "read", "fee", "explain"] {
         let run = folder.run(&[command, "--help"]);
         assert!(run.out.starts_with(&format!("bolfrake {command} ")));
         let run = folder.run(&[command, "--wrong"]);
@@ -575,6 +595,14 @@ fn help_and_wrong_uses() {
         &["check", "--format", "xml", "f"],
         &["cell", "f"],
         &["cell", "f", "x", "1", "1"],
+        &["fee"],
+        &["fee", "f"],
+        &["fee", "f", "1", "2"],
+        &["fee", "1", "f"],
+        &["fee", "f", "1", "--format", "xml"],
+        &["fee", "--weights"],
+        &["fee", "--weights", "1"],
+        &["fee", "--weights", "1", "f", "1"],
     ] {
         let run = folder.run(words);
         assert_eq!((run.status, run.out.as_str()), (2, ""), "{words:?}");
@@ -590,4 +618,349 @@ fn names_that_look_like_options() {
         folder.run(&["check", "--", "--max"]).out.lines().next(),
         Some("--max: accepted")
     );
+}
+
+const FEE: &str = include_str!("../../../examples/fee.mztab");
+
+#[test]
+fn a_fee_as_a_table() {
+    let folder = Folder::new("fee");
+    let run = folder
+        .write("fee.mztab", FEE)
+        .run(&["fee", "fee.mztab", "1000"]);
+    let expected = "\
+study variable  description             weight     share
+             1  control                      3    428.57
+             2  heat shock, 10 minutes       2    285.72
+             3  heat shock, 60 minutes       2    285.71
+         total                               7  1,000.00
+";
+    assert_eq!(
+        (run.status, run.out.as_str(), run.error.as_str()),
+        (0, expected, "")
+    );
+    let in_readme: String = expected
+        .lines()
+        .map(|line| format!("    {line}\n"))
+        .collect();
+    assert!(include_str!("../../../README.md").contains(&in_readme));
+    for amount in ["1000.00", "1000.0", "01000"] {
+        assert_eq!(folder.run(&["fee", "fee.mztab", amount]).out, expected);
+    }
+    let run = folder.run_with_input(&["fee", "-", "1000", "--format=table"], FEE.as_bytes());
+    assert_eq!((run.status, run.out.as_str()), (0, expected));
+}
+
+#[test]
+fn a_fee_as_csv() {
+    let folder = Folder::new("fee csv");
+    let run =
+        folder
+            .write("a,b.mztab", FEE)
+            .run(&["fee", "--format", "csv", "a,b.mztab", "1234.56"]);
+    let expected = "\
+file,study_variable,description,weight,cents,share
+\"a,b.mztab\",1,`control`,3,52910,529.10
+\"a,b.mztab\",2,\"`heat shock, 10 minutes`\",2,35273,352.73
+\"a,b.mztab\",3,\"`heat shock, 60 minutes`\",2,35273,352.73
+\"a,b.mztab\",total,,7,123456,1234.56
+";
+    assert_eq!(
+        (run.status, run.out.as_str(), run.error.as_str()),
+        (0, expected, "")
+    );
+}
+
+#[test]
+fn a_fee_as_json() {
+    let folder = Folder::new("fee json");
+    let run = folder
+        .write("fee.mztab", FEE)
+        .run(&["fee", "fee.mztab", "0.05", "--format", "json"]);
+    let expected = r#"{"file": "fee.mztab", "shares": [
+  {"study_variable": 1, "description": "control", "weight": 3, "cents": 2, "share": "0.02"},
+  {"study_variable": 2, "description": "heat shock, 10 minutes", "weight": 2, "cents": 2, "share": "0.02"},
+  {"study_variable": 3, "description": "heat shock, 60 minutes", "weight": 2, "cents": 1, "share": "0.01"}
+], "total": {"weight": 7, "cents": 5, "share": "0.05"}, "without_weight": []}
+"#;
+    assert_eq!(
+        (run.status, run.out.as_str(), run.error.as_str()),
+        (0, expected, "")
+    );
+}
+
+#[test]
+fn a_fee_over_weights() {
+    let folder = Folder::new("fee weights");
+    let run = folder.run(&["fee", "--weights", "3,2,2", "1000"]);
+    let expected = "\
+study variable  weight     share
+             1       3    428.57
+             2       2    285.72
+             3       2    285.71
+         total       7  1,000.00
+";
+    assert_eq!(
+        (run.status, run.out.as_str(), run.error.as_str()),
+        (0, expected, "")
+    );
+    let run = folder.run(&["fee", "1000000000", "--weights=0,16777215,1,00"]);
+    let expected = "\
+study variable      weight             share
+             2  16,777,215    999,999,940.40
+             3           1             59.60
+         total  16,777,216  1,000,000,000.00
+study variables 1, 4 have weight 0 and get no share
+";
+    assert_eq!((run.status, run.out.as_str()), (0, expected));
+    let run = folder.run(&["fee", "7.5", "--weights", "0,1", "--format", "csv"]);
+    let expected =
+        "file,study_variable,description,weight,cents,share\n,2,,1,750,7.50\n,total,,1,750,7.50\n";
+    assert_eq!(
+        (run.status, run.out.as_str(), run.error.as_str()),
+        (
+            0,
+            expected,
+            "study variable 1 has weight 0 and gets no share\n"
+        )
+    );
+    let run = folder.run(&["fee", "0", "--weights", "0,1", "--format", "json"]);
+    let expected = r#"{"file": null, "shares": [
+  {"study_variable": 2, "description": null, "weight": 1, "cents": 0, "share": "0.00"}
+], "total": {"weight": 1, "cents": 0, "share": "0.00"}, "without_weight": [1]}
+"#;
+    assert_eq!(
+        (run.status, run.out.as_str(), run.error.as_str()),
+        (0, expected, "")
+    );
+}
+
+#[test]
+fn one_cent_over_64() {
+    let folder = Folder::new("fee cent");
+    let weights = vec!["5"; 64].join(",");
+    let run = folder.run(&["fee", "--weights", &weights, "0.01", "--format", "csv"]);
+    let lines: Vec<&str> = run.out.lines().collect();
+    assert_eq!(lines[1], ",1,,5,1,0.01");
+    assert!(lines[2..65].iter().all(|line| line.ends_with(",,5,0,0.00")));
+    assert_eq!(lines[65..], [",total,,320,1,0.01"]);
+}
+
+/// An accepted file with these metadata lines, protein columns and rows beside those that are needed.
+fn quantified(meta: &str, columns: &[&str], rows: &[&str]) -> String {
+    let mut file = headed(meta) + "PRH\taccession\tdescription\tdatabase\tsearch_engine";
+    for column in columns {
+        file += &format!("\t{column}");
+    }
+    for row in rows {
+        file += &format!("\nPRT\tP\tnull\tnull\tnull\t{row}");
+    }
+    file
+}
+
+const ABUNDANCE: [&str; 3] = [
+    "protein_abundance_study_variable[9]",
+    "protein_abundance_study_variable[2]",
+    "protein_abundance_study_variable[40]",
+];
+
+#[test]
+fn study_variables_without_a_weight_or_a_description() {
+    let folder = Folder::new("fee without");
+    let meta = "MTD\tstudy_variable[40]-description\tx\nMTD\tstudy_variable[2]-sample_refs\tsample[1]\nMTD\tsample[1]-description\ts\n\
+        MTD\tassay[7]-ms_run_ref\tms_run[1]\nMTD\tstudy_variable[9]-description\tnull\nMTD\tstudy_variable[3]-assay_refs\tassay[7]\n";
+    folder.write(
+        "w.mztab",
+        quantified(meta, &ABUNDANCE, &["1\t2\tnull", "NaN\tnull\tnull"]),
+    );
+    let run = folder.run(&["fee", "w.mztab", "10"]);
+    let expected = "\
+study variable  description       weight  share
+             2  (no description)       1   3.33
+             9  null                   2   6.67
+         total                         3  10.00
+study variables 3, 40 have weight 0 (declared, but no protein row has an abundance) and get no share
+";
+    assert_eq!(
+        (run.status, run.out.as_str(), run.error.as_str()),
+        (0, expected, "")
+    );
+    let run = folder.run(&["fee", "w.mztab", "10", "--format=csv"]);
+    let expected = "\
+file,study_variable,description,weight,cents,share
+w.mztab,2,,1,333,3.33
+w.mztab,9,`null`,2,667,6.67
+w.mztab,total,,3,1000,10.00
+";
+    assert_eq!((run.status, run.out.as_str()), (0, expected));
+    assert_eq!(run.error, "study variables 3, 40 have weight 0 (declared, but no protein row has an abundance) and get no share\n");
+    let run = folder.run(&["fee", "w.mztab", "10", "--format=json"]);
+    assert!(run
+        .out
+        .contains("{\"study_variable\": 2, \"description\": null, \"weight\": 1,"));
+    assert!(run.out.ends_with("\"without_weight\": [3, 40]}\n"));
+    assert_eq!(run.error, "");
+}
+
+#[test]
+fn descriptions_of_odd_bytes() {
+    let folder = Folder::new("fee bytes");
+    let long = "l".repeat(70);
+    let meta = format!(
+        "MTD\tstudy_variable[2]-description\tF\u{f6}rster \u{202e}\\ \"a\"\r\nMTD\tstudy_variable[9]-description\t=1+?\nMTD\tstudy_variable[40]-description\t{long}\n"
+    );
+    let mut file = quantified(&meta, &ABUNDANCE, &["1\t1\t1"]).into_bytes();
+    let at = file.iter().position(|byte| *byte == b'?').unwrap();
+    file[at] = 0xff;
+    folder.write("b.mztab", file);
+    let run = folder.run(&["fee", "b.mztab", "3"]);
+    assert!(
+        run.out
+            .contains("             2  F\u{f6}rster \\xE2\\x80\\xAE\\\\ \"a\" "),
+        "{}",
+        run.out
+    );
+    assert!(run.out.contains("             9  =1+\\xFF "), "{}", run.out);
+    let cut = format!(
+        "            40  {}\u{2026}       1   1.00\n",
+        "l".repeat(60)
+    );
+    assert!(run.out.contains(&cut), "{}", run.out);
+    let run = folder.run(&["fee", "b.mztab", "3", "--format", "csv"]);
+    let lines: Vec<&str> = run.out.lines().collect();
+    assert_eq!(
+        lines[1],
+        "b.mztab,2,\"`F\u{f6}rster \\xE2\\x80\\xAE\\\\ \"\"a\"\"`\",1,100,1.00"
+    );
+    assert_eq!(lines[2], "b.mztab,9,`=1+\\xFF`,1,100,1.00");
+    assert_eq!(lines[3], format!("b.mztab,40,`{long}`,1,100,1.00"));
+    let run = folder.run(&["fee", "b.mztab", "3", "--format", "json"]);
+    let lines: Vec<&str> = run.out.lines().collect();
+    assert_eq!(lines[1], "  {\"study_variable\": 2, \"description\": \"F\u{f6}rster \\\\xE2\\\\x80\\\\xAE\\\\\\\\ \\\"a\\\"\", \"weight\": 1, \"cents\": 100, \"share\": \"1.00\"},");
+}
+
+#[test]
+fn a_fee_is_not_split_over_a_broken_file() {
+    let folder = Folder::new("fee broken");
+    folder.write("x.mztab", FEE.replace("\t12.5\t", "\t\t") + "x\n");
+    folder.write("y.mztab", FEE.to_string() + "x\n");
+    for form in ["table", "csv", "json"] {
+        let run = folder.run(&["fee", "x.mztab", "10", "--format", form]);
+        let expected = "bolfrake: x.mztab is not accepted, it has 2 breaks, so no fee is split over it: `bolfrake check x.mztab` shows them\n";
+        assert_eq!(
+            (run.status, run.out.as_str(), run.error.as_str()),
+            (1, "", expected)
+        );
+    }
+    let run = folder.run(&["fee", "y.mztab", "10"]);
+    assert_eq!(run.error, "bolfrake: y.mztab is not accepted, it has 1 break, so no fee is split over it: `bolfrake check y.mztab` shows it\n");
+    let run = folder.run_with_input(&["fee", "-", "10"], b"");
+    assert_eq!((run.status, run.error.as_str()), (1, "bolfrake: - is not accepted, it has 5 breaks, so no fee is split over it: `bolfrake check -` shows them\n"));
+}
+
+#[test]
+fn a_fee_without_weights() {
+    let folder = Folder::new("fee none");
+    folder.write("a.mztab", HEAD);
+    let meta = "MTD\tstudy_variable[2]-description\tx\n";
+    folder.write(
+        "b.mztab",
+        quantified(meta, &ABUNDANCE[1..2], &["null", "null"]),
+    );
+    for name in ["a.mztab", "b.mztab"] {
+        let run = folder.run(&["fee", name, "10"]);
+        assert_eq!((run.status, run.out.as_str()), (1, ""));
+        assert_eq!(run.error, format!("bolfrake: {name} has no study variable with a weight: no protein row has a cell other than `null` under a column \
+            `protein_abundance_study_variable[n]`. Fill these columns, or give weights by --weights\n"));
+    }
+}
+
+#[test]
+fn fees_over_files_that_cannot_be_read() {
+    let folder = Folder::new("fee unread");
+    folder.write("long.mztab", vec![b'\n'; 16_777_217]);
+    for (name, words) in [
+        ("no.mztab", "no.mztab cannot be read ("),
+        (
+            "long.mztab",
+            "long.mztab is longer than 16,777,216 bytes, so it is not judged",
+        ),
+        (".", ". is a folder: name a file in it\n"),
+    ] {
+        let run = folder.run(&["fee", name, "10"]);
+        assert_eq!((run.status, run.out.as_str()), (2, ""));
+        assert!(
+            run.error.starts_with(&format!("bolfrake: {words}")),
+            "{}",
+            run.error
+        );
+    }
+}
+
+#[test]
+fn amounts_that_are_none() {
+    let folder = Folder::new("fee amounts");
+    folder.write("fee.mztab", FEE);
+    let none = |amount: &str| {
+        format!("takes an AMOUNT as 1234 or 1234.56, and `{amount}` is none: write digits alone, or digits, a dot and the cents, without sign, currency, comma or space")
+    };
+    let more = |amount: &str| {
+        format!(
+            "takes an AMOUNT of at most 1000000000.00, and `{amount}` is more: split it in parts"
+        )
+    };
+    for (amount, words) in [
+        ("", "takes an AMOUNT as 1234 or 1234.56, and it is empty".to_string()),
+        ("12.345", "takes an AMOUNT with at most two places after the dot, and `12.345` has 3: round it to whole cents".to_string()),
+        ("1,234.56", none("1,234.56")),
+        ("-5", none("-5")),
+        ("-5.00", none("-5.00")),
+        ("+5", none("+5")),
+        ("5 EUR", none("5 EUR")),
+        ("1e3", none("1e3")),
+        ("5.", none("5.")),
+        (".5", none(".5")),
+        ("1000000000.01", more("1000000000.01")),
+        ("99999999999999999999999999", more("99999999999999999999999999")),
+    ] {
+        let expected = format!("bolfrake: fee {words} (`bolfrake fee --help` tells how)\n");
+        for over in [&["fee", "fee.mztab", amount], &["fee", "--weights=1", amount]] {
+            let run = folder.run(over);
+            assert_eq!((run.status, run.out.as_str(), &run.error), (2, "", &expected));
+        }
+    }
+}
+
+#[test]
+fn weights_that_are_none() {
+    let folder = Folder::new("fee misweighed");
+    let many = vec!["1"; 65].join(",");
+    let none = |weights: &str| {
+        format!("takes --weights as 3,2,2, whole numbers with a comma between them, and `{weights}` is none")
+    };
+    for (weights, words) in [
+        ("", none("")),
+        ("3,,2", none("3,,2")),
+        ("3,2,", none("3,2,")),
+        ("3, 2", none("3, 2")),
+        ("3,-2", none("3,-2")),
+        ("3,+2", none("3,+2")),
+        ("3;2", none("3;2")),
+        ("1.5", none("1.5")),
+        (many.as_str(), "takes 1 to 64 weights, and 65 are given".to_string()),
+        ("1,16777216", "takes weights below 16,777,216, and number 2 is not: divide all of them by the same number".to_string()),
+        ("1,2,99999999999999999999", "takes weights below 16,777,216, and number 3 is not: divide all of them by the same number".to_string()),
+        ("0,0", "needs a weight above 0 to split by, and all that are given are 0".to_string()),
+    ] {
+        let run = folder.run(&["fee", "10", "--weights", weights]);
+        let expected = format!("bolfrake: fee {words} (`bolfrake fee --help` tells how)\n");
+        assert_eq!((run.status, run.out.as_str(), run.error), (2, "", expected));
+    }
+    let run = folder.run(&["fee", "10", "f.mztab"]);
+    assert_eq!(
+        run.error,
+        "bolfrake: fee takes FILE first and AMOUNT after it (`bolfrake fee --help` tells how)\n"
+    );
+    let run = folder.run(&["fee", "f.mztab", "10", "--weights", "1"]);
+    assert_eq!(run.error, "bolfrake: fee takes AMOUNT alone beside --weights, which stand in place of FILE (`bolfrake fee --help` tells how)\n");
 }

@@ -1,5 +1,5 @@
 //! The verified reader of mzTab 1.0 files, safe to call from Rust: [`judge`] judges a file by the 21 rules, [`cell`] shows a cell as the
-//! very bytes that stand there, [`reading`] reads it as a number.
+//! very bytes that stand there, [`reading`] reads it as a number, [`rows`] counts rows, and [`weights`] and [`split_fee`] split a fee.
 //!
 //! ```
 //! let file = b"SMH\tidentifier\tcharge\nSML\tCID:00027395\t2+\n";
@@ -16,11 +16,23 @@
 #[allow(unsafe_code)]
 pub mod raw;
 
+use std::error::Error;
+use std::fmt;
+
 /// A file is at most so many bytes.
 pub const LIMIT: usize = 16_777_216;
 
 /// How many rules there are; they are numbered from 1.
 pub const RULES: u32 = 21;
+
+/// A fee, and a sum of amounts, is at most so many cents.
+pub const FEE_LIMIT: u64 = 100_000_000_000;
+
+/// A weight is less than this.
+pub const WEIGHT_LIMIT: u32 = 16_777_216;
+
+/// A fee is split over at most so many weights, and a file has study variables 1 to this.
+pub const STUDY_VARIABLES: usize = 64;
 
 /// The first list that [`judge_all`] lends. Few files have more breaks, so few are judged twice.
 pub const FIRST_LIST: usize = 4_096;
@@ -36,6 +48,14 @@ pub enum Refusal {
     NoRow,
     /// The row has no such cell.
     NoCell,
+    /// The file breaks a rule, and the answer is only of a file that breaks none. [`judge`] says which, and where.
+    NotAccepted,
+    /// The weights are not 1 to [`STUDY_VARIABLES`], or the shares are not as many as they.
+    NotAsMany,
+    /// The fee or the sum is over [`FEE_LIMIT`], or a weight is not below [`WEIGHT_LIMIT`].
+    TooLarge,
+    /// Every weight is zero, so there is nobody to have a share.
+    AllZero,
 }
 
 impl Refusal {
@@ -46,9 +66,32 @@ impl Refusal {
             Refusal::NoSection => 2,
             Refusal::NoRow => 3,
             Refusal::NoCell => 4,
+            Refusal::NotAccepted => 7,
+            Refusal::NotAsMany => 15,
+            Refusal::TooLarge => 16,
+            Refusal::AllZero => 17,
         }
     }
 }
+
+impl fmt::Display for Refusal {
+    fn fmt(&self, out: &mut fmt::Formatter) -> fmt::Result {
+        out.write_str(match self {
+            Refusal::TooLong => "the file is longer than 16,777,216 bytes",
+            Refusal::NoSection => "the section is not 1 to 4",
+            Refusal::NoRow => "the section has no such row",
+            Refusal::NoCell => "the row has no such cell",
+            Refusal::NotAccepted => "the file breaks a rule",
+            Refusal::NotAsMany => "the weights are not 1 to 64, or the shares are not as many",
+            Refusal::TooLarge => {
+                "the amount is over 100,000,000,000 cents, or a weight is not below 16,777,216"
+            }
+            Refusal::AllZero => "every weight is zero",
+        })
+    }
+}
+
+impl Error for Refusal {}
 
 /// Nothing for the number 0, else the refusal. Another number is no answer of this library, so it was not linked.
 fn refused(number: u32) -> Result<(), Refusal> {
@@ -58,6 +101,10 @@ fn refused(number: u32) -> Result<(), Refusal> {
         2 => Err(Refusal::NoSection),
         3 => Err(Refusal::NoRow),
         4 => Err(Refusal::NoCell),
+        7 => Err(Refusal::NotAccepted),
+        15 => Err(Refusal::NotAsMany),
+        16 => Err(Refusal::TooLarge),
+        17 => Err(Refusal::AllZero),
         other => panic!("the library answered {other}, which mztab.h does not name: link the libcapi.a of this repository"),
     }
 }
@@ -206,4 +253,53 @@ fn value(answer: &raw::Reading) -> Value {
         6 => Value::Text,
         other => panic!("the library read a case {other}, which mztab.h does not name: link the libcapi.a of this repository"),
     }
+}
+
+/// How many rows a section has, whatever breaks the file has: [`cell`] knows row r exactly for r up to it.
+///
+/// ```
+/// assert_eq!(mztab::rows(b"PRT\tP1\nPRT\tP2\nCOM\tPRT\n", 1), Ok(2));
+/// assert_eq!(mztab::rows(b"", 5), Err(mztab::Refusal::NoSection));
+/// ```
+pub fn rows(file: &[u8], section: u32) -> Result<u32, Refusal> {
+    let counted = raw::rows(file, section);
+    refused(counted.number).map(|()| counted.count)
+}
+
+/// The weights of an accepted file: place i - 1 has the number of protein rows whose cell under `protein_abundance_study_variable[i]` is
+/// not `null`, 0 where the header has no such column. A file that breaks a rule is refused. The call judges the file, and needs as much
+/// stack as that.
+///
+/// ```
+/// let broken = b"PRH\tprotein_abundance_study_variable[1]\nPRT\t0.5\n";
+/// assert_eq!(mztab::weights(broken), Err(mztab::Refusal::NotAccepted));
+/// ```
+pub fn weights(file: &[u8]) -> Result<[u32; STUDY_VARIABLES], Refusal> {
+    let mut weights = [0; STUDY_VARIABLES];
+    refused(raw::weights(file, &mut weights)).map(|()| weights)
+}
+
+/// Splits a fee in cents over weights, one share for each. A share is the proportion rounded down; the cents left over go one each to the
+/// largest remainders, the lower number first among equals. So the shares add up to the fee, and each lies less than one cent from the
+/// exact proportion.
+///
+/// ```
+/// assert_eq!(mztab::split_fee(100_000, &[3, 2, 2]), Ok(vec![42_857, 28_572, 28_571]));
+/// assert_eq!(mztab::split_fee(100_000, &[0, 0]), Err(mztab::Refusal::AllZero));
+/// ```
+pub fn split_fee(fee: u64, weights: &[u32]) -> Result<Vec<u64>, Refusal> {
+    // More weights than that are refused, however many shares are lent.
+    let mut shares = vec![0; weights.len().min(STUDY_VARIABLES)];
+    refused(raw::split_fee(fee, weights, &mut shares)).map(|()| shares)
+}
+
+/// The sum of two amounts in cents, refused where it is over [`FEE_LIMIT`].
+///
+/// ```
+/// assert_eq!(mztab::add_cents(1_250, 50), Ok(1_300));
+/// assert_eq!(mztab::add_cents(mztab::FEE_LIMIT, 1), Err(mztab::Refusal::TooLarge));
+/// ```
+pub fn add_cents(a: u64, b: u64) -> Result<u64, Refusal> {
+    let sum = raw::add_cents(a, b);
+    refused(sum.number).map(|()| sum.cents)
 }

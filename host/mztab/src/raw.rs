@@ -42,6 +42,32 @@ mod c {
             faults_length: usize,
             number: *mut u32,
         ) -> u32;
+
+        pub fn mztab_rows(
+            file: *const u8,
+            file_length: usize,
+            section: u32,
+            number: *mut u32,
+        ) -> u32;
+
+        pub fn mztab_weights(
+            file: *const u8,
+            file_length: usize,
+            weights: *mut u32,
+            weights_length: usize,
+            number: *mut u32,
+        );
+
+        pub fn mztab_add_cents(a: u64, b: u64, number: *mut u32) -> u64;
+
+        pub fn mztab_split_fee(
+            fee: u64,
+            weights: *const u32,
+            weights_length: usize,
+            shares: *mut u64,
+            shares_length: usize,
+            number: *mut u32,
+        );
     }
 }
 
@@ -79,6 +105,20 @@ pub struct Reading {
 pub struct Judged {
     pub number: u32,
     pub count: u32,
+}
+
+/// What `mztab_rows` writes and answers.
+#[derive(Clone, Copy, Debug, PartialEq, Eq)]
+pub struct Counted {
+    pub number: u32,
+    pub count: u32,
+}
+
+/// What `mztab_add_cents` writes and answers.
+#[derive(Clone, Copy, Debug, PartialEq, Eq)]
+pub struct Sum {
+    pub number: u32,
+    pub cents: u64,
 }
 
 /// Values that no call answers, so that a place which is not written shows.
@@ -164,4 +204,51 @@ pub fn faults(file: &[u8], list: &mut [Break]) -> Judged {
         )
     };
     Judged { number, count }
+}
+
+pub fn rows(file: &[u8], section: u32) -> Counted {
+    let mut number = UNSET;
+    // As above.
+    let count = unsafe { c::mztab_rows(file.as_ptr(), file.len(), section, &mut number) };
+    Counted { number, count }
+}
+
+/// Writes the weights of the study variables, where there is an answer, and answers the number.
+pub fn weights(file: &[u8], weights: &mut [u32]) -> u32 {
+    let mut number = UNSET;
+    // As above; a slice that is lent to be written overlaps nothing else that is lent.
+    unsafe {
+        c::mztab_weights(
+            file.as_ptr(),
+            file.len(),
+            weights.as_mut_ptr(),
+            weights.len(),
+            &mut number,
+        )
+    };
+    number
+}
+
+pub fn add_cents(a: u64, b: u64) -> Sum {
+    let mut number = UNSET;
+    // The one place is our own.
+    let cents = unsafe { c::mztab_add_cents(a, b, &mut number) };
+    Sum { number, cents }
+}
+
+/// Writes the shares of a fee, where there is an answer, and answers the number.
+pub fn split_fee(fee: u64, weights: &[u32], shares: &mut [u64]) -> u32 {
+    let mut number = UNSET;
+    // As above; the shares, which are lent to be written, overlap neither the weights nor the number.
+    unsafe {
+        c::mztab_split_fee(
+            fee,
+            weights.as_ptr(),
+            weights.len(),
+            shares.as_mut_ptr(),
+            shares.len(),
+            &mut number,
+        )
+    };
+    number
 }

@@ -1,12 +1,13 @@
 //! The calls, through the binding: answers, refusals, and lists of every length.
 
 use mztab::{
-    cell, cell_or, count, judge, judge_all, raw, reading, Break, Reading, Refusal, Value,
-    FIRST_LIST, LIMIT,
+    add_cents, cell, cell_or, count, judge, judge_all, raw, reading, rows, split_fee, weights,
+    Break, Reading, Refusal, Value, FEE_LIMIT, FIRST_LIST, LIMIT, STUDY_VARIABLES, WEIGHT_LIMIT,
 };
 
 const YEAST: &[u8] = include_bytes!("../../../examples/yeast.mztab");
 const ACCEPTED: &[u8] = include_bytes!("../../../examples/accepted.mztab");
+const FEE: &[u8] = include_bytes!("../../../examples/fee.mztab");
 
 fn broken(line: u32, cell: u32, rule: u32) -> Break {
     Break { rule, line, cell }
@@ -143,5 +144,208 @@ fn minus_nothing_keeps_its_sign() {
     match read("-0.0") {
         Value::Decimal { double, .. } => assert_eq!(double.to_bits(), (-0.0f64).to_bits()),
         other => panic!("{other:?}"),
+    }
+}
+
+#[test]
+fn rows_of_sections() {
+    let found: Vec<_> = (0..6).map(|section| rows(YEAST, section)).collect();
+    let none = Err(Refusal::NoSection);
+    assert_eq!(found, [none, Ok(2), Ok(0), Ok(0), Ok(0), none]);
+    // Whatever breaks the file has: before its header, under another, and without cells.
+    let file = b"PRT\nPRH\nPSM\tx\r\nPRT\ta\tb\nPRTx\nprt\n\nCOM\tPRT\nPRT";
+    assert_eq!(rows(file, 1), Ok(3));
+    assert_eq!(rows(file, 3), Ok(1));
+    assert_eq!(rows(b"", 4), Ok(0));
+}
+
+#[test]
+fn the_cell_call_knows_the_rows_that_are_counted() {
+    let file = b"PRT\nPRH\nSML\tx\nPRT\ta\nSML";
+    for section in 1..5 {
+        let count = rows(file, section).unwrap();
+        for row in 1..6 {
+            let known = cell(file, section, row, 0) != Err(Refusal::NoRow);
+            assert_eq!(known, row <= count, "{section} {row}");
+        }
+    }
+}
+
+#[test]
+fn rows_refuse_in_their_order() {
+    let long = vec![b'\n'; LIMIT + 1];
+    assert_eq!(rows(&long, 9), Err(Refusal::TooLong));
+    assert_eq!(rows(&long[1..], 9), Err(Refusal::NoSection));
+    assert_eq!(rows(&long[1..], 1), Ok(0));
+    assert_eq!(rows(&b"PRT\n".repeat(LIMIT / 4), 1), Ok(LIMIT as u32 / 4));
+    for section in [0, 5, u32::MAX] {
+        let refused = raw::Counted {
+            number: 2,
+            count: 0,
+        };
+        assert_eq!(raw::rows(YEAST, section), refused);
+    }
+}
+
+#[test]
+fn weights_of_study_variables() {
+    let found = weights(FEE).unwrap();
+    assert_eq!(found[..3], [3, 2, 2]);
+    assert!(found[3..].iter().all(|weight| *weight == 0));
+    assert_eq!(weights(ACCEPTED), Ok([0; STUDY_VARIABLES]));
+}
+
+/// An accepted file whose protein table has this header and these rows beside the required columns.
+fn quantified(header: &str, rows: &[&str]) -> Vec<u8> {
+    let mut file =
+        "MTD\tmzTab-version\t1.0\nMTD\tmzTab-mode\tSummary\nMTD\tmzTab-type\tQuantification\n\
+        MTD\tdescription\tx\nMTD\tms_run[1]-location\tx\n"
+            .to_string();
+    for i in 1..=STUDY_VARIABLES {
+        file += &format!("MTD\tstudy_variable[{i}]-description\tx\n");
+    }
+    file += &format!("PRH\taccession\tdescription\tdatabase\tsearch_engine\t{header}\n");
+    for row in rows {
+        file += &format!("PRT\tP\tnull\tnull\tnull\t{row}\n");
+    }
+    file.into_bytes()
+}
+
+#[test]
+fn weights_go_by_the_columns_own_name() {
+    let abundance = "protein_abundance_study_variable";
+    let header = format!("{abundance}[64]\tprotein_abundance_stdev_study_variable[2]\t{abundance}[7]\topt_{abundance}[3]");
+    let rows = [
+        "1.5\t2\tnull\tx",
+        "INF\tnull\tnull\tx",
+        "NaN\t2\t0\tnull",
+        "null\t2\t-0.0\tx",
+    ];
+    let mut expected = [0; STUDY_VARIABLES];
+    (expected[63], expected[6]) = (3, 2);
+    assert_eq!(weights(&quantified(&header, &rows)), Ok(expected));
+    assert_eq!(weights(&quantified(&header, &[])), Ok([0; STUDY_VARIABLES]));
+}
+
+#[test]
+fn weights_refuse_in_their_order() {
+    let long = vec![b'\n'; LIMIT + 1];
+    for (file, length, number) in [
+        (&long[..], 0, 1),
+        (&long[..], 64, 1),
+        (YEAST, 0, 7),
+        (YEAST, 64, 7),
+        (b"", 63, 7),
+        (FEE, 0, 15),
+        (FEE, 63, 15),
+        (FEE, 65, 15),
+    ] {
+        let mut places = vec![77; length];
+        assert_eq!(raw::weights(file, &mut places), number);
+        assert!(places.iter().all(|place| *place == 77));
+    }
+    assert_eq!(weights(&long), Err(Refusal::TooLong));
+    assert_eq!(weights(YEAST), Err(Refusal::NotAccepted));
+}
+
+#[test]
+fn sums_of_amounts() {
+    assert_eq!(add_cents(0, 0), Ok(0));
+    assert_eq!(add_cents(FEE_LIMIT - 7, 7), Ok(FEE_LIMIT));
+    assert_eq!(add_cents(0, FEE_LIMIT), Ok(FEE_LIMIT));
+    for (a, b) in [
+        (FEE_LIMIT, 1),
+        (1, FEE_LIMIT),
+        (FEE_LIMIT + 1, 0),
+        (0, u64::MAX),
+        (u64::MAX, 1),
+        (u64::MAX, u64::MAX),
+        (1 << 63, 1 << 63),
+    ] {
+        let refused = raw::Sum {
+            number: 16,
+            cents: 0,
+        };
+        assert_eq!(raw::add_cents(a, b), refused);
+        assert_eq!(add_cents(a, b), Err(Refusal::TooLarge));
+    }
+}
+
+#[test]
+fn splits_worked_by_hand() {
+    // 100,000 over 7: 14,285 for each and 5 left. Thrice that is 42,857 and 1; twice 28,571 and 3, so the one cent goes to the first of these.
+    assert_eq!(
+        split_fee(100_000, &[3, 2, 2]),
+        Ok(vec![42_857, 28_572, 28_571])
+    );
+    assert_eq!(split_fee(12_345, &[9]), Ok(vec![12_345]));
+    assert_eq!(split_fee(0, &[1, 2]), Ok(vec![0, 0]));
+    // One cent over 64: the first has it. 63 cents: all but the last.
+    let mut one = vec![0; 64];
+    one[0] = 1;
+    assert_eq!(split_fee(1, &[5; 64]), Ok(one));
+    let mut most = vec![1; 64];
+    most[63] = 0;
+    assert_eq!(split_fee(63, &[5; 64]), Ok(most));
+    // A weight of zero has nothing, and no cent left over.
+    assert_eq!(
+        split_fee(100, &[0, 1, 0, 1, 1, 0]),
+        Ok(vec![0, 34, 0, 33, 33, 0])
+    );
+    // The largest remainders first, though their numbers are higher: 10 by 6, 3 and 2 of 11 is 5 and 5 over, 2 and 8 over, 1 and 9 over.
+    assert_eq!(split_fee(10, &[6, 3, 2]), Ok(vec![5, 3, 2]));
+    let heavy = WEIGHT_LIMIT - 1;
+    assert_eq!(
+        split_fee(FEE_LIMIT, &[heavy; 64]),
+        Ok(vec![FEE_LIMIT / 64; 64])
+    );
+    assert_eq!(
+        split_fee(FEE_LIMIT, &[heavy, 1]),
+        Ok(vec![FEE_LIMIT - 5_960, 5_960])
+    );
+}
+
+#[test]
+fn splits_refuse_in_their_order() {
+    for (fee, weights, shares, number) in [
+        (FEE_LIMIT + 1, &[][..], 0, 15),
+        (FEE_LIMIT + 1, &[u32::MAX; 65], 65, 15),
+        (FEE_LIMIT + 1, &[WEIGHT_LIMIT; 65], 64, 15),
+        (1, &[0, 0], 1, 15),
+        (1, &[0, 0], 3, 15),
+        (1, &[1, 1], 0, 15),
+        (FEE_LIMIT + 1, &[0, 0], 2, 16),
+        (u64::MAX, &[1, 1], 2, 16),
+        (0, &[0, WEIGHT_LIMIT], 2, 16),
+        (1, &[u32::MAX], 1, 16),
+        (0, &[0, 0], 2, 17),
+        (FEE_LIMIT, &[0; 64], 64, 17),
+    ] {
+        let mut places = vec![77; shares];
+        assert_eq!(raw::split_fee(fee, weights, &mut places), number);
+        assert!(places.iter().all(|place| *place == 77));
+    }
+    assert_eq!(split_fee(1, &[]), Err(Refusal::NotAsMany));
+    assert_eq!(split_fee(1, &[1; 65]), Err(Refusal::NotAsMany));
+    assert_eq!(split_fee(FEE_LIMIT + 1, &[1]), Err(Refusal::TooLarge));
+    assert_eq!(split_fee(1, &[WEIGHT_LIMIT]), Err(Refusal::TooLarge));
+    assert_eq!(split_fee(1, &[0; 64]), Err(Refusal::AllZero));
+}
+
+#[test]
+fn refusals_have_their_numbers_and_words() {
+    let all = [
+        (Refusal::TooLong, 1),
+        (Refusal::NoSection, 2),
+        (Refusal::NoRow, 3),
+        (Refusal::NoCell, 4),
+        (Refusal::NotAccepted, 7),
+        (Refusal::NotAsMany, 15),
+        (Refusal::TooLarge, 16),
+        (Refusal::AllZero, 17),
+    ];
+    for (refusal, number) in all {
+        assert_eq!(refusal.number(), number);
+        assert!(!refusal.to_string().is_empty());
     }
 }

@@ -1,7 +1,7 @@
 //! Hostile files of 16 MB, each on a thread with a stack of 2 MB: the count of breaks is right and no call needs more. Under an emulator, which is slow,
 //! they are of 1 MB.
 
-use mztab::{cell, judge, reading, Refusal, LIMIT};
+use mztab::{cell, judge, reading, rows, weights, Refusal, LIMIT};
 use samples::{hostile, Hostile};
 
 const STACK: usize = 2 * 1024 * 1024;
@@ -33,6 +33,15 @@ fn every_call(sample: &Hostile) {
         "{}",
         sample.name
     );
+    let counted = rows(file, 1).expect(sample.name);
+    let last = cell(file, 1, counted, 0) != Err(Refusal::NoRow);
+    assert!(counted == 0 || last, "{}", sample.name);
+    let after = cell(file, 1, counted + 1, 0);
+    assert_eq!(after, Err(Refusal::NoRow), "{}", sample.name);
+    let weighed = weights(file).map(|_| ());
+    let accepted = sample.breaks == 0;
+    let expected = Some(Refusal::NotAccepted).filter(|_| !accepted);
+    assert_eq!(weighed.err(), expected, "{}", sample.name);
 }
 
 #[test]

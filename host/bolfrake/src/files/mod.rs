@@ -56,12 +56,16 @@ pub fn named(command: &str, words: Vec<OsString>) -> Result<Vec<Source>, Failure
     Ok(all)
 }
 
-/// One file, as the cell commands take it.
-pub fn one(word: OsString) -> Source {
-    if word == "-" {
-        Source::Input
-    } else {
-        Source::File(PathBuf::from(word))
+/// The one file that a command is about: its name as it is printed, and its bytes.
+pub fn one(word: OsString) -> Result<(String, Vec<u8>), Failure> {
+    let source = match word {
+        word if word == "-" => Source::Input,
+        word => Source::File(PathBuf::from(word)),
+    };
+    let name = source.name();
+    match source.read() {
+        Ok(file) => Ok((name, file)),
+        Err(words) => Err(Failure::Stopped(format!("{name} {words}"))),
     }
 }
 

@@ -2,16 +2,16 @@
 
 use std::ffi::OsString;
 
-use mztab::Refusal;
+use mztab::{raw, Refusal};
 
-use crate::files::finder::{cells, code, cut_line};
+use crate::files::finder::{cells, cut_line, Finder};
 
-/// Number, name, header code and row code of each section.
-pub const SECTIONS: [(u32, &str, &[u8], &[u8]); 4] = [
-    (1, "protein", b"PRH", b"PRT"),
-    (2, "peptide", b"PEH", b"PEP"),
-    (3, "psm", b"PSH", b"PSM"),
-    (4, "small-molecule", b"SMH", b"SML"),
+/// Number, name and row code of each section.
+pub const SECTIONS: [(u32, &str, &[u8]); 4] = [
+    (1, "protein", b"PRT"),
+    (2, "peptide", b"PEP"),
+    (3, "psm", b"PSM"),
+    (4, "small-molecule", b"SML"),
 ];
 
 /// The name of a section; of another number, the number.
@@ -38,48 +38,44 @@ pub struct Table {
 }
 
 /// The tables of a file. `broken` are the lines of its breaks in rising order; a line may come several times.
-pub fn tables(file: &[u8], broken: impl Iterator<Item = u32>) -> [Table; 4] {
+pub fn tables(file: &[u8], broken: impl Iterator<Item = u32>) -> Result<[Table; 4], Refusal> {
     let mut tables = [Table::default(); 4];
-    let mut broken = broken.peekable();
-    let mut rest = file;
-    let mut number = 0;
-    while !rest.is_empty() {
-        let (line, after) = cut_line(rest);
-        rest = after;
-        number += 1;
-        let mut breaks = false;
-        while broken.next_if(|at| *at == number).is_some() {
-            breaks = true;
-        }
-        count(line, breaks, &mut tables);
+    for (table, (section, ..)) in tables.iter_mut().zip(SECTIONS) {
+        table.columns = columns(file, section);
+        table.rows = mztab::rows(file, section)?;
     }
-    tables
+    count_breaking(file, broken, &mut tables);
+    Ok(tables)
 }
 
-fn count(line: &[u8], breaks: bool, tables: &mut [Table; 4]) {
-    let code = code(line);
-    for (table, (_, _, header, row)) in tables.iter_mut().zip(SECTIONS) {
-        if code == row {
-            table.rows += 1;
-            table.breaking += u32::from(breaks);
-        } else if code == header && table.columns.is_none() {
-            table.columns = Some(cells(line).count() as u32 - 1);
+/// Counts the rows that stand at these lines.
+fn count_breaking(file: &[u8], broken: impl Iterator<Item = u32>, tables: &mut [Table; 4]) {
+    let mut finder = Finder::new(file);
+    let mut last = 0;
+    for line in broken {
+        if line == last {
+            continue;
+        }
+        last = line;
+        let code = finder.find(line, 1);
+        let section = SECTIONS.iter().position(|one| code == Some(one.2));
+        if let Some(k) = section {
+            tables[k].breaking += 1;
         }
     }
 }
 
-/// Whether the library finds the same: the last row and the last column, and none after them.
-pub fn confirmed(file: &[u8], section: u32, table: &Table) -> bool {
-    let is_row = |row| !matches!(mztab::cell(file, section, row, 1), Err(Refusal::NoRow));
-    let rows = (table.rows == 0 || is_row(table.rows)) && !is_row(table.rows + 1);
-    let is_column = |column| mztab::cell(file, section, 0, column).is_ok();
-    let columns = match table.columns {
-        None => !is_row(0),
-        Some(columns) => {
-            (columns == 0 || is_column(columns)) && !is_column(columns + 1) && is_row(0)
+/// The columns of a section's first header, if there is one: the library says where the first begins, and tabs part the others.
+fn columns(file: &[u8], section: u32) -> Option<u32> {
+    let first = raw::cell(file, section, 0, 1);
+    match first.number {
+        0 => {
+            let (line, _) = cut_line(&file[first.start..]);
+            Some(cells(line).count() as u32)
         }
-    };
-    rows && columns
+        number if number == Refusal::NoCell.number() => Some(0),
+        _ => None,
+    }
 }
 
 #[cfg(test)]
@@ -91,7 +87,7 @@ mod tests {
 
     #[test]
     fn rows_and_columns() {
-        let tables = tables(FILE, [1, 1, 5, 6, 7].into_iter());
+        let tables = tables(FILE, [1, 1, 5, 6, 7, 99].into_iter()).unwrap();
         assert_eq!(
             tables[0],
             Table {
@@ -112,19 +108,21 @@ mod tests {
     }
 
     #[test]
-    fn the_library_finds_the_same() {
-        for (table, (section, ..)) in tables(FILE, std::iter::empty()).iter().zip(SECTIONS) {
-            assert!(confirmed(FILE, section, table), "{section}");
-            let more = Table {
-                rows: table.rows + 1,
-                ..*table
-            };
-            assert!(!confirmed(FILE, section, &more), "{section}");
-            let wider = Table {
-                columns: Some(table.columns.unwrap_or(0) + 1),
-                ..*table
-            };
-            assert!(!confirmed(FILE, section, &wider), "{section}");
+    fn columns_of_the_first_header() {
+        for (header, columns) in [
+            ("PRH", Some(0)),
+            ("PRH\t", Some(1)),
+            ("PRH\ta", Some(1)),
+            ("PRH\t\t", Some(2)),
+            ("PRH\ta\tb\tc", Some(3)),
+            ("PRHa\tb", None),
+            ("COM\tPRH", None),
+        ] {
+            for end in ["", "\n", "\r\n", "\nPRH\tx\ty\tz\tu"] {
+                let file = format!("\nPRT\tx\ty\n{header}{end}");
+                let expected = columns.or_else(|| Some(4).filter(|_| end.len() > 2));
+                assert_eq!(super::columns(file.as_bytes(), 1), expected, "{file:?}");
+            }
         }
     }
 

@@ -25,6 +25,11 @@ pub fn cell(bytes: &[u8]) -> String {
     out
 }
 
+/// A cell, shown in the same way and not cut.
+pub fn whole(bytes: &[u8]) -> String {
+    Pieces(bytes).map(|piece| piece.escaped(true)).collect()
+}
+
 /// A file's name, whole.
 pub fn path(path: &Path) -> String {
     Pieces(path.as_os_str().as_bytes())
@@ -141,6 +146,8 @@ mod tests {
         );
         let wide = "ö".repeat(WIDTH + 5);
         assert_eq!(cell(wide.as_bytes()), format!("{}…", "ö".repeat(WIDTH)));
+        assert_eq!(whole(wide.as_bytes()), wide);
+        assert_eq!(whole(b"a\\b\xff"), "a\\\\b\\xFF");
     }
 
     #[test]

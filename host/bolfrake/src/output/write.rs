@@ -227,7 +227,7 @@ fn json_break(k: usize, told: &Told, out: &mut dyn Write) -> io::Result<()> {
 }
 
 /// A string of JSON.
-fn json(text: &str) -> String {
+pub fn json(text: &str) -> String {
     let mut out = String::from("\"");
     for c in text.chars() {
         match c {

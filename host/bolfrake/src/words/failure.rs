@@ -10,7 +10,7 @@ pub const PIPE: u8 = 141;
 pub enum Failure {
     /// Whoever read the output has closed it. Nothing is said.
     Pipe,
-    /// A refusal of the library: there is no such section, row or cell.
+    /// A refusal of the library: there is no such section, row or cell, or a fee is not split over such a file.
     Refused(String),
     /// A file that cannot be read, output that cannot be written, or words that are not understood.
     Stopped(String),

@@ -3,7 +3,7 @@
 pub const VERSION: &str = concat!(
     "bolfrake ",
     env!("CARGO_PKG_VERSION"),
-    "\nmzTab 1.0, 21 rules, files of at most 16,777,216 bytes. The judging and the cells are a library that is proved to keep its contracts.\n"
+    "\nmzTab 1.0, 21 rules, files of at most 16,777,216 bytes. The judging, the cells, the rows and the split of a fee are a library that is proved to keep its contracts.\n"
 );
 
 pub const ALL: &str = "\
@@ -13,6 +13,7 @@ bolfrake judges mzTab 1.0 files: exactly which rules a file breaks, and where.
   bolfrake rows FILE|DIR...                 rows and columns of each section, and how many rows break a rule
   bolfrake cell FILE SECTION ROW COLUMN     a cell, as the very bytes that stand there
   bolfrake read FILE SECTION ROW COLUMN     a cell read as a number, exactly
+  bolfrake fee FILE AMOUNT                  a fee split over the study variables of a file, to the cent
   bolfrake explain RULE                     what breaks a rule, an example, and how to mend the file
 
 `bolfrake COMMAND --help` tells more of each. `bolfrake --version` prints the version.
@@ -21,8 +22,8 @@ FILE may be - for standard input. Of a folder every file is taken whose name end
 the folders in it the same, sorted by name; links to folders are not followed. A file that is named itself is taken
 whatever its name.
 
-Exit status: 0 done, and every file accepted; 1 a file breaks a rule, or there is no such section, row or cell; 2 a file
-cannot be read or is longer than 16,777,216 bytes, or the words were not understood.
+Exit status: 0 done, and every file accepted; 1 a file breaks a rule, or there is no such section, row or cell, or no
+weight to split a fee by; 2 a file cannot be read or is longer than 16,777,216 bytes, or the words were not understood.
 ";
 
 const CHECK: &str = "\
@@ -81,6 +82,37 @@ numerals, the places after the dot, and the nearest double.
 Exit status: 0 read; 1 no such section, row or cell; 2 a file that cannot be read or is too long.
 ";
 
+const FEE: &str = "\
+bolfrake fee [--format table|csv|json] FILE AMOUNT
+bolfrake fee [--format table|csv|json] --weights W,W,... AMOUNT
+
+Splits a fee over the study variables of an accepted file, by weight. The weight of study variable n is the number of
+protein rows whose cell under protein_abundance_study_variable[n] is not null. A share is the proportion rounded down to
+whole cents; the cents left over go one each to the largest remainders, the lower number first among equals. So the
+shares add up to the fee, and each lies less than one cent from the exact proportion.
+
+Prints for each study variable with a weight its number, its description from the file, its weight and its share, then
+the totals. Those that are declared and have weight 0 are named in a line below: they have no share. A file that breaks
+a rule is not split over: it is to be mended first.
+
+  AMOUNT           1234, 1234.56, or 1234.5 for 1234.50; at most 1000000000.00. Digits and a dot alone: no sign,
+                   currency, comma or space, and no more than two places
+  --weights W,...  split over these weights in place of a file's: 1 to 64 whole numbers below 16,777,216, with commas
+                   between them, as 3,2,2. Numbers are then 1, 2 and so on, and there are no descriptions
+  --format table   as above (the default); a description of over 60 characters is cut with an ellipsis
+  --format csv     file,study_variable,description,weight,cents,share and a line for each share, then one of totals,
+                   which has total as its study_variable. cents is a whole number, share the same as 1234.56. The
+                   description stands between backticks, so that a table program takes it as text; none is an empty
+                   field. Those of weight 0 are named on standard error
+  --format json    one document: file (null for --weights), shares, each with study_variable, description (null for
+                   none), weight, cents and share, a text as 1234.56; total with weight, cents and share; and
+                   without_weight, the numbers of those of weight 0
+
+In a description, bytes that do not print are shown as \\xNN, a backslash as \\\\.
+Exit status: 0 split; 1 the file breaks a rule, or no study variable has a weight; 2 a file that cannot be read or is too
+long, or an amount or weights that are not understood.
+";
+
 const EXPLAIN: &str = "\
 bolfrake explain [RULE | values | names]
 
@@ -95,6 +127,7 @@ pub fn of(command: &str) -> &'static str {
         "rows" => ROWS,
         "cell" => CELL,
         "read" => READ,
+        "fee" => FEE,
         "explain" => EXPLAIN,
         _ => ALL,
     }

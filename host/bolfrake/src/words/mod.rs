@@ -68,7 +68,7 @@ impl Words {
         Ok(plain)
     }
 
-    /// The next word; `--name=value` gives the option, and its value next. `-` and `--` are plain, and so is a negative number.
+    /// The next word; `--name=value` gives the option, and its value next. `-` and `--` are plain, and so is a negative number, with a dot or without.
     fn next(&mut self) -> Option<Word> {
         let word = self.left.pop_front()?;
         let text = match word.to_str() {
@@ -77,7 +77,8 @@ impl Words {
             }
             _ => return Some(Word::Plain(word)),
         };
-        if text[1..].bytes().all(|byte| byte.is_ascii_digit()) {
+        let of_number = |byte: u8| byte.is_ascii_digit() || byte == b'.';
+        if text[1..].bytes().all(of_number) {
             return Some(Word::Plain(word));
         }
         match text.split_once('=') {
