@@ -7,14 +7,22 @@ use cases::places_of;
 use cases::whole_of;
 use faults::Fault;
 use faults::judge;
+use fee::Cents;
+use fee::split_places;
 use mztab::cells::locate;
 use mztab::cells::reading;
 use mztab::judged::judge_places;
+use rows::rows;
 ghost use mathlib.Core.Path.{_≡_};
 ghost use Rattle.mztab.specs.Shown.{sought};
 ghost use Rattle.mztab.specs.Judged.{outcome, judged};
 ghost use Rattle.mztab.specs.Readings.{readingOf};
 ghost use Rattle.faults.specs.Records.{outcome as recorded, judged as judgedRecords};
+ghost use Rattle.fee.specs.Amounts.{added, sumOf};
+ghost use Rattle.fee.specs.Places.{plain};
+ghost use Rattle.fee.specs.Split.{outcome as splitAs, splitOf};
+ghost use Rattle.rows.specs.Counted.{counted, rowsIn};
+ghost use Rattle.weights.specs.Weights.{outcome as weighedAs, weighed};
 ghost use Rattle.capi.specs.Answers.{CellAt, ReadAs};
 
 // The judging call over plain places: answers the count of all breaks, and writes those that fit, three places each: rule, line, cell.
@@ -75,4 +83,37 @@ pub extern "C" fn mztab_reading(
     *places = places_of(value);
     *double = double_of(value);
     number_of(value)
+}
+
+// How many rows a section has.
+#[no_mangle]
+pub extern "C" fn mztab_rows(file: &[u8], section: u32, number: &mut u32) -> u32
+    ensures { λ r. ⌜ counted (now (number .exit)) r ≡ rowsIn (now (file .entry)) section ⌝ }
+{
+    rows(file, section, number)
+}
+
+// The sum of two amounts in cents.
+#[no_mangle]
+pub extern "C" fn mztab_add_cents(a: u64, b: u64, number: &mut u32) -> u64
+    ensures { λ r. ⌜ added (now (number .exit)) r ≡ sumOf a b ⌝ }
+{
+    let sum = Cents(a).add(Cents(b), number);
+    sum.0
+}
+
+// A fee over weights, one share to a place.
+#[no_mangle]
+pub extern "C" fn mztab_split_fee(fee: u64, weights: &[u32], shares: &mut [u64], number: &mut u32)
+    ensures { λ _. ⌜ splitAs (now (number .exit)) (now (shares .exit)) ≡ splitOf plain fee (now (weights .entry)) (now (shares .entry)) ⌝ }
+{
+    split_places(fee, weights, shares, number);
+}
+
+// The weights of a file's study variables, one to a place.
+#[no_mangle]
+pub extern "C" fn mztab_weights(file: &[u8], weights: &mut [u32], number: &mut u32)
+    ensures { λ _. ⌜ weighedAs (now (number .exit)) (now (weights .exit)) ≡ weighed (now (file .entry)) (now (weights .entry)) ⌝ }
+{
+    weights::weights(file, weights, number);
 }
