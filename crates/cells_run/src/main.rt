@@ -1,6 +1,8 @@
 // Asks the cell calls the questions of a table on standard input, and prints what they give back. A case ends with the byte 30: lines
 // 'SECTION ROW COLUMN', a line '.', and then the bytes of the file. For each question: the number, the view, the view with
 // the stand-in '-', and the reading with its line and cell.
+use fields::next_field;
+use fields::short_at;
 use mztab::cells::cell;
 use mztab::cells::cell_or;
 use mztab::cells::reading;
@@ -8,51 +10,10 @@ use telling::tell;
 use text::bytes::same_bytes;
 use text::bytes::seek;
 use text::lines::line_at;
-ghost use Prim.Native.Nat.{_≤_, _<_};
+ghost use Prim.Native.Nat.{_≤_};
 ghost use lib.ListN.{length};
 
 const CASE_END: u8 = 30;
-
-const SPACE: u8 = 32;
-
-// A number with one digit more; of more than ten digits the last ten stay.
-fn with_digit(v: u64, digit: u8) -> u64
-    requires { ⌜ v < 10000000000 ⌝ }
-    ensures { λ r. ⌜ r < 10000000000 ⌝ }
-{
-    (v * 10 + digit as u64 % 16) % 10_000_000_000
-}
-
-// The number that digits write.
-fn number(digits: &[u8]) -> u32 {
-    let mut v: u64 = 0;
-    let mut i = 0;
-    while i < digits.len() {
-        v = with_digit(v, digits[i]);
-        i += 1;
-    }
-    (v % 4_294_967_296) as u32
-}
-
-// The number in the field that begins at `at`.
-fn field(line: &[u8], at: usize) -> u32
-    requires { ⌜ at ≤ length (now line) ⌝ }
-{
-    let e = seek(line, at, SPACE);
-    number(&line[at..e])
-}
-
-// Where the field after the next space begins, or the end.
-fn next_field(line: &[u8], at: usize) -> usize
-    requires { ⌜ at ≤ length (now line) ⌝ }
-    ensures { λ r. ⌜ r ≤ length (now (line .entry)) ⌝ }
-{
-    let e = seek(line, at, SPACE);
-    if e < line.len() {
-        return e + 1;
-    }
-    e
-}
 
 fn show(view: &[u8]) {
     io::write_all(1, b" <");
@@ -77,9 +38,9 @@ fn tell_reading(file: &[u8], section: u32, row: u32, column: u32) {
 fn ask(question: &[u8], file: &[u8]) {
     let second = next_field(question, 0);
     let third = next_field(question, second);
-    let section = field(question, 0);
-    let row = field(question, second);
-    let column = field(question, third);
+    let section = short_at(question, 0);
+    let row = short_at(question, second);
+    let column = short_at(question, third);
     let mut refusal: u32 = 9;
     let view = cell(file, section, row, column, &mut refusal);
     io::print_decimal(1, refusal as u64);

@@ -1,12 +1,12 @@
--- `cells_run::number` is safe and ends: every place stays within its slice. Assumes nothing.
-use Prim.Native.Nat.{_-_, _≤_, _<_}
+-- `fields::number` is safe and ends: every place stays within its slice. Assumes nothing.
+use Prim.Native.Nat.{_-_, _≤_}
 use lib.ListN.{length}
 use borrow.Author.Needs.{needs}
-use Rattle.cells_run.proofs.number.Statement.{statement}
-use Rattle.cells_run.proofs.number.Tie as tie
+use Rattle.fields.proofs.number.Statement.{statement}
+use Rattle.fields.proofs.number.Tie as tie
 
 abbrev Inv-loop : tie.InvT-loop
-Inv-loop digits v₀ i₀ v i = (i ≤ length digits) × (v < 10000000000)
+Inv-loop digits v₀ i₀ v i = i ≤ length digits
 
 abbrev μ-loop : tie.MeasureT-loop
 μ-loop digits v₀ i₀ v i = length digits - i
@@ -20,7 +20,6 @@ number-spec =
     (λ c. search needs)
     (λ c. search needs)
     (λ c κs. search needs)
-    (λ c. search needs)
     (λ c. search needs)
     (λ c. search needs)
     (λ c. search needs)
