@@ -656,7 +656,355 @@ static void doubles(void) {
     group("other cases");
 }
 
+/* ---- fees, weights and rows */
+
+#define FEE_LIMIT 100000000000u
+#define HEAVIEST 16777215u
+#define MARK_64 0xDEADBEEFDEADBEEFu
+
+/* A sum, with its outcome. */
+static void sum_is(uint64_t a, uint64_t b, uint32_t number, uint64_t sum, const char *what) {
+    uint32_t n = 77;
+    uint64_t found = mztab_add_cents(a, b, &n);
+    check(n == number, what, n);
+    check(found == sum, what, found);
+}
+
+static void sums(void) {
+    static const struct { uint64_t a, b; uint32_t number; uint64_t sum; } all[] = {
+        {0, 0, 0, 0}, {1, 0, 0, 1}, {12345, 678, 0, 13023}, {4294967295, 1, 0, 4294967296}, {4294967296, 4294967296, 0, 8589934592},
+        {50000000000, 50000000000, 0, 100000000000}, {99999999999, 1, 0, 100000000000}, {100000000000, 0, 0, 100000000000}, {99999999999, 0, 0, 99999999999},
+        {100000000000, 1, 16, 0}, {100000000001, 0, 16, 0}, {99999999999, 2, 16, 0}, {50000000001, 50000000000, 16, 0}, {100000000000, 100000000000, 16, 0},
+        {18446744073709551615u, 0, 16, 0}, {18446744073709551615u, 1, 16, 0}, {18446744073709551615u, 2, 16, 0}, {18446744073709551615u, 100000000000, 16, 0},
+        {18446744073709551615u, 18446744073709551615u, 16, 0}, {9223372036854775808u, 9223372036854775808u, 16, 0}, {18446743973709551616u, 100000000000, 16, 0}};
+    for (size_t i = 0; i < COUNT(all); i++) {
+        sum_is(all[i].a, all[i].b, all[i].number, all[i].sum, "sum");
+        sum_is(all[i].b, all[i].a, all[i].number, all[i].sum, "sum, the other way round");
+    }
+    group("sums of cents");
+}
+
+enum { BESIDE = 8, ROOM = 72 };
+
+static int marked_64(const uint64_t *places, size_t n) {
+    for (size_t i = 0; i < n; i++)
+        if (places[i] != MARK_64) return 0;
+    return 1;
+}
+
+static void mark_64(uint64_t *places, size_t n) {
+    for (size_t i = 0; i < n; i++) places[i] = MARK_64;
+}
+
+/* Two pages, for lists at either edge of one: a place touched outside is a fault. */
+static uint8_t *page_of_weights, *page_of_shares;
+enum { PAGE = 65536 };
+
+/* A split into so many places, among marked ones and at either edge of a page. In a refusal `shares` is of no account: no place is written. */
+static void split_is(uint64_t fee, const uint32_t *weights, size_t n, size_t places, uint32_t number, const uint64_t *shares, const char *what) {
+    uint64_t room[BESIDE + ROOM + BESIDE], *lent = room + BESIDE;
+    uint32_t found = 77;
+    mark_64(room, COUNT(room));
+    mztab_split_fee(fee, weights, n, lent, places, &found);
+    size_t written = number ? 0 : places;
+    check(found == number, what, found);
+    check(number || memcmp(lent, shares, places * sizeof *lent) == 0, what, lent[0]);
+    check(marked_64(room, BESIDE) && marked_64(lent + written, ROOM + BESIDE - written), "places beside the shares", places);
+    for (int high = 0; high < 2; high++) {
+        uint32_t *w = (uint32_t *)(page_of_weights + (high ? PAGE - n * sizeof *weights : 0));
+        uint64_t *s = (uint64_t *)(page_of_shares + (high ? PAGE - places * sizeof *lent : 0));
+        memcpy(w, weights, n * sizeof *weights);
+        mark_64(s, places);
+        found = 77;
+        mztab_split_fee(fee, w, n, s, places, &found);
+        check(found == number, "split at the edge of a page", found);
+        check(number ? marked_64(s, places) : memcmp(s, shares, places * sizeof *s) == 0, "shares at the edge of a page", places);
+        check(memcmp(w, weights, n * sizeof *weights) == 0, "the weights are as they were", n);
+    }
+}
+
+/* 64 weights of one value: the first so many shares, and those after them. */
+static void equal_is(uint64_t fee, uint32_t weight, uint64_t first, size_t count, uint64_t then) {
+    uint32_t weights[64];
+    uint64_t shares[64];
+    for (size_t i = 0; i < 64; i++) {
+        weights[i] = weight;
+        shares[i] = i < count ? first : then;
+    }
+    split_is(fee, weights, 64, 64, 0, shares, "64 equal weights");
+}
+
+static void splits(void) {
+    static const struct { uint64_t fee; size_t n; uint32_t weights[10]; uint64_t shares[10]; } all[] = {
+        /* one weight */
+        {0, 1, {1}, {0}}, {1, 1, {1}, {1}}, {12345, 1, {3}, {12345}}, {FEE_LIMIT, 1, {1}, {100000000000}}, {FEE_LIMIT, 1, {HEAVIEST}, {100000000000}},
+        /* two */
+        {1, 2, {1, 1}, {1, 0}}, {3, 2, {1, 1}, {2, 1}}, {1, 2, {1, 2}, {0, 1}}, {1, 2, {2, 1}, {1, 0}}, {10, 2, {1, 2}, {3, 7}}, {10, 2, {2, 1}, {7, 3}},
+        {5, 2, {1, 3}, {1, 4}}, {7, 2, {1, 3}, {2, 5}}, {99, 2, {1, 99}, {1, 98}}, {10, 2, {1, 99}, {0, 10}}, {95, 2, {1, 9}, {10, 85}}, {95, 2, {9, 1}, {86, 9}},
+        /* three and more */
+        {100, 3, {1, 1, 1}, {34, 33, 33}}, {101, 3, {1, 1, 1}, {34, 34, 33}}, {2, 3, {1, 1, 1}, {1, 1, 0}}, {100, 3, {1, 2, 3}, {17, 33, 50}},
+        {5, 3, {1, 2, 3}, {1, 2, 2}}, {7, 3, {1, 2, 3}, {1, 2, 4}}, {8, 3, {1, 2, 3}, {1, 3, 4}}, {1, 3, {5, 6, 5}, {0, 1, 0}}, {12, 3, {4, 2, 1}, {7, 3, 2}},
+        {14, 4, {1, 2, 3, 4}, {1, 3, 4, 6}}, {11, 4, {1, 1, 1, 1}, {3, 3, 3, 2}}, {10, 7, {9, 9, 9, 9, 9, 9, 9}, {2, 2, 2, 1, 1, 1, 1}},
+        {10, 10, {1, 2, 4, 8, 16, 32, 64, 128, 256, 512}, {0, 0, 0, 0, 0, 0, 1, 1, 3, 5}},
+        /* equal remainders */
+        {2, 2, {1, 3}, {1, 1}}, {2, 2, {3, 1}, {2, 0}}, {3, 3, {1, 3, 2}, {1, 1, 1}}, {3, 3, {3, 1, 2}, {2, 0, 1}}, {3, 3, {2, 3, 1}, {1, 2, 0}},
+        {10, 3, {1, 1, 2}, {3, 2, 5}}, {10, 3, {2, 1, 1}, {5, 3, 2}}, {8, 4, {1, 3, 5, 7}, {1, 2, 2, 3}}, {8, 4, {7, 5, 3, 1}, {4, 3, 1, 0}},
+        {4, 4, {1, 1, 4, 6}, {1, 0, 1, 2}}, {5, 4, {2, 1, 2, 1}, {2, 1, 1, 1}},
+        /* zero weights between others */
+        {10, 2, {0, 1}, {0, 10}}, {1, 3, {0, 0, 1}, {0, 0, 1}}, {11, 5, {0, 1, 0, 1, 0}, {0, 6, 0, 5, 0}}, {5, 6, {0, 1, 0, 2, 0, 3}, {0, 1, 0, 2, 0, 2}},
+        {3, 5, {0, 2, 1, 0, 3}, {0, 1, 1, 0, 1}}, {0, 3, {0, 1, 0}, {0, 0, 0}},
+        /* the largest fee and weights */
+        {FEE_LIMIT, 2, {1, 2}, {33333333333, 66666666667}}, {FEE_LIMIT, 3, {1, 1, 1}, {33333333334, 33333333333, 33333333333}},
+        {FEE_LIMIT, 7, {1, 1, 1, 1, 1, 1, 1}, {14285714286, 14285714286, 14285714286, 14285714286, 14285714286, 14285714285, 14285714285}},
+        {FEE_LIMIT, 2, {HEAVIEST, 1}, {99999994040, 5960}}, {FEE_LIMIT, 3, {HEAVIEST, HEAVIEST, 1}, {49999998510, 49999998510, 2980}},
+        {1, 2, {HEAVIEST - 1, HEAVIEST}, {0, 1}}, {1, 2, {HEAVIEST, HEAVIEST - 1}, {1, 0}}};
+    for (size_t i = 0; i < COUNT(all); i++) split_is(all[i].fee, all[i].weights, all[i].n, all[i].n, 0, all[i].shares, "split");
+    equal_is(0, 1, 0, 0, 0);
+    equal_is(1, 1, 1, 1, 0);
+    equal_is(63, 5, 1, 63, 0);
+    equal_is(64, 1, 1, 64, 0);
+    equal_is(65, 1, 2, 1, 1);
+    equal_is(100, 7, 2, 36, 1);
+    equal_is(FEE_LIMIT, HEAVIEST, 1562500000, 64, 0);
+    equal_is(FEE_LIMIT - 1, HEAVIEST, 1562500000, 63, 1562499999);
+    equal_is(FEE_LIMIT - 63, HEAVIEST, 1562500000, 1, 1562499999);
+
+    /* weights 1 to 64, 2,080 in all: 2,079 cents leave the heaviest short, 2,081 give it one more; one cent is its own */
+    uint32_t rising[64];
+    uint64_t shares[64] = {0};
+    for (uint32_t i = 0; i < 64; i++) rising[i] = i + 1;
+    split_is(0, rising, 64, 64, 0, shares, "rising weights, no cent");
+    shares[63] = 1;
+    split_is(1, rising, 64, 64, 0, shares, "rising weights, one cent");
+    for (uint32_t i = 0; i < 64; i++) shares[i] = i + 1;
+    split_is(2080, rising, 64, 64, 0, shares, "rising weights, exactly");
+    shares[63] = 65;
+    split_is(2081, rising, 64, 64, 0, shares, "rising weights, one more");
+    shares[63] = 63;
+    split_is(2079, rising, 64, 64, 0, shares, "rising weights, one less");
+    group("splits");
+}
+
+static void refused_splits(void) {
+    /* so many weights, all of one value but the last; 15 before 16 before 17 */
+    static const struct { uint32_t number; uint64_t fee; size_t n, places; uint32_t weight, last; } all[] = {
+        {15, 1, 0, 0, 1, 1}, {15, 1, 0, 1, 1, 1}, {15, 1, 0, 64, 1, 1}, {15, 1, 65, 65, 1, 1}, {15, 1, 65, 64, 1, 1}, {15, 1, 65, 0, 1, 1}, {15, 1, 70, 70, 1, 1},
+        {15, 1, 1, 0, 1, 1}, {15, 1, 1, 2, 1, 1}, {15, 1, 1, 65, 1, 1}, {15, 1, 2, 1, 1, 1}, {15, 1, 2, 3, 1, 1}, {15, 1, 64, 63, 1, 1}, {15, 1, 64, 65, 1, 1},
+        {15, 1, 64, 0, 1, 1}, {15, 0, 63, 64, 1, 1},
+        {16, FEE_LIMIT + 1, 1, 1, 1, 1}, {16, FEE_LIMIT + 1, 64, 64, 1, 1}, {16, 18446744073709551615u, 3, 3, 1, 1}, {16, 18446744069414584320u, 3, 3, 1, 1},
+        {16, 1, 1, 1, 1, HEAVIEST + 1}, {16, 1, 1, 1, 1, 4294967295u}, {16, 1, 3, 3, 1, HEAVIEST + 1}, {16, 0, 64, 64, 0, HEAVIEST + 1},
+        {16, 1, 3, 3, HEAVIEST + 1, 1}, {16, 9, 2, 2, 4294967295u, 1}, {16, 9, 64, 64, 67108864, 67108864}, {16, FEE_LIMIT, 2, 2, 2147483648u, 2147483648u},
+        {17, 1, 1, 1, 0, 0}, {17, 1, 2, 2, 0, 0}, {17, FEE_LIMIT, 64, 64, 0, 0}, {17, 0, 1, 1, 0, 0}, {17, 0, 64, 64, 0, 0},
+        {15, FEE_LIMIT + 1, 0, 0, 1, 1}, {15, FEE_LIMIT + 1, 2, 3, 1, 1}, {15, 18446744073709551615u, 65, 65, 4294967295u, 4294967295u}, {15, 1, 1, 0, 1, HEAVIEST + 1},
+        {15, 1, 1, 2, 0, 0}, {15, 1, 65, 65, 0, 0}, {16, FEE_LIMIT + 1, 1, 1, 0, 0}, {16, FEE_LIMIT + 1, 64, 64, 0, 0}, {15, FEE_LIMIT + 1, 65, 65, 0, 0},
+        {15, 18446744073709551615u, 2, 1, 0, 0}};
+    for (size_t i = 0; i < COUNT(all); i++) {
+        uint32_t weights[ROOM];
+        for (size_t k = 0; k < ROOM; k++) weights[k] = k + 1 == all[i].n ? all[i].last : all[i].weight;
+        split_is(all[i].fee, weights, all[i].n, all[i].places, all[i].number, NULL, "refused split");
+    }
+    group("refused splits");
+}
+
+/* The first n bytes of a file, weighed into 64 places among marked ones; `weights` are those of study variables 1 to 64. */
+static void weights_are(const uint8_t *f, size_t n, uint32_t number, const uint32_t *weights, const char *what) {
+    uint32_t room[BESIDE + 64 + BESIDE], *lent = room + BESIDE, found = 77;
+    mark(room, COUNT(room));
+    mztab_weights(f, n, lent, 64, &found);
+    check(found == number, what, found);
+    check(number ? marked(lent, 64) : memcmp(lent, weights, 64 * sizeof *lent) == 0, what, 64);
+    check(marked(room, BESIDE) && marked(lent + 64, BESIDE), "places beside the weights", n);
+}
+
+/* Lists that have not 64 places, the first so many: no place is written. */
+static void lists_refused(const uint8_t *f, size_t n, size_t lists, uint32_t number, const char *what) {
+    static const size_t lengths[] = {63, 65, 0, 1, 2, 62, 66, 128, 200};
+    for (size_t i = 0; i < lists; i++) {
+        uint32_t room[200 + BESIDE], found = 77;
+        mark(room, COUNT(room));
+        mztab_weights(f, n, room, lengths[i], &found);
+        check(found == number, what, found);
+        check(marked(room, COUNT(room)), what, lengths[i]);
+    }
+}
+
+/* The metadata of an accepted file, and 64 study variables. */
+static void put_metadata(void) {
+    char line[64];
+    put("MTD\tmzTab-version\t1.0\nMTD\tmzTab-mode\tSummary\nMTD\tmzTab-type\tQuantification\nMTD\tdescription\td\nMTD\tms_run[1]-location\tfile:///a.mzML\n");
+    for (uint32_t i = 1; i <= 64; i++) {
+        sprintf(line, "MTD\tstudy_variable[%u]-description\tv\n", i);
+        put(line);
+    }
+}
+
+#define REQUIRED_COLUMNS "PRH\taccession\tdescription\tdatabase\tsearch_engine"
+#define VARIABLE "protein_abundance_study_variable"
+
+static void weighing(void) {
+    /* what stands after the metadata, and the weights of study variables 1, 2, 3, 10 and 64: the others have none */
+    static const struct { const char *text; uint32_t number, weights[5]; } all[] = {
+        {"", 0, {0}},
+        {REQUIRED_COLUMNS "\nPRT\ta\tb\tc\tnull\n", 0, {0}},
+        {REQUIRED_COLUMNS "\t" VARIABLE "[1]\n", 0, {0}},
+        {REQUIRED_COLUMNS "\t" VARIABLE "[1]\nPRT\ta\tb\tc\tnull\t1.5\nPRT\ta\tb\tc\tnull\tnull\nPRT\ta\tb\tc\tnull\t0\n", 0, {2}},
+        {REQUIRED_COLUMNS "\t" VARIABLE "[1]\r\nPRT\ta\tb\tc\tnull\tNaN\r\n\r\nCOM\tPRT\nPRT\ta\tb\tc\tnull\tnull\r\nPRT\ta\tb\tc\tnull\tINF", 0, {2}},
+        {"PRH\t" VARIABLE "[64]\taccession\t" VARIABLE "[2]\tdescription\tdatabase\tsearch_engine\t" VARIABLE "[10]\t" VARIABLE "[1]\n"
+         "PRT\t1\ta\tnull\tb\tc\tnull\t-1\tnull\nPRT\t2\ta\t2\tb\tc\tnull\tnull\tnull\nPRT\t3\ta\t3\tb\tc\tnull\tnull\tnull", 0, {0, 2, 0, 1, 3}},
+        {REQUIRED_COLUMNS "\tprotein_abundance_stdev_study_variable[1]\t" VARIABLE "[3]\topt_" VARIABLE "[2]\nPRT\ta\tb\tc\tnull\t1\tnull\t1\nPRT\ta\tb\tc\tnull\tnull\t1\tnull\n",
+         0, {0, 0, 1}},
+        {REQUIRED_COLUMNS "\t" VARIABLE "[2]\nPRT\ta\tb\tc\tnull\t1\nPEH\tsequence\taccession\tcharge\tmass_to_charge\tpeptide_abundance_study_variable[1]\n"
+         "PEP\ta\tb\t1\t1\t1\nPEP\ta\tb\t1\t1\t1\nSMH\tidentifier\tcharge\tsmallmolecule_abundance_study_variable[3]\nSML\ta\t1\t1\n", 0, {0, 1}},
+        {"PEH\tsequence\taccession\tcharge\tmass_to_charge\tpeptide_abundance_study_variable[1]\nPEP\ta\tb\t1\t1\t1\n", 0, {0}},
+        /* not accepted */
+        {REQUIRED_COLUMNS "\t" VARIABLE "[1]\nPRT\ta\tb\tc\tnull\tNULL\n", 7, {0}},
+        {REQUIRED_COLUMNS "\t" VARIABLE "[1]\nPRT\ta\tb\tc\tnull\t\n", 7, {0}},
+        {REQUIRED_COLUMNS "\t" VARIABLE "[1]\nPRT\ta\tb\tc\tnull\tnull\r", 7, {0}},
+        {REQUIRED_COLUMNS "\t" VARIABLE "[65]\nPRT\ta\tb\tc\tnull\t1\n", 7, {0}},
+        {REQUIRED_COLUMNS "\t" VARIABLE "[1]\t" VARIABLE "[1]\nPRT\ta\tb\tc\tnull\t1\t1\n", 7, {0}},
+        {REQUIRED_COLUMNS "\t" VARIABLE "[1]\nPRT\ta\tb\tc\tnull\t1\nMTD\ttitle\tt\n", 7, {0}},
+        {REQUIRED_COLUMNS "\t" VARIABLE "[1]\nPRT\ta\tb\tc\tnull\t1\nx", 7, {0}}};
+    static const size_t places[5] = {0, 1, 2, 9, 63};
+    uint8_t *p = page(PAGE);
+    for (size_t i = 0; i < COUNT(all); i++) {
+        uint32_t weights[64] = {0};
+        for (size_t k = 0; k < 5; k++) weights[places[k]] = all[i].weights[k];
+        begin(LIMIT);
+        put_metadata();
+        put(all[i].text);
+        weights_are(file, at, all[i].number, weights, "weights");
+        lists_refused(file, at, 9, all[i].number ? 7 : 15, "list of weights");
+        /* the file and the list at the upper edge of a page */
+        uint32_t *list = (uint32_t *)(page_of_weights + PAGE) - 64, number = 77;
+        memcpy(p + PAGE - at, file, at);
+        mark(list, 64);
+        mztab_weights(p + PAGE - at, at, list, 64, &number);
+        check(number == all[i].number, "weights at the edge of a page", i);
+        check(number ? marked(list, 64) : memcmp(list, weights, sizeof weights) == 0, "list at the edge of a page", i);
+        check(memcmp(p + PAGE - at, file, at) == 0, "the file is as it was", i);
+    }
+    munmap(p - PAGE, 3 * (size_t)PAGE);
+    weights_are((const uint8_t *)EXAMPLE, sizeof EXAMPLE - 1, 7, NULL, "weights of the example");
+    weights_are((const uint8_t *)EXAMPLE, 0, 7, NULL, "weights of no bytes");
+    lists_refused((const uint8_t *)EXAMPLE, sizeof EXAMPLE - 1, 9, 7, "list of weights, the example");
+    group("weights");
+}
+
+/* The rows of the first n bytes of a file in each section, and of sections that are none. */
+static void rows_are(const uint8_t *f, size_t n, uint32_t number, const uint32_t *rows, const char *what) {
+    static const uint32_t none[] = {0, 5, 6, 255, 256, 257, 0x7FFFFFFF, 0x80000000, 0x80000001, 0xFFFFFFFF};
+    for (uint32_t section = 1; section <= 4; section++) {
+        uint32_t found = 77, count = mztab_rows(f, n, section, &found);
+        check(found == number && count == (number ? 0 : rows[section - 1]), what, section);
+    }
+    for (size_t i = 0; i < COUNT(none); i++) {
+        uint32_t found = 77, count = mztab_rows(f, n, none[i], &found);
+        check(found == (number ? number : 2) && count == 0, what, none[i]);
+    }
+}
+
+static void row_counts(void) {
+    static const struct { const char *text; uint32_t rows[4]; } all[] = {
+        {"", {0}}, {"\n", {0}}, {"PRT", {1}}, {"PRT\n", {1}}, {"PRT\r\n", {1}}, {"PRT\r", {0}}, {"PRT\t", {1}}, {"PR", {0}}, {"\nPRT", {1}}, {"prt\nPRTx\nPRT \n PRT\n\tPRT\n", {0}},
+        {"COM\tPRT\nPRH\tPRT\nMTD\tPRT\tPRT\n", {0}}, {"PRT\rPRT\nPRT\ta\rPRT\n", {1}},
+        {"SML\ta\r\nCOM\nPSM\tb\nPEP\tc\n\nPRT\td\nSMH\te\nPSH\tf\nPEH\tg\nPRH\th\nPRT\ti\nSML\tj\nSML\tk", {2, 1, 1, 3}}};
+    for (size_t i = 0; i < COUNT(all); i++) rows_are((const uint8_t *)all[i].text, strlen(all[i].text), 0, all[i].rows, "rows");
+    rows_are((const uint8_t *)EXAMPLE, sizeof EXAMPLE - 1, 0, (const uint32_t[]){2, 0, 0, 0}, "rows of the example");
+    group("rows");
+}
+
+/* A file as long as a file can be, its last row at its very end, and one byte longer. */
+static void long_tables(void) {
+    static const char last[] = "\nPRT\ta\ta\ta\tnull\t1\t1\tnull";
+    uint32_t weights[64] = {0};
+    begin(LIMIT + 1);
+    put_metadata();
+    put(REQUIRED_COLUMNS "\t" VARIABLE "[7]\t" VARIABLE "[5]\t" VARIABLE "[6]\n");
+    /* more rows than 16 bits count */
+    uint32_t pairs = over("PRT\ta\ta\ta\tnull\t1\tnull\tnull\nPRT\ta\ta\ta\tnull\t1\t0\tnull\n", (size_t)1 << 21);
+    put("COM\t");
+    fill(' ', LIMIT + 1 - sizeof last);
+    put(last);
+    put("\n");
+    uint32_t rows[4] = {2 * pairs + 1, 0, 0, 0};
+    weights[6] = 2 * pairs + 1;
+    weights[4] = pairs + 1;
+    weights_are(file, LIMIT, 0, weights, "the longest file");
+    lists_refused(file, LIMIT, 2, 15, "list of weights, the longest file");
+    rows_are(file, LIMIT, 0, rows, "rows of the longest file");
+    weights_are(file, LIMIT + 1, 1, NULL, "one byte more");
+    lists_refused(file, LIMIT + 1, 9, 1, "list of weights, one byte more");
+    rows_are(file, LIMIT + 1, 1, NULL, "rows, one byte more");
+    /* `nulL` is no decimal */
+    file[LIMIT - 1] = 'L';
+    weights_are(file, LIMIT, 7, NULL, "the longest file, broken by its last byte");
+    lists_refused(file, LIMIT, 1, 7, "list of weights, broken by the last byte");
+    rows_are(file, LIMIT, 0, rows, "rows of the broken one");
+    group("weights of the longest file");
+}
+
 static size_t most = LIMIT; /* the bytes of the hostile files */
+
+/* The lines whose code is PRT: it stands before a tab, an end of line, or the end. */
+static uint32_t protein_rows(void) {
+    uint32_t count = 0;
+    for (size_t k = 0; k + 3 <= most;) {
+        const uint8_t *after = file + k + 3, *end = memchr(file + k, 10, most - k);
+        if (memcmp(file + k, "PRT", 3) == 0 && (k + 3 == most || *after == 9 || *after == 10 || (*after == 13 && end == after + 1))) count++;
+        if (!end) break;
+        k = (size_t)(end - file) + 1;
+    }
+    return count;
+}
+
+/* A hostile file is not accepted, and its rows are counted still. */
+static void weigh_hostile(const char *name) {
+    uint32_t number = 77, rows = mztab_rows(file, most, 1, &number);
+    check(number == 0 && rows == protein_rows(), name, rows);
+    weights_are(file, most, 7, NULL, name);
+}
+
+/* 256 cells, the widest header: 64 study variables, and optional columns after them. */
+static void wide_name(char *s, uint32_t k) {
+    if (k < 4) strcpy(s, REQUIRED[k]);
+    else if (k < 68) sprintf(s, VARIABLE "[%u]", k - 3);
+    else opt_name(s, k);
+}
+
+/* Study variables 1, 3, 5 .. have a value in every row, the others in none. */
+static void wide_cell(char *s, uint32_t k) {
+    strcpy(s, k == 0 ? "a" : k >= 4 && k < 68 && k % 2 == 0 ? "0" : "null");
+}
+
+/* Accepted files that nobody sends. */
+static void weigh_accepted(void) {
+    uint32_t weights[64] = {0};
+    begin(most);
+    put_metadata();
+    fill('\n', most);
+    weights_are(file, most, 0, weights, "metadata and LF alone");
+    begin(most);
+    put_metadata();
+    put(REQUIRED_COLUMNS "\t" VARIABLE "[64]\nPRT\ta\tb\tc\tnull\t");
+    fill('7', most);
+    weights[63] = 1;
+    weights_are(file, most, 0, weights, "an abundance of digits");
+    begin(most);
+    put_metadata();
+    put(line_of("PRH", 255, wide_name));
+    uint32_t rows = over(line_of("PRT", 255, wide_cell), most);
+    fill('\n', most);
+    for (uint32_t i = 0; i < 64; i++) weights[i] = i % 2 ? 0 : rows;
+    weights_are(file, most, 0, weights, "rows of 256 cells");
+    begin(most);
+    put_metadata();
+    put(REQUIRED_COLUMNS "\t" VARIABLE "[1]\n");
+    rows = over("PRT\ta\ta\ta\tnull\t1\n", most);
+    fill('\n', most);
+    memset(weights, 0, sizeof weights);
+    weights[0] = rows;
+    weights_are(file, most, 0, weights, "short rows");
+}
 
 static void hostile(void) {
     for (int i = 0; i < FILES; i++) {
@@ -669,7 +1017,9 @@ static void hostile(void) {
         check(places[0] == w.rule && places[1] == w.line && places[2] == w.cell, HOSTILE[i].name, places[0]);
         check(marked(places + 9, 3), HOSTILE[i].name, 0);
         if (i % 8 == 0) check(same_records(most / 16, 3), HOSTILE[i].name, 3);
+        weigh_hostile(HOSTILE[i].name);
     }
+    weigh_accepted();
     /* the cell calls on the same stack: the last cell of one row */
     tabs(LIMIT);
     memcpy(file, "PRT", 3);
@@ -707,6 +1057,14 @@ int main(int words, char **word) {
     views();
     refusals();
     doubles();
+    page_of_weights = page(PAGE);
+    page_of_shares = page(PAGE);
+    sums();
+    splits();
+    refused_splits();
+    weighing();
+    row_counts();
+    long_tables();
     on_small_stack();
     printf("%u checks, %u failed\n", checks, failed);
     return failed != 0;

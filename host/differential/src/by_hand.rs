@@ -11,6 +11,9 @@ pub fn files() -> Vec<(String, Vec<u8>)> {
     for (k, case) in cases::cells::all().into_iter().enumerate() {
         all.push((format!("cells, case {k}"), case.file));
     }
+    for case in cases::weights::all() {
+        all.push((case.label.to_string(), case.file));
+    }
     for (value, _) in cases::kinds::all() {
         all.push((
             format!("value b\"{}\"", value.escape_ascii()),

@@ -1,8 +1,12 @@
 //! One file, judged and read by both.
 
+use std::collections::BTreeMap;
+
 use independent::Reading;
 use mztab::{raw, Break, Value};
 use samples::Draws;
+
+use crate::weights;
 
 /// What a place holds that no break fills.
 const MARK: u32 = 0xdead_beef;
@@ -21,6 +25,11 @@ pub struct Tried {
     pub cells: u64,
     /// How many breaks of each rule.
     pub rules: [u64; 22],
+    /// Accepted files that have a weight.
+    pub weighed: u64,
+    /// How many splits by the number that was answered.
+    pub splits: BTreeMap<u32, u64>,
+    pub sums: u64,
 }
 
 /// Nothing where both say the same, else both answers in words.
@@ -29,7 +38,8 @@ pub fn compare(file: &[u8], draws: &mut Draws, tried: &mut Tried) -> Result<(), 
     let file: Box<[u8]> = file.into();
     tried.files += 1;
     judging(&file, draws, tried)?;
-    cells(&file, draws, tried)
+    cells(&file, draws, tried)?;
+    weights::compare(&file, draws, tried)
 }
 
 fn judging(file: &[u8], draws: &mut Draws, tried: &mut Tried) -> Result<(), String> {

@@ -24,15 +24,34 @@ pub fn near_values() -> Vec<Vec<u8>> {
         .collect()
 }
 
-/// A file of any sort.
+/// A file of any sort. One in seven is right and has abundances of study variables.
 pub fn file(near: &[Vec<u8>], draws: &mut Draws) -> Vec<u8> {
+    let weighed = draws.once_in(7);
     let mut source = Source::new(near, draws);
+    if weighed {
+        source.wrong = 0;
+        source.variables = source.study_variables();
+        return source.file();
+    }
+    if source.draws.once_in(6) {
+        source.variables = source.study_variables();
+    }
     let mut file = source.file();
     if !source.draws.once_in(3) {
         damage(&mut file, draws);
     }
     file
 }
+
+/// A column: its name, its kind, and how often its cells are `null`: once in so many times, 0 for never.
+struct Column {
+    name: Vec<u8>,
+    kind: char,
+    null: usize,
+}
+
+/// How often cells are `null` where nothing else is said.
+const NULL: usize = 6;
 
 struct Source<'d> {
     near: &'d [Vec<u8>],
@@ -43,6 +62,8 @@ struct Source<'d> {
     returns: usize,
     /// The keys so far; a file that is to be right has none twice.
     keys: HashSet<Vec<u8>>,
+    /// The study variables that have abundances of proteins, in the order of their columns.
+    variables: Vec<usize>,
     out: Vec<u8>,
 }
 
@@ -56,6 +77,7 @@ impl<'d> Source<'d> {
             wrong,
             returns,
             keys: HashSet::new(),
+            variables: Vec::new(),
             out: Vec::new(),
         }
     }
@@ -64,10 +86,24 @@ impl<'d> Source<'d> {
         self.wrong > 0 && self.draws.once_in(self.wrong)
     }
 
+    /// One to 64 of them, mostly few, in any order.
+    fn study_variables(&mut self) -> Vec<usize> {
+        let mut all: Vec<usize> = (1..=64).collect();
+        let count = match self.draws.below(40) {
+            0 => 64,
+            1 => self.draws.below(64) + 1,
+            _ => self.draws.below(5) + 1,
+        };
+        (0..count)
+            .map(|_| all.swap_remove(self.draws.below(all.len())))
+            .collect()
+    }
+
     fn file(&mut self) -> Vec<u8> {
         self.metadata();
         for section in 0..4 {
-            if self.draws.once_in(2) {
+            let weighed = section == 0 && !self.variables.is_empty();
+            if weighed || self.draws.once_in(2) {
                 self.section(section);
             }
         }
@@ -80,6 +116,9 @@ impl<'d> Source<'d> {
         }
         if self.draws.once_in(4) {
             self.out.pop();
+            if self.wrong == 0 && self.out.ends_with(b"\r") {
+                self.out.pop();
+            }
         }
         std::mem::take(&mut self.out)
     }
@@ -120,6 +159,24 @@ impl<'d> Source<'d> {
         }
         for _ in 0..self.draws.below(8) {
             self.metadata_line();
+        }
+        for i in self.variables.clone() {
+            if !self.slips() {
+                self.declared(i);
+            }
+        }
+    }
+
+    /// A line that declares a study variable.
+    fn declared(&mut self, i: usize) {
+        let (end, value) = match self.draws.below(3) {
+            0 => ("description", "v"),
+            1 => ("assay_refs", "assay[1]"),
+            _ => ("sample_refs", "sample[1]"),
+        };
+        let key = format!("study_variable[{i}]-{end}").into_bytes();
+        if self.keys.insert(key.clone()) {
+            self.end_line(&[b"MTD".to_vec(), key, value.into()]);
         }
     }
 
@@ -174,36 +231,58 @@ impl<'d> Source<'d> {
 
     fn section(&mut self, section: usize) {
         let (letter, header, row) = SECTIONS[section];
-        let mut columns: Vec<(Vec<u8>, char)> = Vec::new();
+        let mut columns: Vec<Column> = Vec::new();
         for name in names::required(section as u32 + 1) {
             if !self.slips() {
                 let known = names::column(section as u32 + 1, name.as_bytes());
-                columns.push((
-                    name.as_bytes().to_vec(),
-                    known.map_or('T', |known| known.kind),
-                ));
+                columns.push(Column {
+                    name: name.as_bytes().to_vec(),
+                    kind: known.map_or('T', |known| known.kind),
+                    null: NULL,
+                });
             }
         }
         for _ in 0..self.draws.below(8) {
             let (sections, pattern, kind, _) = COLUMNS[self.draws.below(COLUMNS.len())];
             if sections.contains(letter) || self.slips() {
                 let name = self.name(pattern);
-                if !columns.iter().any(|(other, _)| *other == name) || self.slips() {
-                    columns.push((name, kind));
-                }
+                self.column(name, kind, NULL, &mut columns);
             }
+        }
+        if section == 0 {
+            self.abundances(&mut columns);
         }
         self.options(&mut columns);
         let mut cells = vec![header.as_bytes().to_vec()];
-        cells.extend(columns.iter().map(|(name, _)| name.clone()));
+        cells.extend(columns.iter().map(|column| column.name.clone()));
         self.end_line(&cells);
         for _ in 0..self.draws.below(10) {
             self.row(row, &columns);
         }
     }
 
+    /// One more column, unless one of its name is there.
+    fn column(&mut self, name: Vec<u8>, kind: char, null: usize, columns: &mut Vec<Column>) {
+        if !columns.iter().any(|other| other.name == name) || self.slips() {
+            columns.push(Column { name, kind, null });
+        }
+    }
+
+    /// The abundances of the study variables, some after the other columns and some between them.
+    fn abundances(&mut self, columns: &mut Vec<Column>) {
+        for i in self.variables.clone() {
+            let name = format!("protein_abundance_study_variable[{i}]");
+            let null = [0, 1, 2, 2, 3, NULL][self.draws.below(6)];
+            self.column(name.into_bytes(), 'D', null, columns);
+            if self.draws.once_in(2) {
+                let (at, last) = (self.draws.below(columns.len()), columns.len() - 1);
+                columns.swap(at, last);
+            }
+        }
+    }
+
     /// Columns that begin `opt_`: few, or so many that the header is as wide as it may be, or wider.
-    fn options(&mut self, columns: &mut Vec<(Vec<u8>, char)>) {
+    fn options(&mut self, columns: &mut Vec<Column>) {
         let count = match self.draws.below(60) {
             0 => (255 - columns.len()) + self.draws.below(3),
             k => k % 4,
@@ -211,10 +290,16 @@ impl<'d> Source<'d> {
         for k in 0..count {
             let name = if self.slips() {
                 "opt_".to_string()
+            } else if self.draws.once_in(8) {
+                format!("opt_protein_abundance_study_variable[{}]", k + 1)
             } else {
                 format!("opt_{k}")
             };
-            columns.push((name.into_bytes(), 'T'));
+            columns.push(Column {
+                name: name.into_bytes(),
+                kind: 'T',
+                null: NULL,
+            });
         }
         if self.slips() && !columns.is_empty() {
             let (a, b) = (
@@ -225,11 +310,11 @@ impl<'d> Source<'d> {
         }
     }
 
-    fn row(&mut self, code: &str, columns: &[(Vec<u8>, char)]) {
+    fn row(&mut self, code: &str, columns: &[Column]) {
         let mut cells = vec![code.as_bytes().to_vec()];
-        for (_, kind) in columns {
-            let null = *kind != 'K' && self.draws.once_in(6);
-            let cell = if null {
+        for Column { kind, null, .. } in columns {
+            let missing = *kind != 'K' && *null > 0 && self.draws.once_in(*null);
+            let cell = if missing {
                 b"null".to_vec()
             } else {
                 self.value(*kind, '-')
@@ -267,7 +352,7 @@ impl<'d> Source<'d> {
             'L' => self.many("|", Source::decimal).into_bytes(),
             'N' => format!("{}|{}", self.decimal(), self.decimal()).into_bytes(),
             'P' => self.parameter().into_bytes(),
-            'Q' => self.many("|", Source::parameter).into_bytes(),
+            'Q' => self.many("|", Source::listed_parameter).into_bytes(),
             'r' => format!("{word}{}", self.index()).into_bytes(),
             'l' => {
                 let comma = self.draws.one_of(&[",", ", ", ",   "]);
@@ -318,6 +403,16 @@ impl<'d> Source<'d> {
             1 => "NaN".to_string(),
             2 => format!("{}{}", self.sign(), self.digits(18)),
             _ => format!("{}{}.{}", self.sign(), self.digits(7), self.digits(10)),
+        }
+    }
+
+    /// A parameter of a list. In a file that is to be right it holds no bar outside marks, which would end it.
+    fn listed_parameter(&mut self) -> String {
+        loop {
+            let parameter = self.parameter();
+            if self.wrong > 0 || !parameter.contains("a]|b") {
+                return parameter;
+            }
         }
     }
 

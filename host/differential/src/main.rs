@@ -1,5 +1,6 @@
-//! Compares the library, through its binding, with the independent reading of the paper: every break, every place of the lent list, and
-//! every cell, on files written by hand, hostile ones, and files drawn by a grammar, most of them damaged.
+//! Compares the library, through its binding, with the independent reading of the paper: every break, every place of the lent list,
+//! every cell, the rows and the weights, on files written by hand, hostile ones, and files drawn by a grammar, most of them damaged; and
+//! fees that are split, by hand and drawn, some beside each drawn file.
 //!
 //! `differential [--seed S] [--from K] [--count N] [--sample M]`: N drawn files, beside the hostile ones and every M-th of those written by
 //! hand, else all. With `--from` the drawn files K to K + N - 1 alone, so that a run can be cut into parts. The same seed draws the same files.
@@ -9,7 +10,9 @@
 mod by_hand;
 mod compare;
 mod damage;
+mod fees;
 mod grammar;
+mod weights;
 
 use std::env;
 use std::process::ExitCode;
@@ -21,6 +24,10 @@ const SEED: u64 = 1;
 const COUNT: u64 = 10_000;
 /// So many drawn files must break every rule.
 const MANY: u64 = 4_000;
+/// Of so many drawn files one at least must be accepted and have weights.
+const WEIGHED: u64 = 10;
+/// So many splits are drawn beside each file.
+const SPLITS: usize = 2;
 /// So many bytes have the hostile files.
 const HOSTILE: [usize; 2] = [10_000, 40_000];
 /// After so many differences no more are looked for.
@@ -44,6 +51,7 @@ fn main() -> ExitCode {
     run.drawn(&options);
     if options.count >= MANY {
         run.every_rule();
+        run.every_number();
     }
     if run.different == 0 {
         ExitCode::SUCCESS
@@ -56,6 +64,9 @@ fn main() -> ExitCode {
 #[derive(Default)]
 struct Run {
     tried: Tried,
+    /// How many files were drawn, and how many of these are accepted and have weights.
+    drawn: u64,
+    weighed: u64,
     different: u32,
 }
 
@@ -64,6 +75,8 @@ impl Run {
         for (label, file) in by_hand::files().into_iter().step_by(options.sample) {
             self.try_one(&label, &file, &mut Draws::new(options.seed));
         }
+        let fees = fees::by_hand(&mut self.tried);
+        self.note("a fee by hand", fees);
         println!(
             "differential: {} files by hand, {} differences",
             self.tried.files, self.different
@@ -93,27 +106,40 @@ impl Run {
     fn drawn(&mut self, options: &Options) {
         let near = grammar::near_values();
         let from = options.from.unwrap_or(0);
+        let weighed_before = self.tried.weighed;
         for k in from..from.saturating_add(options.count) {
             // Each file has draws of its own, so that one can be drawn again without those before it.
             let mut draws = Draws::new(options.seed ^ k.wrapping_mul(0x2545_f491_4f6c_dd1d));
             let file = grammar::file(&near, &mut draws);
-            self.try_one(
-                &format!("seed {}, file {k}", options.seed),
-                &file,
-                &mut draws,
-            );
+            let label = format!("seed {}, file {k}", options.seed);
+            self.try_one(&label, &file, &mut draws);
+            self.try_fees(&label, &mut draws);
         }
+        self.drawn = options.count;
+        self.weighed = self.tried.weighed - weighed_before;
+        self.print(options.seed, from);
+    }
+
+    fn print(&self, seed: u64, from: u64) {
         let Tried {
             files,
             accepted,
             breaks,
             lists,
             cells,
+            weighed,
+            sums,
             ..
         } = self.tried;
+        let splits: Vec<String> = (self.tried.splits.iter())
+            .map(|(number, count)| format!("{count} with {number}"))
+            .collect();
         println!(
-            "differential: {files} files tried (seed {}, drawn from {from} on), {accepted} accepted; {breaks} breaks, {lists} lists and {cells} cells compared; {} differences",
-            options.seed, self.different
+            "differential: {files} files tried (seed {seed}, drawn from {from} on), {accepted} accepted, {weighed} of them with weights, {} of these drawn; \
+             {breaks} breaks, {lists} lists and {cells} cells compared; splits {}, and {sums} sums; {} differences",
+            self.weighed,
+            splits.join(", "),
+            self.different
         );
     }
 
@@ -122,9 +148,26 @@ impl Run {
         if self.different == ENOUGH {
             return;
         }
-        if let Err(difference) = compare(file, draws, &mut self.tried) {
-            println!("differential: DIFFERENCE, {label}: {difference}");
+        let answer = compare(file, draws, &mut self.tried);
+        let differs = answer.is_err();
+        self.note(label, answer);
+        if differs {
             println!("the file: b\"{}\"", file.escape_ascii());
+        }
+    }
+
+    fn try_fees(&mut self, label: &str, draws: &mut Draws) {
+        if self.different == ENOUGH {
+            return;
+        }
+        let answer = fees::drawn(SPLITS, draws, &mut self.tried);
+        self.note(label, answer);
+    }
+
+    /// Prints and counts a difference.
+    fn note(&mut self, label: &str, answer: Result<(), String>) {
+        if let Err(difference) = answer {
+            println!("differential: DIFFERENCE, {label}: {difference}");
             self.different += 1;
         }
     }
@@ -134,6 +177,25 @@ impl Run {
         for (rule, broken) in self.tried.rules.iter().enumerate().skip(1) {
             if *broken == 0 {
                 println!("differential: no file breaks rule {rule}, so the files show too little");
+                self.different += 1;
+            }
+        }
+    }
+
+    /// The same of weights, and of the numbers that a split can answer.
+    fn every_number(&mut self) {
+        if self.weighed * WEIGHED < self.drawn {
+            println!(
+                "differential: {} drawn files have weights, so the files show too little",
+                self.weighed
+            );
+            self.different += 1;
+        }
+        for number in [0, 15, 16, 17] {
+            if !self.tried.splits.contains_key(&number) {
+                println!(
+                    "differential: no split is answered {number}, so the splits show too little"
+                );
                 self.different += 1;
             }
         }

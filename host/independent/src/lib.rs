@@ -6,15 +6,19 @@
 #![forbid(unsafe_code)]
 
 pub mod cases;
+pub mod fee;
 pub mod judging;
 pub mod kinds;
 pub mod lines;
 pub mod names;
 pub mod printing;
 pub mod reading;
+pub mod weights;
 
+pub use fee::{add, split};
 pub use judging::{judge, Break};
 pub use reading::{cell, cell_or, read, reading, Reading};
+pub use weights::{rows, weights};
 
 /// "A file is at most 16,777,216 bytes."
 pub const LIMIT: usize = 16_777_216;

@@ -1,6 +1,9 @@
 //! What the binary prints in each of its modes, as bytes.
 
-use crate::{cell, cell_or, judge, kinds, names, read, reading, Break, Reading};
+use crate::{
+    add, cell, cell_or, judge, kinds, names, read, reading, rows, split, weights as weights_of,
+    Break, Reading,
+};
 
 /// The byte that ends each file or case where several stand in one input.
 pub const END: u8 = 30;
@@ -10,6 +13,12 @@ pub const JUDGE_INPUT: usize = 65_536;
 
 /// "for each of the first 4,096 breaks line, cell and rule"
 pub const SHOWN: usize = 4_096;
+
+/// What each place of a share holds before the call.
+const SHARE_BEFORE: u64 = 7;
+
+/// What each place of a weight holds before the call.
+const WEIGHT_BEFORE: u32 = 9;
 
 /// As the program `judge` prints.
 pub fn judged(file: &[u8]) -> String {
@@ -202,6 +211,87 @@ pub fn double_of(value: &[u8]) -> String {
         Reading::Decimal { double, .. } => format!("{text} {:016x}", double.to_bits()),
         _ => text,
     }
+}
+
+/// One line for each case: `add A B`, or `split FEE PLACES W1 W2 ..`.
+pub fn fees(input: &[u8]) -> String {
+    each_line(input, fee_of)
+}
+
+fn fee_of(case: &[u8]) -> String {
+    let case = std::str::from_utf8(case).expect("a case is a word and plain numbers");
+    let mut words = case.split(' ');
+    let call = words.next();
+    let numbers: Vec<u64> = words
+        .map(|n| n.parse().expect("a case is a word and plain numbers"))
+        .collect();
+    match (call, numbers.as_slice()) {
+        (Some("add"), [a, b]) => sum_text(add(*a, *b)),
+        (Some("split"), [fee, places, weights @ ..]) => {
+            let weights: Vec<u32> = weights
+                .iter()
+                .map(|w| u32::try_from(*w).expect("a weight has 32 bits"))
+                .collect();
+            let places = *places as usize;
+            shares_text(split(*fee, &weights, places), places)
+        }
+        _ => panic!("a case adds or splits: {case}"),
+    }
+}
+
+/// `NUMBER SUM`
+fn sum_text(sum: Result<u64, u32>) -> String {
+    format!("{} {}", sum.err().unwrap_or(0), sum.unwrap_or(0))
+}
+
+/// `NUMBER` and each place after the call: "shares untouched" where it refuses.
+fn shares_text(shares: Result<Vec<u64>, u32>, places: usize) -> String {
+    match shares {
+        Ok(shares) => format!("0{}", spaced(&shares)),
+        Err(number) => format!("{number}{}", spaced(&vec![SHARE_BEFORE; places])),
+    }
+}
+
+/// Several files, each ended by the byte 30: the rows, the weights in lists of
+/// 64, 63 and 65 places, and a line `.`.
+pub fn weights(input: &[u8]) -> String {
+    let mut out = String::new();
+    for file in pieces(input, END) {
+        out += &rows_text(|section| rows(file, section));
+        for places in [64, 63, 65] {
+            out += &weights_text(weights_of(file, places), places);
+        }
+        out += ".\n";
+    }
+    out
+}
+
+/// `rows`, and number and count of sections 0 to 5.
+fn rows_text(rows: impl Fn(u32) -> Result<u32, u32>) -> String {
+    let mut out = "rows".to_string();
+    for section in 0..=5 {
+        let count = rows(section);
+        out += &spaced(&[count.err().unwrap_or(0), count.unwrap_or(0)]);
+    }
+    out + "\n"
+}
+
+/// `weights NUMBER` and each place after the call: none is written where it
+/// refuses.
+fn weights_text(weights: Result<Vec<u32>, u32>, places: usize) -> String {
+    let (number, list) = match weights {
+        Ok(weights) => (0, weights),
+        Err(number) => (number, vec![WEIGHT_BEFORE; places]),
+    };
+    format!("weights {number}{}\n", spaced(&list))
+}
+
+/// The numbers, a space before each.
+fn spaced<T: ToString>(numbers: &[T]) -> String {
+    numbers
+        .iter()
+        .map(|n| " ".to_string() + &n.to_string())
+        .collect()
 }
 
 fn each_line(input: &[u8], print: fn(&[u8]) -> String) -> String {

@@ -1,7 +1,8 @@
 //! The cases written by hand against what the library says.
 
-use independent::cases::{self, cells, judging, kinds, names};
-use independent::{cell, cell_or, judge, printing, read, reading, Break, Reading, LIMIT};
+use independent::cases::{self, cells, fee, judging, kinds, names, weights as weighing};
+use independent::{add, cell, cell_or, judge, printing, read, reading, rows, split, weights};
+use independent::{Break, Reading, LIMIT};
 
 fn show(file: &[u8]) -> String {
     String::from_utf8_lossy(file).replace('\t', "→")
@@ -267,6 +268,157 @@ fn the_limit() {
     assert_eq!(cell_or(&file, 5, 1, 1, b"-"), Err(1));
     assert_eq!(reading(&file, 1, 1, 1), Err(1));
     assert_eq!(printing::verdict(&file), "TOO LONG\n");
+}
+
+/// Every case, one by one, and the table of all of them.
+#[test]
+fn every_fee_is_split_as_written() {
+    let mut splits = 0;
+    let mut expected = String::new();
+    for case in fee::all() {
+        match &case {
+            fee::Case::Add { a, b, sum } => assert_eq!(add(*a, *b), *sum, "{}", case.line()),
+            fee::Case::Split {
+                fee,
+                weights,
+                places,
+                shares,
+            } => {
+                splits += 1;
+                assert_eq!(split(*fee, weights, *places), *shares, "{}", case.line());
+            }
+        }
+        expected += &case.printed();
+        expected += "\n";
+    }
+    assert!(splits >= 150, "{splits}");
+    assert_eq!(printing::fees(&cases::fees_input()), expected);
+}
+
+#[test]
+fn what_the_table_of_fees_prints() {
+    let input = b"add 1 2\nadd 100000000000 1\nsplit 100 3 1 1 1\nsplit 5 0\nsplit 5 2 4294967295 0\nsplit 0 1 0";
+    let printed = "0 3\n16 0\n0 34 33 33\n15\n16 7 7\n17 7\n";
+    assert_eq!(printing::fees(input), printed);
+}
+
+/// "Shares add up to the fee, and each lies less than one cent from the exact
+/// proportion"; and no cent is given past a larger remainder.
+#[test]
+fn what_is_said_of_shares() {
+    let mut state: u64 = 2_685_821_657_736_338_717;
+    let mut next = move || {
+        state ^= state << 13;
+        state ^= state >> 7;
+        state ^= state << 17;
+        state >> 8
+    };
+    for _ in 0..20_000 {
+        let count = 1 + next() % 64;
+        let below = [2, 5, 100, 16_777_216][next() as usize % 4];
+        let mut list: Vec<u32> = (0..count).map(|_| (next() % below) as u32).collect();
+        list[next() as usize % count as usize] = 1 + (next() % (below - 1)) as u32;
+        let fee = next() % [10, 1_000, 100_000_000_001][next() as usize % 3];
+        let shares = split(fee, &list, list.len()).expect("nothing is wrong");
+        assert_eq!(shares.iter().sum::<u64>(), fee);
+        let total: i128 = list.iter().map(|w| i128::from(*w)).sum();
+        // What each was given beyond the exact proportion, in parts of the total.
+        let beyond: Vec<i128> = list
+            .iter()
+            .zip(&shares)
+            .map(|(w, share)| i128::from(*share) * total - i128::from(fee) * i128::from(*w))
+            .collect();
+        assert!(beyond.iter().all(|b| b.abs() < total), "{fee} {list:?}");
+        for (a, got) in beyond.iter().enumerate() {
+            for (b, lost) in beyond.iter().enumerate() {
+                // Place a was rounded up and place b down.
+                if *got > 0 && *lost <= 0 {
+                    let (up, down) = (total - got, -lost);
+                    assert!(up > down || (up == down && a < b), "{fee} {list:?}");
+                }
+            }
+        }
+    }
+}
+
+#[test]
+fn every_file_has_its_rows_and_weights() {
+    let all = weighing::all();
+    assert!(all.len() >= 60, "{}", all.len());
+    let mut expected = String::new();
+    for case in &all {
+        for (section, count) in (1..).zip(case.rows) {
+            assert_eq!(rows(&case.file, section), Ok(count), "{}", case.label);
+        }
+        let found = weights(&case.file, 64);
+        assert_eq!(found, case.weights.clone().ok_or(7), "{}", case.label);
+        expected += &case.printed();
+    }
+    assert_eq!(printing::weights(&cases::weights_input()), expected);
+}
+
+#[test]
+fn what_the_table_of_weights_prints() {
+    let printed = printing::weights(b"PRT\n\x1e");
+    let nines = |places: usize| " 9".repeat(places);
+    let expected = format!(
+        "rows 2 0 0 1 0 0 0 0 0 0 2 0\nweights 7{}\nweights 7{}\nweights 7{}\n.\n",
+        nines(64),
+        nines(63),
+        nines(65)
+    );
+    assert_eq!(printed, expected);
+    assert_eq!(printing::weights(b""), "");
+}
+
+/// The weights are the numbers of rows that have a reading other than missing.
+#[test]
+fn weights_are_as_the_cells_read() {
+    for case in weighing::all() {
+        let found = match weights(&case.file, 64) {
+            Ok(found) => found,
+            Err(_) => continue,
+        };
+        let mut expected = vec![0; 64];
+        for column in 1..256 {
+            let name = match cell(&case.file, 1, 0, column) {
+                Ok(name) => String::from_utf8_lossy(name).to_string(),
+                Err(_) => break,
+            };
+            let index = name
+                .strip_prefix("protein_abundance_study_variable[")
+                .and_then(|rest| rest.strip_suffix(']'));
+            if let Some(index) = index {
+                let place = index.parse::<usize>().expect("an index") - 1;
+                expected[place] = (1..)
+                    .map_while(|row| reading(&case.file, 1, row, column).ok())
+                    .filter(|(_, _, read)| *read != Reading::Missing)
+                    .count() as u32;
+            }
+        }
+        assert_eq!(found, expected, "{}", case.label);
+    }
+}
+
+#[test]
+fn the_limit_of_weights() {
+    let mut file = weighing::all()
+        .into_iter()
+        .find(|case| case.label == "three columns")
+        .unwrap()
+        .file;
+    file.resize(LIMIT, b'\n');
+    let mut expected = vec![0; 64];
+    expected[..3].copy_from_slice(&[4, 2, 4]);
+    assert_eq!(weights(&file, 64), Ok(expected));
+    assert_eq!(weights(&file, 63), Err(15));
+    assert_eq!(rows(&file, 1), Ok(5));
+    assert_eq!(rows(&file, 5), Err(2));
+    file.push(b'\n');
+    assert_eq!(weights(&file, 64), Err(1));
+    assert_eq!(weights(&file, 0), Err(1));
+    assert_eq!(rows(&file, 1), Err(1));
+    assert_eq!(rows(&file, 0), Err(1));
 }
 
 #[test]

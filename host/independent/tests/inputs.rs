@@ -21,3 +21,16 @@ fn kinds() {
 fn names() {
     assert!(include_bytes!("../../../crates/book_run/stdin") == cases::names_input().as_slice());
 }
+
+#[test]
+fn fees() {
+    assert!(include_bytes!("../../../crates/fee_run/stdin") == cases::fees_input().as_slice());
+}
+
+#[test]
+fn weights() {
+    let input = include_bytes!("../../../crates/weights_run/stdin");
+    assert!(input == cases::weights_input().as_slice());
+    // As much as the run test has room for.
+    assert!(input.len() < 60_000, "{}", input.len());
+}

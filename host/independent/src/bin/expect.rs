@@ -5,8 +5,8 @@ use std::process::ExitCode;
 
 use independent::{cases, printing};
 
-const MODES: &str = "judge, judges, cells, kinds, names, doubles, \
-    make-judges, make-cells, make-kinds, make-names";
+const MODES: &str = "judge, judges, cells, kinds, names, doubles, fees, weights, \
+    make-judges, make-cells, make-kinds, make-names, make-fees, make-weights";
 
 fn main() -> ExitCode {
     let mode = std::env::args().nth(1).unwrap_or_default();
@@ -34,10 +34,14 @@ fn printed(mode: &str) -> Option<Vec<u8>> {
         "kinds" => Some(printing::kinds(&input()).into_bytes()),
         "names" => Some(printing::names(&input()).into_bytes()),
         "doubles" => Some(printing::doubles(&input()).into_bytes()),
+        "fees" => Some(printing::fees(&input()).into_bytes()),
+        "weights" => Some(printing::weights(&input()).into_bytes()),
         "make-judges" => Some(cases::judges_input()),
         "make-cells" => Some(cases::cells_input()),
         "make-kinds" => Some(cases::kinds_input()),
         "make-names" => Some(cases::names_input()),
+        "make-fees" => Some(cases::fees_input()),
+        "make-weights" => Some(cases::weights_input()),
         _ => None,
     }
 }

@@ -3,9 +3,11 @@
 //! inputs.
 
 pub mod cells;
+pub mod fee;
 pub mod judging;
 pub mod kinds;
 pub mod names;
+pub mod weights;
 
 use crate::printing::END;
 
@@ -53,6 +55,23 @@ pub fn names_input() -> Vec<u8> {
         assert!(!name.contains(&b'\n'));
         out.extend(name);
         out.push(b'\n');
+    }
+    out
+}
+
+/// One case on each line.
+pub fn fees_input() -> Vec<u8> {
+    let lines = fee::all().into_iter().map(|case| case.line() + "\n");
+    lines.collect::<String>().into_bytes()
+}
+
+/// Several files, each ended by the byte 30.
+pub fn weights_input() -> Vec<u8> {
+    let mut out = Vec::new();
+    for case in weights::all() {
+        assert!(!case.file.contains(&END));
+        out.extend(case.file);
+        out.push(END);
     }
     out
 }
