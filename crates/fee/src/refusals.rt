@@ -11,7 +11,7 @@ ghost use Rattle.fee.specs.Split.{MOST-WEIGHTS, asMany, anyLarge, refusa
 pub const LIMIT: u64 = 100_000_000_000;
 
 // At most so many weights.
-const MOST_WEIGHTS: usize = 64;
+pub const MOST_WEIGHTS: usize = 64;
 
 // Each weight is below this.
 const WEIGHT_END: u32 = 16_777_216;
