@@ -2,9 +2,8 @@
 use Prim.Native.Nat.{ℕ, zero, suc, _+_, _≤_, _<_}
 use mathlib.Core.Path.{_≡_, refl, ap, sym, _∙_}
 use mathlib.Core.Bool.{Bool, true, false, _&&_}
-use mathlib.Core.List.{List, [], _∷_, _++_, append-nil}
+use mathlib.Core.List.{List, _++_, append-nil}
 use native.Mathlib.Omega.{arith}
-use native.Mathlib.Numerals.{add-one}
 use lib.Dec.{eqb, leb}
 use lib.ListN.{length, getD, drop, List·getD-append}
 use lib.Seq.{sets, sets-eq, drop-length, ext-getD}
@@ -13,7 +12,7 @@ use Rattle.fee.specs.declared.Cents.{Cents}
 use Rattle.fee.specs.Sums.{listTo, at}
 use Rattle.fee.specs.Places.{plain, cents}
 use Rattle.fee.specs.Shares.{share}
-use Rattle.fee.specs.Split.{MOST-WEIGHTS, NOT-AS-MANY, asMany, refusal, Outcome, outcome, splitOf}
+use Rattle.fee.specs.Split.{MOST-WEIGHTS, NOT-AS-MANY, refusal, Outcome, outcome, splitOf}
 use Rattle.fee.specs.Steps.{shareAt, taken, Fills}
 use Rattle.fee.proofs.Laws.Calls.{granted, not-as-many, refused, shared, numbered}
 use Rattle.fee.proofs.Laws.Theorems.{list-length, list-at, listed}
