@@ -1,12 +1,11 @@
 -- Worked examples of a sum and of a split, computed. Assumes nothing.
-use Prim.Native.Nat.{ℕ}
 use mathlib.Core.Path.{_≡_, refl}
-use mathlib.Core.List.{List, [], _∷_}
+use mathlib.Core.List.{[], _∷_}
 use lib.ListN.{replicate}
 use Rattle.fee.specs.Sums.{sumTo, listTo}
 use Rattle.fee.specs.Amounts.{LIMIT, TOO-LARGE, added, sumOf}
 use Rattle.fee.specs.Places.{plain, cents}
-use Rattle.fee.specs.Shares.{before, share}
+use Rattle.fee.specs.Shares.{before}
 use Rattle.fee.specs.Split.{NOT-AS-MANY, ALL-ZERO, anyLarge, refusal, outcome, splitOf}
 
 -- a sum of exactly the limit is granted, one cent more is refused
@@ -34,16 +33,9 @@ unfolding splitOf refusal anyLarge before sumTo listTo
 zeros-between = refl
 
 -- one cent over 64 equal weights goes to the first
-abbrev equals : List ℕ
-equals = replicate 64 1
-
-one-cent : share 1 equals 0 ≡ 1
-unfolding before sumTo
+one-cent : splitOf plain 1 (replicate 64 1) (replicate 64 9) ≡ outcome 0 (1 ∷ replicate 63 0)
+unfolding splitOf refusal anyLarge before sumTo listTo
 one-cent = refl
-
-no-cent : share 1 equals 63 ≡ 0
-unfolding before sumTo
-no-cent = refl
 
 -- the largest fee and the largest weight
 largest : splitOf plain LIMIT (16777215 ∷ 16777215 ∷ 1 ∷ []) (0 ∷ 0 ∷ 0 ∷ []) ≡ outcome 0 (49999998510 ∷ 49999998510 ∷ 2980 ∷ [])

@@ -11,18 +11,18 @@ ghost use Rattle.fee.specs.Split.{MOST-WEIGHTS, asMany, anyLarge, refusa
 pub const LIMIT: u64 = 100_000_000_000;
 
 // At most so many weights.
-const MOST_WEIGHTS: usize = 64;
+pub const MOST_WEIGHTS: usize = 64;
 
 // Each weight is below this.
 const WEIGHT_END: u32 = 16_777_216;
 
-// The numbers of the refusals. The number of weights, or another number of shares:
+// The number of a refusal: not 1 to 64 weights, or another number of shares.
 pub const NOT_AS_MANY: u32 = 15;
 
-// A fee, a sum or a weight too large:
+// The number of a refusal: a fee, a sum or a weight too large.
 pub const TOO_LARGE: u32 = 16;
 
-// All weights zero:
+// The number of a refusal: all weights zero.
 pub const ALL_ZERO: u32 = 17;
 
 // Whether the sum of two amounts is within the limit, however large they are.

@@ -1,5 +1,6 @@
 // The shares of a fee: each is its proportion rounded down, and the cents left over go one each to the largest remainders, the lower number first among
 // equals.
+use crate::refusals::MOST_WEIGHTS;
 use crate::refusals::wide;
 ghost use mathlib.Core.Path.{_≡_};
 ghost use mathlib.Core.Bool.{_&&_, _||_};
@@ -20,7 +21,7 @@ pub struct Part {
 
 // The remainders of all weights, and the cents that rounding down gives out.
 pub struct Divided {
-    pub rests: [u64; 64],
+    pub rests: [u64; MOST_WEIGHTS],
     pub given: u64,
 }
 
@@ -66,7 +67,7 @@ pub fn divide(fee: u64, weights: &[u32], all: u64) -> Divided
     ensures rests { λ r. ⌜ Rests fee (now (weights .entry)) (r .rests) ⌝ }
     ensures given { λ r. ⌜ r .given ≡ sumTo (length (now (weights .entry))) (floor fee (now (weights .entry))) ⌝ }
 {
-    let mut rests = [0u64; 64];
+    let mut rests = [0u64; MOST_WEIGHTS];
     let mut given: u64 = 0;
     let mut i = 0;
     while i < weights.len() {

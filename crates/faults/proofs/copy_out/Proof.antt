@@ -6,10 +6,10 @@ use Prim.Native.Nat.{ℕ, zero, suc, _<_, _≤_, _^_, _*_, _+_}
 use native.Mathlib.Omega.{arith}
 use native.Mathlib.Nat.{lt-suc-self}
 use native.Mathlib.Numerals.{add-one}
-use mathlib.Core.Bool.{Bool, true, false}
+use mathlib.Core.Bool.{Bool}
 use mathlib.Core.List.{[], _∷_, List}
 use mathlib.Core.WellFounded.{WellFounded, InvImage·wf}
-use lib.Dec.{T as Holds, lit<, ltb, lt→ltb, ltb→lt}
+use lib.Dec.{lit<, ltb, lt→ltb, ltb→lt}
 use lib.ListN.{length, set, length-set}
 use lib.Seq.{sets}
 use lib.WfN.{Nat·lt-wfRel}
@@ -54,7 +54,8 @@ use Rattle.faults.specs.declared.Fault.{Fault}
 use Rattle.faults.specs.Steps.{recordAt, records}
 use Rattle.faults.proofs.Fault as T
 use Rattle.faults.proofs.Fault.Laws as T′
-use Rattle.faults.proofs.Locals.{room, full, env-of, here}
+use Rattle.walks.proofs.Locals.{room, full, env-of, here}
+use Rattle.walks.proofs.Tests.{yes-is, no-is}
 use Rattle.faults.proofs.record_at as rec
 use Rattle.faults.proofs.record_at.Symbol as rec-def
 use Rattle.faults.proofs.record_at.Symbol.{name as #faults·record-at}
@@ -67,15 +68,6 @@ use Rattle.faults.proofs.copy_out.Code.Mir as M′
 
 abbrev stayed : Stays (f′.ended .signature .params) (f′.ended .kept)
 stayed = (stay-none-slice (0 ∷ []) tt (plain (λ _. u32)) yes, (stay-slice (1 ∷ []) tt (plain (λ _. T.the-row)), (stay-none (λ _. usize) yes, (stay-none (λ _. usize) yes, tt))))
-
--- ---- truth values
-yes-is : (t : Bool) → Holds t → t ≡ true
-yes-is true _ = refl
-yes-is false h = absurd h
-
-no-is : (t : Bool) → (Holds t → ⊥) → t ≡ false
-no-is true f = absurd (f tt)
-no-is false _ = refl
 
 -- ---- numbers
 -- the bytes before record k fit a usize

@@ -57,10 +57,10 @@ use Rattle.faults.specs.declared.Fault.{Fault}
 use Rattle.faults.specs.declared.steps.Progress.{Progress}
 use Rattle.faults.specs.Records.{outcome, judged}
 use Rattle.faults.specs.Steps.{ROOM, records, remaining, away, Good, Moves}
-use Rattle.faults.proofs.Again.{LentAgain, lends-again, comes-back}
+use Rattle.walks.proofs.Again.{LentAgain, lends-again, comes-back}
 use Rattle.faults.proofs.Laws.Ending.{whole as final-of, ahead-first, ahead-next, ended}
-use Rattle.faults.proofs.Lent.{facts3, says-all, big-lit, init-times, times-in, array-room, lends-all, all-back}
-use Rattle.faults.proofs.Locals.{room, full, away as gone, env-of, here}
+use Rattle.walks.proofs.Lent.{facts3, says-all, big-lit, init-times, times-in, array-room, lends-all, all-back}
+use Rattle.walks.proofs.Locals.{room, full, away as gone, env-of, here}
 use Rattle.faults.proofs.Fault as T
 use Rattle.faults.proofs.steps.Progress as S
 use Rattle.faults.proofs.steps.Progress.Laws as S′

@@ -50,7 +50,7 @@ use borrow.Table.OneValue.{part-out}
 use Rattle.faults.specs.declared.Fault.{Fault}
 use Rattle.faults.specs.Records.{Outcome, outcome, judged}
 use Rattle.faults.specs.Steps.{fault}
-use Rattle.faults.proofs.Lent.{facts2, says-all, big-lit, init-times, times-in, lends-mut, mut-back}
+use Rattle.walks.proofs.Lent.{facts2, says-all, big-lit, init-times, times-in, lends-mut, mut-back}
 use Rattle.faults.proofs.Fault as T
 use Rattle.faults.proofs.Fault.Laws as T′
 use Rattle.faults.proofs.judge as judge

@@ -1,4 +1,4 @@
--- The locals of a function in the context of a walk, computed from the function's own list of them. It says nothing of the crate, and can be copied as it stands.
+-- The locals of a function in the context of a walk, computed from the function's own list of them.
 --     Held             a local's address, and what lies in it: room, or a value. What lies in a local that is `away` stands elsewhere in the context, as of one that is lent
 --     env-of           the environment: each local's type and address
 --     here             the context's part for the locals, in the order in which `alloc1` leaves them: the last local first, each one's cell followed by what frees it. So with n locals local i stands at 2 · (n − 1 − i), less one for each local after it that is away

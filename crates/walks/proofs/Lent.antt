@@ -1,4 +1,4 @@
--- Steps of a walk in which local arrays are filled and lent whole. It says nothing of the crate.
+-- Steps of a walk in which local arrays are filled and lent whole.
 --     says-all         a goal P ∗ R, where R is had for nothing: P is left.        facts2, facts3       two facts, or three, are had for nothing
 --     big-lit          a constant whose bound a proof shows
 --     init-times       a local is made to hold n times one value
