@@ -3,3 +3,4 @@ pub mod Marking
 pub mod Adding
 pub mod Weighing
 pub mod Refusing
+pub mod Splitting

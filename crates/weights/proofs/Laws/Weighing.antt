@@ -1,6 +1,6 @@
 -- What the lines of an accepted file add to a weight is the weight: each study variable has at most one column. Assumes nothing.
 use mathlib.Core.Path.{_≡_, refl, sym, ap, subst, _∙_}
-use mathlib.Core.Bool.{Bool, true, false, cond, not, _&&_}
+use mathlib.Core.Bool.{Bool, true, false, cond, not, _&&_, and-false}
 use mathlib.Core.List.{List, [], _∷_, _++_}
 use mathlib.Core.Option.{Option, none, some}
 use Prim.Native.Nat.{ℕ, zero, suc, _+_, _-_, _≤_, _<_}
@@ -240,3 +240,35 @@ weighed-lines file kept is i lo hi = lines-count (sound-header file kept) i lo h
 pub weight-most : (file : Bytes) (i : ℕ) → weightOf file i ≤ length file
 unfolding weightOf
 weight-most file i = omega (arith, count-most (hasIn (columnNamed (headerOf file PROTEIN) (abundance i))) (lines file), lines-most file)
+
+-- EVERY WEIGHT IS ONE THAT A SPLIT TAKES: where some row counts there is a header too, so the rows are fewer than the lines
+
+-- a line with the header's code has not the row's
+not-row : (l : Bytes) → coded (headerCode PROTEIN) l ≡ true → coded (rowCode PROTEIN) l ≡ false
+unfolding coded headerCode rowCode bytes same
+not-row l e = ap (λ (x : Bytes). same x (rowCode PROTEIN)) (same-equal (getD (cells l) 0 []) (headerCode PROTEIN) e)
+
+not-has : (c : ℕ) (l : Bytes) → coded (headerCode PROTEIN) l ≡ true → hasIn c l ≡ false
+unfolding hasIn
+not-has c l e = rw (not-row l e)
+
+none-has : (name l : Bytes) → hasIn (columnNamed [] name) l ≡ false
+unfolding hasIn columnOf placeOf splitOn
+none-has name l = and-false (coded (rowCode PROTEIN) l)
+
+count-zero : (p : Bytes → Bool) → ((l : Bytes) → p l ≡ false) → (ls : List Bytes) → count p ls ≡ 0
+unfolding count
+count-zero p h [] = refl
+count-zero p h (l ∷ ls) = rw (h l) (count-zero p h ls)
+
+pub weight-small : (file : Bytes) (i : ℕ) → length file ≤ LIMIT → weightOf file i < LIMIT
+unfolding weightOf
+weight-small file i fits = go (rowOf file PROTEIN 0) refl
+  where
+    go : (o : Option Line) → rowOf file PROTEIN 0 ≡ o → count (hasIn (columnNamed (textOf o) (abundance i))) (lines file) < LIMIT
+    go none e = omega (arith, count-zero (hasIn (columnNamed [] (abundance i))) (none-has (abundance i)) (lines file))
+    go (some l) e =
+        let c = columnNamed (l .text) (abundance i) in
+        let at = header-line file PROTEIN l e in
+        let out : hasIn c (getD (lines file) (l .line - 1) []) ≡ false = not-has c (getD (lines file) (l .line - 1) []) (subst (λ (x : Bytes). coded (headerCode PROTEIN) x ≡ true) (sym (at .2)) (at .3)) in
+        omega (arith, count-less (hasIn c) (lines file) [] (l .line - 1) (omega (arith, at .0, at .1)) out, lines-most file)
