@@ -5,6 +5,7 @@ use mathlib.Core.List.{List, map}
 use lib.ListN.{length}
 use lib.Seq.{sets}
 use lib.Dec.{ltb}
+use Rattle.numbers.specs.Numbers.{TOO-LONG}
 use Rattle.text.specs.Bytes.{Bytes}
 use Rattle.text.specs.Lines.{LIMIT}
 use Rattle.breaks.specs.Breaks.{Break}
@@ -27,4 +28,4 @@ outcome n k ys = record { number = n; count = k; faults = ys }
 -- a file that is too long is refused, and nothing is written; else all breaks are counted, and those that fit are written, a record each; `sets` past the end of a list
 -- changes nothing
 unfoldable pub judged : Bytes → List Fault → Outcome
-judged file ys = cond (ltb LIMIT (length file)) (outcome 1 0 ys) (outcome 0 (length (breaks file)) (sets ys 0 (map faultOf (breaks file))))
+judged file ys = cond (ltb LIMIT (length file)) (outcome TOO-LONG 0 ys) (outcome 0 (length (breaks file)) (sets ys 0 (map faultOf (breaks file))))

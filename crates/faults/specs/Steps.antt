@@ -6,6 +6,7 @@ use mathlib.Core.List.{List, [], _∷_, map}
 use lib.ListN.{length, drop, getD}
 use lib.Seq.{sets}
 use lib.Dec.{ltb}
+use Rattle.numbers.specs.Numbers.{TOO-LONG}
 use Rattle.text.specs.Bytes.{Bytes}
 use Rattle.text.specs.Lines.{LIMIT}
 use Rattle.ids.specs.Ids.{Declared}
@@ -38,7 +39,7 @@ unfoldable pub found : Bytes → List Break
 found file = cond (ltb LIMIT (length file)) [] (breaks file)
 
 unfoldable pub numberOf : Bytes → ℕ
-numberOf file = cond (ltb LIMIT (length file)) 1 0
+numberOf file = cond (ltb LIMIT (length file)) TOO-LONG 0
 
 -- the records that are still to come
 abbrev pub remaining : Bytes → Progress → List Fault

@@ -4,6 +4,7 @@ use ids::declared_ids;
 use judging::parts::Stand;
 use judging::parts::beginning;
 use judging::parts::judge_part;
+use numbers::TOO_LONG;
 use text::LIMIT;
 ghost use mathlib.Core.Path.{_≡_};
 ghost use mathlib.Core.Bool.{true, false};
@@ -43,7 +44,7 @@ pub fn begin(file: &[u8], cap: usize) -> Progress
     if LIMIT < file.len() {
         return Progress {
             more: false,
-            number: 1,
+            number: TOO_LONG,
             count: 0,
             cap,
             from: 0,

@@ -2,14 +2,11 @@
 use Prim.Native.Nat.{ℕ, _+_}
 use mathlib.Core.Bool.{cond}
 use lib.Dec.{leb}
+use Rattle.numbers.specs.Numbers.{TOO-LARGE}
 
 -- 1,000,000,000.00: the most that a fee or a sum may be
 abbrev pub LIMIT : ℕ
 LIMIT = 100000000000
-
--- the number of a refusal: a fee, a sum or a weight is too large
-abbrev pub TOO-LARGE : ℕ
-TOO-LARGE = 16
 
 -- what adding gives: a number and an amount
 pub record Added : Type 0 where

@@ -6,7 +6,8 @@ use mathlib.Core.List.{List, [], _∷_}
 use lib.Dec.{eqb, leb}
 use lib.ListN.{length}
 use Rattle.fee.specs.Sums.{listTo}
-use Rattle.fee.specs.Amounts.{LIMIT, TOO-LARGE}
+use Rattle.numbers.specs.Numbers.{NOT-AS-MANY, TOO-LARGE, ALL-ZERO}
+use Rattle.fee.specs.Amounts.{LIMIT}
 use Rattle.fee.specs.Places.{Holding, amountAt}
 use Rattle.fee.specs.Shares.{total, share, Fair}
 
@@ -17,13 +18,6 @@ MOST-WEIGHTS = 64
 -- the first weight that is too large
 abbrev pub WEIGHT-END : ℕ
 WEIGHT-END = 16777216
-
--- the numbers of the other refusals: the number of weights, or another number of shares; all weights zero
-abbrev pub NOT-AS-MANY : ℕ
-NOT-AS-MANY = 15
-
-abbrev pub ALL-ZERO : ℕ
-ALL-ZERO = 17
 
 -- 1 to 64 weights, and as many places
 abbrev pub asMany : ℕ → ℕ → Bool

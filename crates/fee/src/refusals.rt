@@ -1,4 +1,7 @@
 // When a sum or a split is refused, and by which number.
+use numbers::ALL_ZERO;
+use numbers::NOT_AS_MANY;
+use numbers::TOO_LARGE;
 ghost use mathlib.Core.Path.{_≡_};
 ghost use Prim.Native.Nat.{_+_, _≤_};
 ghost use lib.Dec.{leb};
@@ -15,15 +18,6 @@ pub const MOST_WEIGHTS: usize = 64;
 
 // Each weight is below this.
 const WEIGHT_END: u32 = 16_777_216;
-
-// The number of a refusal: not 1 to 64 weights, or another number of shares.
-pub const NOT_AS_MANY: u32 = 15;
-
-// The number of a refusal: a fee, a sum or a weight too large.
-pub const TOO_LARGE: u32 = 16;
-
-// The number of a refusal: all weights zero.
-pub const ALL_ZERO: u32 = 17;
 
 // Whether the sum of two amounts is within the limit, however large they are.
 pub fn within(a: u64, b: u64) -> bool

@@ -1,6 +1,7 @@
 -- Worked examples of what the cell calls show, computed. Assumes nothing.
 use mathlib.Core.Path.{_≡_, refl}
 use mathlib.Core.List.{[]}
+use Rattle.numbers.specs.Numbers.{NO-ROW, NO-CELL}
 use Rattle.text.specs.Bytes.{Bytes, bytes, same, onFirst, splitOn}
 use Rattle.text.specs.Lines.{lines, startsLf, coded}
 use Rattle.text.specs.Places.{after}
@@ -21,10 +22,10 @@ empty-cell : sought file 1 1 2 ≡ record { number = 0; line = 3; cell = 3; star
 unfolding sought file bytes lines onFirst startsLf splitOn same rowOf codeFor headerCode rowCode numbered having coded columnOf after
 empty-cell = refl
 
-no-third : sought file 1 3 2 ≡ refused 3
+no-third : sought file 1 3 2 ≡ refused NO-ROW
 unfolding sought file bytes lines onFirst startsLf splitOn same rowOf codeFor headerCode rowCode numbered having coded columnOf after
 no-third = refl
 
-column-0 : sought file 1 0 0 ≡ refused 4
+column-0 : sought file 1 0 0 ≡ refused NO-CELL
 unfolding sought file bytes lines onFirst startsLf splitOn same rowOf codeFor headerCode rowCode numbered having coded columnOf after
 column-0 = refl

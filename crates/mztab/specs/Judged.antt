@@ -4,6 +4,7 @@ use mathlib.Core.Bool.{cond}
 use mathlib.Core.List.{List}
 use lib.ListN.{length}
 use lib.Dec.{ltb}
+use Rattle.numbers.specs.Numbers.{TOO-LONG}
 use Rattle.text.specs.Bytes.{Bytes}
 use Rattle.text.specs.Lines.{LIMIT}
 use Rattle.breaks.specs.Places.{Lent, lent, putAll}
@@ -23,4 +24,4 @@ ended o = outcome 0 (o .count) (o .places)
 
 -- a file that is too long is refused, and nothing is written; else all breaks are counted, and those that fit are written, three places each
 unfoldable pub judged : Bytes → List ℕ → Outcome
-judged file ys = cond (ltb LIMIT (length file)) (outcome 1 0 ys) (ended (putAll (lent ys 0) (breaks file)))
+judged file ys = cond (ltb LIMIT (length file)) (outcome TOO-LONG 0 ys) (ended (putAll (lent ys 0) (breaks file)))

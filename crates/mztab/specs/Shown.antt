@@ -6,6 +6,7 @@ use mathlib.Core.List.{[]}
 use mathlib.Core.Option.{Option, none, some}
 use lib.ListN.{length}
 use lib.Dec.{ltb}
+use Rattle.numbers.specs.Numbers.{TOO-LONG, NO-SECTION, NO-ROW, NO-CELL}
 use Rattle.text.specs.Bytes.{Bytes, is}
 use Rattle.text.specs.Lines.{LIMIT, TAB, LF}
 use Rattle.text.specs.Codes.{isSection}
@@ -30,19 +31,19 @@ abbrev pub startOf : Bytes → Line → ℕ → ℕ
 startOf file l column = after LF (l .line - 1) file + after TAB column (l .text)
 
 abbrev pub soughtCell : ℕ → ℕ → ℕ → Option Bytes → Sought
-soughtCell n c start none = refused 4
+soughtCell n c start none = refused NO-CELL
 soughtCell n c start (some b) = record { number = 0; line = n; cell = c; start = start; view = b }
 
 abbrev pub soughtRow : Bytes → Option Line → ℕ → Sought
-soughtRow file none column = refused 3
+soughtRow file none column = refused NO-ROW
 soughtRow file (some l) column = soughtCell (l .line) (column + 1) (startOf file l column) (columnOf (l .text) column)
 
 -- the cell asked for by section, row and column: 1 file too long, 2 section not 1 to 4, 3 no such row, 4 no such cell, tried in this order
 unfoldable pub sought : Bytes → ℕ → ℕ → ℕ → Sought
 sought file section row column =
-    cond (ltb LIMIT (length file)) (refused 1)
+    cond (ltb LIMIT (length file)) (refused TOO-LONG)
     (cond (isSection section) (soughtRow file (rowOf file section row) column)
-    (refused 2))
+    (refused NO-SECTION))
 
 -- what a call gives back: its number and the bytes of its view
 pub record Shown : Type 0 where

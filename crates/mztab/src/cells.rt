@@ -1,5 +1,9 @@
 // The cell calls: one function finds the place, and each call shows it in its own way.
 use crate::records::Reading;
+use numbers::NO_CELL;
+use numbers::NO_ROW;
+use numbers::NO_SECTION;
+use numbers::TOO_LONG;
 use readings::Value;
 use readings::read;
 use rows::Row;
@@ -40,16 +44,16 @@ pub fn locate(file: &[u8], section: u32, row: u32, column: u32) -> Place
     ensures { λ r. ⌜ Placed (now (file .entry)) (sought (now (file .entry)) section row column) r ⌝ }
 {
     if LIMIT < file.len() {
-        return refused(1);
+        return refused(TOO_LONG);
     }
     if !is_section(section) {
-        return refused(2);
+        return refused(NO_SECTION);
     }
     let Row::On(line, a, e) = row_of(file, section, row) else {
-        return refused(3);
+        return refused(NO_ROW);
     };
     let Part::At(from, to) = column_of(&file[a..e], column) else {
-        return refused(4);
+        return refused(NO_CELL);
     };
     Place {
         number: 0,

@@ -3,6 +3,7 @@ use book::book;
 use ids::declared_ids;
 use judging::parts::beginning;
 use judging::parts::judge_part;
+use numbers::TOO_LONG;
 use text::LIMIT;
 ghost use mathlib.Core.Path.{_≡_};
 ghost use Rattle.mztab.specs.Judged.{outcome, judged};
@@ -16,7 +17,7 @@ pub fn judge_places(file: &[u8], places: &mut [u32], number: &mut u32) -> u32
     ensures { λ r. ⌜ outcome (now (number .exit)) r (now (places .exit)) ≡ judged (now (file .entry)) (now (places .entry)) ⌝ }
 {
     if LIMIT < file.len() {
-        *number = 1;
+        *number = TOO_LONG;
         return 0;
     }
     *number = 0;

@@ -4,6 +4,7 @@ use mathlib.Core.Path.{_≡_, sym, ap, _∙_}
 use mathlib.Core.Bool.{cond}
 use lib.ListN.{length}
 use lib.Dec.{ltb}
+use Rattle.numbers.specs.Numbers.{TOO-LONG, NO-SECTION}
 use Rattle.text.specs.Bytes.{Bytes}
 use Rattle.text.specs.Lines.{LIMIT}
 use Rattle.text.specs.Codes.{isSection}
@@ -17,12 +18,12 @@ pub record Counted : Type 0 where
 abbrev pub counted : ℕ → ℕ → Counted
 counted n k = record { number = n; rows = k }
 
--- 1 file too long, 2 section not 1 to 4, tried in this order, with 0
+-- the file too long, the section not 1 to 4: tried in this order, with 0
 unfoldable pub rowsIn : Bytes → ℕ → Counted
 rowsIn file section =
-    cond (ltb LIMIT (length file)) (counted 1 0)
+    cond (ltb LIMIT (length file)) (counted TOO-LONG 0)
     (cond (isSection section) (counted 0 (rowCount file section))
-    (counted 2 0))
+    (counted NO-SECTION 0))
 
 -- no second outcome fits
 pub rows-once : (file : Bytes) (section : ℕ) {n m k l : ℕ} → counted n k ≡ rowsIn file section → counted m l ≡ rowsIn file section → (n ≡ m) × (k ≡ l)

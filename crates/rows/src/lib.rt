@@ -1,4 +1,6 @@
 // The rows of a section, in the file's order, whatever breaks the file has, and the columns of a line.
+use numbers::NO_SECTION;
+use numbers::TOO_LONG;
 use text::LIMIT;
 use text::Part;
 use text::cells;
@@ -90,11 +92,11 @@ pub fn rows(file: &[u8], section: u32, number: &mut u32) -> u32
     ensures { λ r. ⌜ counted (now (number .exit)) r ≡ rowsIn (now (file .entry)) section ⌝ }
 {
     if LIMIT < file.len() {
-        *number = 1;
+        *number = TOO_LONG;
         return 0;
     }
     if !is_section(section) {
-        *number = 2;
+        *number = NO_SECTION;
         return 0;
     }
     *number = 0;

@@ -6,6 +6,7 @@ use mathlib.Core.List.{List, _++_}
 use mathlib.Core.Option.{Option, none, some}
 use lib.ListN.{length}
 use lib.Dec.{eqb, ltb}
+use Rattle.numbers.specs.Numbers.{TOO-LONG, NOT-ACCEPTED, NOT-AS-MANY}
 use Rattle.text.specs.Bytes.{Bytes, bytes, is, count}
 use Rattle.text.specs.Lines.{LIMIT, lines, coded}
 use Rattle.text.specs.Codes.{rowCode}
@@ -45,9 +46,9 @@ VARIABLES = 64
 abbrev pub weightsOf : Bytes → List ℕ
 weightsOf file = listTo VARIABLES (λ (i : ℕ). weightOf file (suc i))
 
--- 1 file too long, 7 file not accepted, 15 another number of places, tried in this order; else 0
+-- the file too long, not accepted, another number of places than 64: tried in this order; else 0
 unfoldable pub refusal : Bytes → ℕ → ℕ
-refusal file places = cond (ltb LIMIT (length file)) 1 (cond (isAccepted file) (cond (eqb places VARIABLES) 0 15) 7)
+refusal file places = cond (ltb LIMIT (length file)) TOO-LONG (cond (isAccepted file) (cond (eqb places VARIABLES) 0 NOT-AS-MANY) NOT-ACCEPTED)
 
 -- the number, and the lent list afterwards
 pub record Outcome : Type 0 where

@@ -1,5 +1,8 @@
 // The weights of a file's study variables: for each the protein rows whose abundance for it is not `null`, counted in one pass over the lines.
 use mztab::judged::judge_places;
+use numbers::NOT_ACCEPTED;
+use numbers::NOT_AS_MANY;
+use numbers::TOO_LONG;
 use references::reference;
 use rows::Row;
 use rows::row_of;
@@ -26,12 +29,6 @@ const PROTEIN: u32 = 1;
 
 // A header of an accepted file has at most so many cells.
 const MOST_CELLS: usize = 256;
-
-const TOO_LONG: u32 = 1;
-
-const NOT_ACCEPTED: u32 = 7;
-
-const NOT_AS_MANY: u32 = 15;
 
 // The study variable of each cell of a header, 0 for none, and after which cell there is none more.
 pub struct Marks {

@@ -12,7 +12,8 @@ use Rattle.fee.specs.declared.Cents.{Cents}
 use Rattle.fee.specs.Sums.{listTo, at}
 use Rattle.fee.specs.Places.{plain, cents}
 use Rattle.fee.specs.Shares.{share}
-use Rattle.fee.specs.Split.{MOST-WEIGHTS, NOT-AS-MANY, refusal, Outcome, outcome, splitOf}
+use Rattle.numbers.specs.Numbers.{NOT-AS-MANY}
+use Rattle.fee.specs.Split.{MOST-WEIGHTS, refusal, Outcome, outcome, splitOf}
 use Rattle.fee.specs.Steps.{shareAt, taken, Fills}
 use Rattle.fee.proofs.Laws.Calls.{granted, not-as-many, refused, shared, numbered}
 use Rattle.fee.proofs.Laws.Theorems.{list-length, list-at, listed}

@@ -8,6 +8,7 @@ use native.Mathlib.Omega.{arith}
 use lib.Dec.{ltb}
 use lib.ListN.{length}
 use borrow.Author.Tests.{ltb-true, ltb-false, le-ltb}
+use Rattle.numbers.specs.Numbers.{TOO-LONG, NO-SECTION, NO-ROW}
 use Rattle.text.specs.Bytes.{Bytes}
 use Rattle.text.specs.Lines.{LIMIT}
 use Rattle.text.specs.Codes.{isSection}
@@ -21,35 +22,35 @@ use Rattle.mztab.specs.Judged.{Outcome, outcome, judged}
 use Rattle.mztab.specs.Shown.{Shown, refused, startOf, soughtCell, soughtRow, sought, given, shown}
 
 -- a row that is there is refused with 4, if at all
-cell-there : (n c start : ℕ) (o : Option Bytes) → soughtCell n c start o .number ≡ 3 → ⊥
+cell-there : (n c start : ℕ) (o : Option Bytes) → soughtCell n c start o .number ≡ NO-ROW → ⊥
 cell-there n c start none e = omega arith
 cell-there n c start (some b) e = omega arith
 
-row-there : (file : Bytes) (o : Option Line) (column : ℕ) → (o ≡ none → ⊥) → soughtRow file o column .number ≡ 3 → ⊥
+row-there : (file : Bytes) (o : Option Line) (column : ℕ) → (o ≡ none → ⊥) → soughtRow file o column .number ≡ NO-ROW → ⊥
 row-there file none column ne e = ne refl
 row-there file (some l) column ne e = cell-there (l .line) (column + 1) (startOf file l column) (columnOf (l .text) column) e
 
 -- where `rows` counts k rows, `cell` finds no row r, from 1 on, exactly where r is beyond k
 pub rows-cell :
     (file : Bytes) (section row column : ℕ) {k n : ℕ} {v : Bytes} → counted 0 k ≡ rowsIn file section → given n v ≡ shown (sought file section row column) → 1 ≤ row
-    → (n ≡ 3 → k < row) × (k < row → n ≡ 3)
+    → (n ≡ NO-ROW → k < row) × (k < row → n ≡ NO-ROW)
 unfolding rowsIn sought
 rows-cell file section row column {k} {n} a b low =
     go (ltb LIMIT (length file)) (isSection section) (ap (λ (x : Counted). x .number) a) (ap (λ (x : Counted). x .rows) a) (ap (λ (x : Shown). x .number) b)
   where
     go : (t u : Bool)
-        → 0 ≡ cond t (counted 1 0) (cond u (counted 0 (rowCount file section)) (counted 2 0)) .number
-        → k ≡ cond t (counted 1 0) (cond u (counted 0 (rowCount file section)) (counted 2 0)) .rows
-        → n ≡ cond t (refused 1) (cond u (soughtRow file (rowOf file section row) column) (refused 2)) .number → (n ≡ 3 → k < row) × (k < row → n ≡ 3)
+        → 0 ≡ cond t (counted TOO-LONG 0) (cond u (counted 0 (rowCount file section)) (counted NO-SECTION 0)) .number
+        → k ≡ cond t (counted TOO-LONG 0) (cond u (counted 0 (rowCount file section)) (counted NO-SECTION 0)) .rows
+        → n ≡ cond t (refused TOO-LONG) (cond u (soughtRow file (rowOf file section row) column) (refused NO-SECTION)) .number → (n ≡ NO-ROW → k < row) × (k < row → n ≡ NO-ROW)
     go true u z q r = absurd (omega arith)
     go false false z q r = absurd (omega arith)
     go false true z q r = (there (ltb k row) refl, beyond)
       where
-        there : (t : Bool) → ltb k row ≡ t → n ≡ 3 → k < row
+        there : (t : Bool) → ltb k row ≡ t → n ≡ NO-ROW → k < row
         there true e d = ltb-true k row e
         there false e d = absurd (row-there file (rowOf file section row) column (row-within file section row low (omega (arith, ltb-false k row e))) (sym r ∙ d))
 
-        beyond : k < row → n ≡ 3
+        beyond : k < row → n ≡ NO-ROW
         beyond h = r ∙ ap (λ (o : Option Line). soughtRow file o column .number) (row-beyond file section row low (omega arith))
 
 -- the count of the judging call is that of all breaks, whatever the list

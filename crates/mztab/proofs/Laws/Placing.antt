@@ -6,6 +6,7 @@ use Prim.Native.Nat.{ℕ, _+_, _-_, _≤_, _<_}
 use native.Mathlib.Omega.{arith}
 use lib.ListN.{length, drop, length-take, length-drop}
 use borrow.Author.Tests.{lt-ltb, le-ltb, eq-eqb, ne-eqb}
+use Rattle.numbers.specs.Numbers.{TOO-LONG, NO-SECTION, NO-ROW, NO-CELL}
 use Rattle.text.specs.Bytes.{Bytes, is}
 use Rattle.text.specs.Lines.{LIMIT, TAB, LF}
 use Rattle.text.specs.Codes.{isSection}
@@ -45,12 +46,12 @@ module _ (n : ℕ) (v other : Bytes) (s : Shown) (e : given n v ≡ s) where
   or-kept t = rw (← e, t)
 
 module _ (f : Bytes) (section row column : ℕ) where
-  pub sought-long : LIMIT < length f → refused 1 ≡ sought f section row column
+  pub sought-long : LIMIT < length f → refused TOO-LONG ≡ sought f section row column
   unfolding sought
   sought-long h = rw (lt-ltb LIMIT (length f) h)
 
   module _ (fits : length f ≤ LIMIT) where
-    pub sought-nowhere : isSection section ≡ false → refused 2 ≡ sought f section row column
+    pub sought-nowhere : isSection section ≡ false → refused NO-SECTION ≡ sought f section row column
     unfolding sought
     sought-nowhere h = rw (le-ltb LIMIT (length f) fits, h)
 
@@ -60,12 +61,12 @@ module _ (f : Bytes) (section row column : ℕ) where
       unfolding sought
       sought-in = rw (le-ltb LIMIT (length f) fits, of)
 
-      pub sought-no-row : rowOf f section row ≡ none → refused 3 ≡ sought f section row column
+      pub sought-no-row : rowOf f section row ≡ none → refused NO-ROW ≡ sought f section row column
       sought-no-row e = rw (sought-in, e)
 
       -- and in a row, the column
       module _ (l : Line) (here : rowOf f section row ≡ some l) where
-        pub sought-no-cell : columnOf (l .text) column ≡ none → refused 4 ≡ sought f section row column
+        pub sought-no-cell : columnOf (l .text) column ≡ none → refused NO-CELL ≡ sought f section row column
         sought-no-cell e = rw (sought-in, here, e)
 
         sought-cell : (view : Bytes) → columnOf (l .text) column ≡ some view → record { number = 0; line = l .line; cell = column + 1; start = startOf f l column; view = view } ≡ sought f section row column

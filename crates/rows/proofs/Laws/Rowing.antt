@@ -9,6 +9,7 @@ use native.Mathlib.Omega.{arith}
 use lib.Dec.{eqb}
 use borrow.Author.Tests.{ne-eqb, eqb-true, lt-ltb, le-ltb}
 use lib.ListN.{length, getD, getElem?, drop}
+use Rattle.numbers.specs.Numbers.{TOO-LONG, NO-SECTION}
 use Rattle.text.specs.Bytes.{Bytes, count}
 use Rattle.text.specs.Lines.{LIMIT, TAB, LF, lines, cells, coded}
 use Rattle.text.specs.Codes.{isSection, headerCode, rowCode, codeFor}
@@ -161,11 +162,11 @@ header-line file section l e = having-line (headerCode section) 1 (lines file) 0
 
 -- THE CALL `rows`, by the tests that lead to each answer
 module _ (f : Bytes) (section : ℕ) where
-  pub rows-over : LIMIT < length f → counted 1 0 ≡ rowsIn f section
+  pub rows-over : LIMIT < length f → counted TOO-LONG 0 ≡ rowsIn f section
   unfolding rowsIn
   rows-over h = rw (lt-ltb LIMIT (length f) h)
 
-  pub rows-nowhere : length f ≤ LIMIT → isSection section ≡ false → counted 2 0 ≡ rowsIn f section
+  pub rows-nowhere : length f ≤ LIMIT → isSection section ≡ false → counted NO-SECTION 0 ≡ rowsIn f section
   unfolding rowsIn
   rows-nowhere h e = rw (le-ltb LIMIT (length f) h, e)
 

@@ -8,6 +8,7 @@ use lib.Dec.{eqb, ltb}
 use lib.ListN.{length, getD}
 use lib.Seq.{ext-getD}
 use borrow.Author.Tests.{lt-ltb, le-ltb, eq-eqb, ne-eqb, eqb-true, ltb-false}
+use Rattle.numbers.specs.Numbers.{TOO-LONG, NOT-ACCEPTED, NOT-AS-MANY}
 use Rattle.text.specs.Bytes.{Bytes}
 use Rattle.text.specs.Lines.{LIMIT, lines}
 use Rattle.rows.specs.Rows.{headerOf}
@@ -24,7 +25,7 @@ use Rattle.weights.proofs.Laws.Weighing.{weighed-lines, weight-most}
 -- THE NUMBER
 
 module _ (file : Bytes) (places : ℕ) where
-  pub refuse-long : LIMIT < length file → 1 ≡ refusal file places
+  pub refuse-long : LIMIT < length file → TOO-LONG ≡ refusal file places
   unfolding refusal
   refuse-long h = rw (lt-ltb LIMIT (length file) h)
 
@@ -32,7 +33,7 @@ module _ (file : Bytes) (places : ℕ) where
     counted : k ≡ length (breaks file)
     counted = judged-count file ys fits e
 
-    pub refuse-broken : (k ≡ 0 → ⊥) → 7 ≡ refusal file places
+    pub refuse-broken : (k ≡ 0 → ⊥) → NOT-ACCEPTED ≡ refusal file places
     unfolding refusal
     refuse-broken ne = rw (le-ltb LIMIT (length file) fits, ne-eqb (length (breaks file)) 0 (λ z. ne (counted ∙ z)))
 
@@ -40,7 +41,7 @@ module _ (file : Bytes) (places : ℕ) where
       kept : eqb (length (breaks file)) 0 ≡ true
       kept = eq-eqb (length (breaks file)) 0 (omega (arith, counted))
 
-      pub refuse-places : (places ≡ 64 → ⊥) → 15 ≡ refusal file places
+      pub refuse-places : (places ≡ 64 → ⊥) → NOT-AS-MANY ≡ refusal file places
       unfolding refusal
       refuse-places ne = rw (le-ltb LIMIT (length file) fits, kept, ne-eqb places 64 ne)
 
@@ -54,7 +55,7 @@ module _ (file : Bytes) (places : ℕ) where
   granted e = go (ltb LIMIT (length file)) refl (isAccepted file) refl (eqb places VARIABLES) refl e
     where
       go : (a : Bool) → ltb LIMIT (length file) ≡ a → (b : Bool) → isAccepted file ≡ b → (d : Bool) → eqb places VARIABLES ≡ d
-          → _≡_ {A = ℕ} (cond a 1 (cond b (cond d 0 15) 7)) 0 → (length file ≤ LIMIT) × (breaks file ≡ []) × (places ≡ VARIABLES)
+          → _≡_ {A = ℕ} (cond a TOO-LONG (cond b (cond d 0 NOT-AS-MANY) NOT-ACCEPTED)) 0 → (length file ≤ LIMIT) × (breaks file ≡ []) × (places ≡ VARIABLES)
       go true pa b pb d pd z = absurd (omega arith)
       go false pa true pb true pd z = (ltb-false LIMIT (length file) pa, accepted-none file pb, eqb-true places VARIABLES pd)
       go false pa true pb false pd z = absurd (omega arith)
