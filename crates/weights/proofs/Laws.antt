@@ -4,3 +4,4 @@ pub mod Adding
 pub mod Weighing
 pub mod Refusing
 pub mod Splitting
+pub mod Showing

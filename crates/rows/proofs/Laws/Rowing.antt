@@ -114,21 +114,21 @@ get-some [] k h e = omega arith
 get-some (x ∷ xs) zero h e = let z : _≡_ {A = ℕ} 0 1 = cc in omega arith
 get-some (x ∷ xs) (suc k) h e = get-some xs k (omega arith) e
 
+pub rows-long : (file : Bytes) (section : ℕ) → length (having (rowCode section) (numbered 1 (lines file))) ≡ rowCount file section
+unfolding rowCount
+rows-long file section = having-count (rowCode section) 1 (lines file)
+
 -- row r is there exactly for r up to the count
 module _ (file : Bytes) (section row : ℕ) (low : 1 ≤ row) where
-  row-coded : rowOf file section row ≡ getElem? (having (rowCode section) (numbered 1 (lines file))) (row - 1)
+  pub row-coded : rowOf file section row ≡ getElem? (having (rowCode section) (numbered 1 (lines file))) (row - 1)
   unfolding rowOf codeFor
   row-coded = rw (ne-eqb row 0 (λ e. omega arith))
 
-  rows-long : length (having (rowCode section) (numbered 1 (lines file))) ≡ rowCount file section
-  unfolding rowCount
-  rows-long = having-count (rowCode section) 1 (lines file)
-
   pub row-beyond : rowCount file section < row → rowOf file section row ≡ none
-  row-beyond h = row-coded ∙ get-none (having (rowCode section) (numbered 1 (lines file))) (row - 1) (omega (arith, rows-long))
+  row-beyond h = row-coded ∙ get-none (having (rowCode section) (numbered 1 (lines file))) (row - 1) (omega (arith, rows-long file section))
 
   pub row-within : row ≤ rowCount file section → rowOf file section row ≡ none → ⊥
-  row-within h e = get-some (having (rowCode section) (numbered 1 (lines file))) (row - 1) (omega (arith, rows-long)) (sym row-coded ∙ e)
+  row-within h e = get-some (having (rowCode section) (numbered 1 (lines file))) (row - 1) (omega (arith, rows-long file section)) (sym row-coded ∙ e)
 
 -- A ROW IS A LINE of the file: its number, its text and its code
 
