@@ -1,9 +1,9 @@
 -- What an accepted file gives to whoever walks its rows: where the list of breaks is empty, each line keeps each rule. Assumes nothing.
-use mathlib.Core.Path.{_≡_, refl, sym, ap, subst, _∙_}
+use mathlib.Core.Path.{_≡_, refl, sym, subst}
 use mathlib.Core.Bool.{Bool, true, false, not, _&&_, _||_}
 use mathlib.Core.List.{List, [], _∷_}
 use mathlib.Core.Option.{some}
-use mathlib.Core.Logic.{_⊎_, inl, inr}
+use mathlib.Core.Logic.{inl, inr}
 use Prim.Native.Nat.{ℕ, zero, suc, _+_, _-_, _≤_, _<_}
 use native.Mathlib.Omega.{arith}
 use lib.Dec.{ltb}
@@ -18,7 +18,7 @@ use Rattle.text.proofs.Laws.Sections.{section-bounds}
 use Rattle.text.proofs.Laws.Each.{split-some}
 use Rattle.breaks.specs.Sorts.{cell, headerSection, rowSection, codeSort, sortOf, headerIn, silentIn, isHeader, isSilent, width}
 use Rattle.breaks.specs.Breaks.{Break, Spot, spotAt, Rule, Broken}
-use Rattle.breaks.specs.Rules.{rules, breaks, isAccepted, isWide, names, namesBefore}
+use Rattle.breaks.specs.Rules.{rules, breaks, isAccepted, isWide}
 use Rattle.breaks.specs.declared.sorts.Sort.{Sort}
 use Rattle.breaks.specs.declared.sorts.Sort.the-variants.{Silent, Unknown, Meta, Header, Row}
 use Rattle.breaks.proofs.Laws.Promises.{accepted-whole}

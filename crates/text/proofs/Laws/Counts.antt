@@ -1,5 +1,5 @@
 -- How many elements pass a test, and how many lines of a file do, line by line. Assumes nothing.
-use mathlib.Core.Path.{_≡_, refl}
+use mathlib.Core.Path.{_≡_}
 use mathlib.Core.Bool.{Bool, true, false, cond, _&&_}
 use mathlib.Core.List.{List, [], _∷_}
 use Prim.Native.Nat.{ℕ, zero, suc, _+_, _≤_, _<_}
@@ -47,18 +47,6 @@ count-less p (x ∷ xs) d (suc i) h e = go (p x) (count-less p xs d i (omega ari
     go : (t : Bool) → count p xs < length xs → cond t (suc (count p xs)) (count p xs) < suc (length xs)
     go true h = omega arith
     go false h = omega arith
-
--- a stricter test passes no more
-pub count-fewer : {A : Type 0} (p q : A → Bool) → ((x : A) → p x ≡ true → q x ≡ true) → (xs : List A) → count p xs ≤ count q xs
-unfolding count
-count-fewer p q w [] = omega arith
-count-fewer p q w (x ∷ xs) = go (p x) refl (q x) refl (count-fewer p q w xs)
-  where
-    go : (t : Bool) → p x ≡ t → (u : Bool) → q x ≡ u → count p xs ≤ count q xs → cond t (suc (count p xs)) (count p xs) ≤ cond u (suc (count q xs)) (count q xs)
-    go true a true b h = omega arith
-    go true a false b h = absurd (let c : q x ≡ true = w x a in let z : _≡_ {A = ℕ} 0 1 = cc in omega arith)
-    go false a true b h = omega arith
-    go false a false b h = omega arith
 
 -- a file has at most as many lines as bytes
 pub lines-most : (b : Bytes) → length (lines b) ≤ length b

@@ -1,12 +1,12 @@
 -- What cells, rows and lines add to the weights. Assumes nothing.
-use mathlib.Core.Path.{_≡_, refl, sym, ap, _∙_}
+use mathlib.Core.Path.{_≡_, refl, ap, _∙_}
 use mathlib.Core.Bool.{Bool, true, false, cond, not, _&&_}
 use mathlib.Core.List.{List, [], _∷_}
 use Prim.Native.Nat.{ℕ, suc, _+_, _-_, _≤_, _<_}
 use native.Mathlib.Numerals.{add-one}
 use native.Mathlib.Omega.{arith}
 use lib.Dec.{eqb, ltb}
-use lib.ListN.{length, drop, getD, set, length-set, List·getD-eq-default}
+use lib.ListN.{length, drop, getD, set, List·getD-eq-default}
 use lib.Seq.{getD-set-same, getD-set-other}
 use borrow.Author.Tests.{eq-eqb, ne-eqb, eqb-true, eqb-false, ltb-true, ltb-false}
 use Rattle.text.specs.Bytes.{Bytes, is}
@@ -17,7 +17,7 @@ use Rattle.text.proofs.Laws.Lines.{lines-done}
 use Rattle.text.proofs.Laws.Pieces.{piece-cut, piece-last}
 use Rattle.fee.specs.Sums.{bit}
 use Rattle.weights.specs.Weights.{PROTEIN}
-use Rattle.weights.specs.Marks.{Good, isCounted, withCell, adds, marks, lineAdds, linesAdd, Room, Adds}
+use Rattle.weights.specs.Marks.{Good, withCell, adds, marks, lineAdds, linesAdd, Room, Adds}
 
 -- ONE CELL
 
@@ -33,14 +33,6 @@ module _ (mark : ℕ) (cell : Bytes) (ws : List ℕ) where
   pub cell-counts : (mark ≡ 0 → ⊥) → is cell "null" ≡ false → set ws (mark - 1) (getD ws (mark - 1) 0 + 1) ≡ withCell mark cell ws
   unfolding withCell
   cell-counts n e = rw (ne-eqb mark 0 n, e)
-
-  pub cell-long : length (withCell mark cell ws) ≡ length ws
-  unfolding withCell
-  cell-long = go (isCounted mark cell)
-    where
-      go : (t : Bool) → length (cond t (set ws (mark - 1) (getD ws (mark - 1) 0 + 1)) ws) ≡ length ws
-      go true = length-set ws (mark - 1) (getD ws (mark - 1) 0 + 1)
-      go false = refl
 
   -- it adds one to the weight of its study variable
   pub cell-adds : mark ≤ length ws → (i : ℕ) → getD (withCell mark cell ws) i 0 ≡ getD ws i 0 + bit (eqb mark (suc i) && not (is cell "null"))

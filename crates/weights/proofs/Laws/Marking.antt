@@ -1,7 +1,7 @@
 -- The marks of a header, cell by cell. Assumes nothing.
 use mathlib.Core.Path.{_≡_, refl, sym, ap, _∙_}
 use mathlib.Core.Bool.{Bool, true, false, cond}
-use mathlib.Core.List.{List, [], _∷_}
+use mathlib.Core.List.{List, []}
 use Prim.Native.Nat.{ℕ, suc, _+_, _-_, _≤_, _<_}
 use native.Mathlib.Omega.{arith}
 use lib.Dec.{eqb, ltb}
@@ -17,7 +17,7 @@ use Rattle.references.proofs.Laws.Names.{ref-le}
 use Rattle.breaks.proofs.Laws.Celling.{cell-here}
 use Rattle.judging.proofs.Laws.Parting.{same-everywhere}
 use Rattle.weights.specs.Weights.{WORD}
-use Rattle.weights.specs.Marks.{variableOf, Good, Marked}
+use Rattle.weights.specs.Marks.{variableOf, Marked}
 
 -- what stands past the last cell names no study variable
 pub none-named : variableOf [] ≡ 0

@@ -1,30 +1,29 @@
 -- What the lines of an accepted file add to a weight is the weight: each study variable has at most one column. Assumes nothing.
 use mathlib.Core.Path.{_≡_, refl, sym, ap, subst, _∙_}
 use mathlib.Core.Bool.{Bool, true, false, cond, not, _&&_, and-false}
-use mathlib.Core.List.{List, [], _∷_, _++_}
+use mathlib.Core.List.{List, [], _∷_}
 use mathlib.Core.Option.{Option, none, some}
 use Prim.Native.Nat.{ℕ, zero, suc, _+_, _-_, _≤_, _<_}
 use native.Mathlib.Omega.{arith}
 use lib.Dec.{eqb, ltb}
 use lib.ListN.{length, drop, getD, getElem?, length-drop, List·getD-eq-default}
 use lib.Seq.{getD-drop}
-use borrow.Author.Tests.{eq-eqb, ne-eqb, eqb-true, eqb-false, ltb-true, ltb-false, lt-ltb}
-use Rattle.text.specs.Bytes.{Bytes, bytes, same, is, begins, onFirst, splitOn, count}
+use borrow.Author.Tests.{ne-eqb, eqb-true, eqb-false, ltb-true, ltb-false}
+use Rattle.text.specs.Bytes.{Bytes, bytes, same, is, begins, splitOn, count}
 use Rattle.text.specs.Lines.{LIMIT, lines, cells, coded}
-use Rattle.text.specs.Codes.{isSection, headerCode, rowCode}
+use Rattle.text.specs.Codes.{headerCode, rowCode}
 use Rattle.text.proofs.Laws.Same.{same-equal, same-self}
 use Rattle.text.proofs.Laws.Counts.{count-most, count-less, lines-most}
-use Rattle.references.specs.Index.{written}
 use Rattle.references.specs.References.{refTo}
 use Rattle.references.proofs.Laws.Names.{ref-read, ref-written}
 use Rattle.rows.specs.Rows.{Line, rowOf, textOf, headerOf, placeOf, columnNamed, columnOf}
 use Rattle.rows.proofs.Laws.Rowing.{header-line}
-use Rattle.breaks.specs.Sorts.{sortOf, isHeader}
+use Rattle.breaks.specs.Sorts.{isHeader}
 use Rattle.breaks.specs.Rules.{breaks}
 use Rattle.breaks.proofs.Laws.Accepted.{accepted-width, accepted-apart, header-coded}
 use Rattle.fee.specs.Sums.{bit}
 use Rattle.weights.specs.Weights.{PROTEIN, WORD, abundance, isGiven, hasIn, weightOf}
-use Rattle.weights.specs.Marks.{variableOf, Marked, adds, marks, lineAdds, linesAdd}
+use Rattle.weights.specs.Marks.{variableOf, Marked, adds, marks, linesAdd}
 use Rattle.weights.specs.declared.Marks.{Marks}
 use Rattle.weights.proofs.Laws.Marking.{none-named}
 use Rattle.weights.proofs.Laws.Adding.{adds-none, adds-alike}

@@ -1,12 +1,12 @@
 -- `weights::count_row` meets its contract. The invariant: what was added and what the cells left will add is what all cells add. Assumes nothing.
-use mathlib.Core.Path.{_≡_, refl, ap, _∙_}
+use mathlib.Core.Path.{_≡_, refl, _∙_}
 use Prim.Native.Nat.{ℕ, suc, _+_, _-_, _≤_, _<_}
 use native.Mathlib.Omega.{arith}
 use borrow.Author.Needs.{needs}
 use lib.ListN.{length, drop, getD}
 use Rattle.text.specs.Lines.{cells}
 use Rattle.weights.specs.Marks.{adds, marks as marked}
-use Rattle.weights.proofs.Laws.Adding.{cell-long, turn-next, turn-last, turn-none}
+use Rattle.weights.proofs.Laws.Adding.{turn-next, turn-last, turn-none}
 use Rattle.weights.proofs.count_row.Statement.{statement}
 use Rattle.weights.proofs.count_row.Tie as tie
 

@@ -1,5 +1,4 @@
 -- `weights::marks_in` meets its contract. The invariant: the cells before k are marked, and the cells from `at` on are left. Assumes nothing.
-use mathlib.Core.Path.{_≡_}
 use Prim.Native.Nat.{_-_, _≤_}
 use native.Mathlib.Omega.{arith}
 use borrow.Author.Needs.{needs}
