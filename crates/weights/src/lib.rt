@@ -31,7 +31,7 @@ const PROTEIN: u32 = 1;
 const MOST_CELLS: usize = 256;
 
 // The study variable of each cell of a header, 0 for none, and after which cell there is none more.
-pub struct Marks {
+struct Marks {
     of: [u8; MOST_CELLS],
     width: usize,
 }
