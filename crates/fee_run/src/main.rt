@@ -1,5 +1,6 @@
 // Adds and splits amounts as the lines of a table on standard input ask, and prints what is given back. `add A B`: the number and the sum. `split FEE PLACES W1
-// W2 ..`: the number, and each of the lent places afterwards, which held 7 before. At most 70 weights and 70 places.
+// W2 ..`: the number, and each of the lent places afterwards, which held 7 before. At most 70 weights and 70 places. A split into 64 places is run over
+// `Cents` too, and its line ends with ` DIFFERENT` where the two do not agree.
 use fee::Cents;
 use fee::split_places;
 use fields::next_field;
@@ -7,11 +8,17 @@ use fields::number_at;
 use fields::short_at;
 use text::bytes::begins_with;
 use text::lines::line_at;
+ghost use mathlib.Core.Path.{_≡_};
 ghost use Prim.Native.Nat.{_≤_};
-ghost use lib.ListN.{length};
+ghost use lib.ListN.{length, replicate};
+ghost use Rattle.fee.specs.Places.{cents};
+ghost use Rattle.fee.specs.Split.{splitOf};
 
 // How many weights and places there can be.
 const MOST: usize = 70;
+
+// How many places there are where both splits are run.
+const LISTED: usize = 64;
 
 fn print_next(n: u64) {
     io::write_all(1, b" ");
@@ -57,12 +64,52 @@ fn print_places(places: &[u64]) {
     }
 }
 
-// Splits a fee into the places, and prints them.
+// A list of 64 amounts, each 7 before, as the split over `Cents` leaves it, and the number that it writes.
+fn listed(fee: Cents, weights: &[u32], number: &mut u32) -> [Cents; 64]
+    ensures { λ r. ⌜ r ≡ splitOf cents (fee .0) (now (weights .entry)) (replicate 64 (record { 0 = 7 })) .shares ⌝ }
+    ensures { λ r. ⌜ now (number .exit) ≡ splitOf cents (fee .0) (now (weights .entry)) (replicate 64 (record { 0 = 7 })) .number ⌝ }
+{
+    let mut list = [Cents(7); 64];
+    fee.split(weights, &mut list, number);
+    list
+}
+
+// Whether the places hold the amounts of the list.
+fn same_amounts(list: [Cents; 64], places: &[u64]) -> bool
+    requires { ⌜ length (now places) ≡ 64 ⌝ }
+{
+    let mut k = 0;
+    while k < LISTED {
+        let c = list[k];
+        if c.0 != places[k] {
+            return false;
+        }
+        k += 1;
+    }
+    true
+}
+
+// Says so where the split over `Cents` gives another number, or leaves another amount.
+fn compare(fee: u64, weights: &[u32], places: &[u64], number: u32)
+    requires { ⌜ length (now places) ≡ 64 ⌝ }
+{
+    let mut other: u32 = 9;
+    let list = listed(Cents(fee), weights, &mut other);
+    let same = same_amounts(list, places);
+    if (other != number) | !same {
+        io::write_all(1, b" DIFFERENT");
+    }
+}
+
+// Splits a fee into the places, and prints them; where there are 64, over `Cents` too.
 fn split_into(fee: u64, weights: &[u32], shares: &mut [u64]) {
     let mut number: u32 = 9;
     split_places(fee, weights, shares, &mut number);
     io::print_decimal(1, number as u64);
     print_places(shares);
+    if shares.len() == LISTED {
+        compare(fee, weights, shares, number);
+    }
 }
 
 // Splits a fee into so many places, at most 70.
