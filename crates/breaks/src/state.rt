@@ -6,13 +6,14 @@ ghost use lib.Dec.{ltb};
 ghost use Rattle.breaks.specs.Carried.{initial, afterHeader, afterRow};
 
 // Of the lines above: the sections that had a header, the highest of them, the nearest header's section and number of cells (0 and 1 where there is
-// none), and whether any is a header or row.
+// none), and whether any is a header or row. `table` stands beside `seen`: at the end it would leave seven bytes of padding, which a copy takes in two halves
+// that overlap, and the next copy waits for both.
 pub struct State {
     pub seen: [bool; 5],
+    pub table: bool,
     pub highest: u32,
     pub section: u32,
     pub width: usize,
-    pub table: bool,
 }
 
 // No line is above.

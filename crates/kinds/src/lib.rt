@@ -109,15 +109,24 @@ pub fn of_kind(kind: u8, family: u8, s: &[u8]) -> bool
     }
 }
 
-// Whether a table's cell is of its column's kind: `null` stands for missing, save where it may not stand.
+// Whether a table's cell is of its column's kind: `null` stands for missing, save where it may not stand. The kinds that most columns have come first and
+// do without the call of of_kind, which costs as much as they do.
 pub fn cell_of_kind(kind: u8, s: &[u8]) -> bool
     ensures { λ r. ⌜ r ≡ cellOfKind kind (now (s .entry)) ⌝ }
 {
+    if kind == b'T' {
+        return is_text(s);
+    }
     if kind == b'K' {
         return is_kept(s);
     }
     if is_null(s) {
         return true;
     }
-    of_kind(kind, b'-', s)
+    match kind {
+        b'W' => is_whole(s),
+        b'D' => is_decimal(s),
+        b'Q' => is_parameters(s),
+        _ => of_kind(kind, b'-', s),
+    }
 }

@@ -56,16 +56,6 @@ fn fills(commas: u32, filled: bool, b: u8) -> bool
     true
 }
 
-// The same for a byte outside marks, where a comma ends the field.
-fn fills_outside(commas: u32, filled: bool, b: u8) -> bool
-    ensures { λ r. ⌜ r ≡ cond (eqb b comma) filled (held commas filled b) ⌝ }
-{
-    if b == COMMA {
-        return filled;
-    }
-    fills(commas, filled, b)
-}
-
 // Whether b, outside marks, ends a part.
 fn ends_part(bars: bool, b: u8) -> bool
     ensures { λ r. ⌜ r ≡ (bars && eqb b bar) ⌝ }
@@ -99,8 +89,11 @@ fn outside_scan(s: &[u8], at: usize, end: usize, bars: bool, commas: u32, filled
                 filled: f,
             };
         }
-        f = fills_outside(n, f, b);
-        n = counted(n, b);
+        if b == COMMA {
+            n = counted(n, b);
+        } else {
+            f = fills(n, f, b);
+        }
         i += 1;
     }
     Scan {

@@ -10,3 +10,4 @@ pub mod Counts
 pub mod Same
 pub mod Begins
 pub mod Control
+pub mod Blocks

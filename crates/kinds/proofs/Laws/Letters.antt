@@ -1,10 +1,12 @@
 -- What the letters of the book stand for, where a letter is none of those asked for. Assumes nothing.
 use Prim.Native.Nat.{ℕ}
-use mathlib.Core.Path.{_≡_}
-use mathlib.Core.Bool.{true, false, and-false, and-true}
+use mathlib.Core.Path.{_≡_, refl}
+use mathlib.Core.Bool.{Bool, true, false, _||_, and-false, and-true}
+use mathlib.Core.List.{[], _∷_}
 use borrow.Author.Tests.{eq-eqb, ne-eqb}
-use Rattle.text.specs.Bytes.{Bytes}
-use Rattle.values.specs.Values.{isText, isNull}
+use Rattle.text.specs.Bytes.{Bytes, bytes, same, isEmpty}
+use Rattle.values.specs.Values.{isText, isNull, isWhole, isDecimal}
+use Rattle.parameters.specs.Parameters.{isParameters}
 use Rattle.kinds.specs.Kinds.{familyNumber, isKept, ofKind, cellOfKind}
 
 pub no-family : (f : ℕ) → (f ≡ 83 → ⊥) → (f ≡ 65 → ⊥) → (f ≡ 86 → ⊥) → (f ≡ 82 → ⊥) → familyNumber f ≡ 4
@@ -32,6 +34,16 @@ other-text k f b w d l n p q r s t u v x y z =
       ne-eqb k 116 z,
     )
 
+-- `null` is text
+null-text : (b : Bytes) → (isNull b || isText b) ≡ isText b
+unfolding isNull isText isEmpty same bytes
+null-text [] = refl
+null-text (x ∷ xs) = go (isNull (x ∷ xs))
+  where
+    go : (t : Bool) → (t || true) ≡ true
+    go true = refl
+    go false = refl
+
 -- CELLS
 module _ (b : Bytes) where
   pub kept-null : isNull b ≡ true → isKept b ≡ false
@@ -54,3 +66,20 @@ module _ (b : Bytes) where
     pub cell-value : (k ≡ 75 → ⊥) → isNull b ≡ false → cellOfKind k b ≡ ofKind k 45 b
     unfolding cellOfKind
     cell-value n h = rw (ne-eqb k 75 n, h)
+
+    -- text may be missing too, and the kinds that most columns have
+    pub cell-text : k ≡ 84 → cellOfKind k b ≡ isText b
+    unfolding cellOfKind ofKind
+    cell-text e = rw e (null-text b)
+
+    pub value-whole : k ≡ 87 → ofKind k 45 b ≡ isWhole b
+    unfolding ofKind
+    value-whole e = rw e
+
+    pub value-decimal : k ≡ 68 → ofKind k 45 b ≡ isDecimal b
+    unfolding ofKind
+    value-decimal e = rw e
+
+    pub value-parameters : k ≡ 81 → ofKind k 45 b ≡ isParameters b
+    unfolding ofKind
+    value-parameters e = rw e

@@ -2,10 +2,11 @@
 -- The invariant of each: the run over the whole part is the run over what is left of it, from the state so far. Assumes nothing.
 use mathlib.Core.Path.{_≡_, refl, sym, _∙_}
 use native.Mathlib.Omega.{arith}
+use mathlib.Core.Logic.{⊎-elim}
 use mathlib.Core.Bool.{true, false}
 use Rattle.text.specs.Places.{part}
 use Rattle.parameters.specs.Scan.{state, run}
-use Rattle.parameters.proofs.Laws.Scans.{run-none, run-inner, run-closes, run-opens, run-stops, run-outer}
+use Rattle.parameters.proofs.Laws.Scans.{run-none, run-inner, run-closes, run-opens, run-stops, run-comma, run-field}
 use Prim.Native.Nat.{ℕ, _-_, _≤_, _<_}
 use borrow.Fn.Kinds.{In}
 use borrow.Fn.PlainCycle.{Measures, is, falls, and}
@@ -18,7 +19,6 @@ use Rattle.parameters.proofs.+inside_scan+outside_scan.Lts-outside_scan
 use Rattle.parameters.proofs.counted.Reads as counted-reads
 use Rattle.parameters.proofs.ends_part.Reads as ends-part-reads
 use Rattle.parameters.proofs.fills.Reads as fills-reads
-use Rattle.parameters.proofs.fills_outside.Reads as fills-outside-reads
 use Rattle.parameters.proofs.+inside_scan+outside_scan.{statement}
 use Rattle.parameters.proofs.+inside_scan+outside_scan.Tie.{close}
 
@@ -101,8 +101,6 @@ outside-scan-returns : (t : ℕ) → outside-scan-lts.Need-returns (
   inside-scan.Post,
   ends-part-reads.Asked,
   ends-part-reads.Learnt,
-  fills-outside-reads.Asked,
-  fills-outside-reads.Learnt,
   counted-reads.Asked,
   counted-reads.Learnt,
 ) (outside-scan-at t) outside-scan.Post outside-scan-Inv-loop outside-scan-μ-loop
@@ -118,8 +116,6 @@ outside-scan-returns-2 : (t : ℕ) → outside-scan-lts.Need-returns-2 (
   inside-scan.Post,
   ends-part-reads.Asked,
   ends-part-reads.Learnt,
-  fills-outside-reads.Asked,
-  fills-outside-reads.Learnt,
   counted-reads.Asked,
   counted-reads.Learnt,
 ) (outside-scan-at t) outside-scan.Post outside-scan-Inv-loop outside-scan-μ-loop
@@ -135,16 +131,18 @@ outside-scan-loop-again : (t : ℕ) → outside-scan-lts.Need-loop-again (
   inside-scan.Post,
   ends-part-reads.Asked,
   ends-part-reads.Learnt,
-  fills-outside-reads.Asked,
-  fills-outside-reads.Learnt,
   counted-reads.Asked,
   counted-reads.Learnt,
 ) (outside-scan-at t) outside-scan.Post outside-scan-Inv-loop outside-scan-μ-loop
 outside-scan-loop-again t c =
-    let at-else = c .before .before in
-    let l = c .before .before .before .before .before .before .before .loop in
-    let a = c .before .before .before .before .before .before .before .before .before .args in
-    (omega arith, omega arith, l .inv .2 ∙ run-outer (a .bars) (a .s .now) (l .i) (a .end) (omega arith) (omega arith) (l .n) (c .counted .result) (l .f) (c .before .fills-outside .result) (at-else .before .before .if1 .left) (sym (at-else .before .ends-part .ensures) ∙ at-else .if2 .left) (c .counted .ensures) (c .before .fills-outside .ensures))
+    let at-else = c .before in
+    let l = c .before .before .before .before .before .before .loop in
+    let a = c .before .before .before .before .before .before .before .before .args in
+    let no-mark = at-else .before .before .if1 .left in
+    let no-end = sym (at-else .before .ends-part .ensures) ∙ at-else .if2 .left in
+    ⊎-elim (λ w. (omega arith, omega arith, l .inv .2 ∙ rw (w .2, w .3) (run-comma (a .bars) (a .s .now) (l .i) (a .end) (omega arith) (omega arith) (l .n) (w .1 .result) (l .f) no-mark no-end (w .0 .taken) (w .1 .ensures))))
+    (λ w. (omega arith, omega arith, l .inv .2 ∙ rw (w .2, w .3) (run-field (a .bars) (a .s .now) (l .i) (a .end) (omega arith) (omega arith) (l .n) (l .f) (w .1 .result) no-mark no-end (w .0 .left) (w .1 .ensures))))
+    (c .if3 .came)
 
 outside-scan-returns-3 : (t : ℕ) → outside-scan-lts.Need-returns-3 (
   fills-reads.Asked,
@@ -153,8 +151,6 @@ outside-scan-returns-3 : (t : ℕ) → outside-scan-lts.Need-returns-3 (
   inside-scan.Post,
   ends-part-reads.Asked,
   ends-part-reads.Learnt,
-  fills-outside-reads.Asked,
-  fills-outside-reads.Learnt,
   counted-reads.Asked,
   counted-reads.Learnt,
 ) (outside-scan-at t) outside-scan.Post outside-scan-Inv-loop outside-scan-μ-loop
@@ -192,8 +188,6 @@ pub +inside-scan+outside-scan-spec : {M : Type 1} → statement M
       inside-scan.Post,
       ends-part-reads.Asked,
       ends-part-reads.Learnt,
-      fills-outside-reads.Asked,
-      fills-outside-reads.Learnt,
       counted-reads.Asked,
       counted-reads.Learnt,
     )

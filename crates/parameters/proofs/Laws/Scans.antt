@@ -56,6 +56,17 @@ module _ (bars : Bool) (l : List ℕ) (i e : ℕ) (h : i < e) (k : e ≤ length 
       → g ≡ cond (eqb (getD l i 0) 44) f (held n f (getD l i 0)) → run bars (state i n false f) (part i e l) ≡ run bars (state (i + 1) m false g) (part (i + 1) e l)
   run-outer n m f g b s v w = run-next (state i n false f) ∙ rw (s, ne-eqb (getD l i 0) 34 b, v, w)
 
+  -- a comma, and a byte of a field
+  pub run-comma :
+      (n m : ℕ) (f : Bool) → (getD l i 0 ≡ 34 → ⊥) → (bars && eqb (getD l i 0) 124) ≡ false → getD l i 0 ≡ 44 → m ≡ cond (eqb (getD l i 0) 44) (more n) n
+      → run bars (state i n false f) (part i e l) ≡ run bars (state (i + 1) m false f) (part (i + 1) e l)
+  run-comma n m f b s c v = run-outer n m f f b s v (rw (eq-eqb (getD l i 0) 44 c))
+
+  pub run-field :
+      (n : ℕ) (f g : Bool) → (getD l i 0 ≡ 34 → ⊥) → (bars && eqb (getD l i 0) 124) ≡ false → (getD l i 0 ≡ 44 → ⊥) → g ≡ held n f (getD l i 0)
+      → run bars (state i n false f) (part i e l) ≡ run bars (state (i + 1) n false g) (part (i + 1) e l)
+  run-field n f g b s c w = run-outer n n f g b s (rw (ne-eqb (getD l i 0) 44 c)) (rw (ne-eqb (getD l i 0) 44 c) w)
+
 -- ONE BLOCK MORE
 
 -- a run goes no further than its text
