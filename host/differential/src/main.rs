@@ -4,6 +4,7 @@
 //!
 //! `differential [--seed S] [--from K] [--count N] [--sample M]`: N drawn files, beside the hostile ones and every M-th of those written by
 //! hand, else all. With `--from` the drawn files K to K + N - 1 alone, so that a run can be cut into parts. The same seed draws the same files.
+//! With `--table 1` nothing is compared: the drawn files are written as a table for the run tests that judge.
 
 #![forbid(unsafe_code)]
 
@@ -15,6 +16,7 @@ mod grammar;
 mod weights;
 
 use std::env;
+use std::io::{self, Write};
 use std::process::ExitCode;
 
 use compare::{compare, Tried};
@@ -30,6 +32,9 @@ const WEIGHED: u64 = 10;
 const SPLITS: usize = 2;
 /// So many bytes have the hostile files.
 const HOSTILE: [usize; 2] = [10_000, 40_000];
+/// A file of a table ends with this byte, and a run test takes so many bytes of a table.
+const FILE_END: u8 = 30;
+const TABLE: usize = 262_144;
 /// After so many differences no more are looked for.
 const ENOUGH: u32 = 10;
 
@@ -38,11 +43,20 @@ fn main() -> ExitCode {
         Ok(options) => options,
         Err(words) => {
             eprintln!(
-                "differential: {words}: use differential [--seed S] [--from K] [--count N] [--sample M]"
+                "differential: {words}: use differential [--seed S] [--from K] [--count N] [--sample M] [--table 1]"
             );
             return ExitCode::from(2);
         }
     };
+    if options.table {
+        return match io::stdout().write_all(&table(&options)) {
+            Ok(()) => ExitCode::SUCCESS,
+            Err(error) => {
+                eprintln!("differential: the table could not be written: {error}");
+                ExitCode::FAILURE
+            }
+        };
+    }
     let mut run = Run::default();
     if options.from.is_none() {
         run.by_hand(&options);
@@ -58,6 +72,26 @@ fn main() -> ExitCode {
     } else {
         ExitCode::FAILURE
     }
+}
+
+/// The draws of the k-th file: each has its own, so that one can be drawn again without those before it.
+fn draws_of(seed: u64, k: u64) -> Draws {
+    Draws::new(seed ^ k.wrapping_mul(0x2545_f491_4f6c_dd1d))
+}
+
+/// The drawn files as a table, but for those that hold the byte which ends a file, and those that no longer fit.
+fn table(options: &Options) -> Vec<u8> {
+    let near = grammar::near_values();
+    let from = options.from.unwrap_or(0);
+    let mut table = Vec::new();
+    for k in from..from.saturating_add(options.count) {
+        let file = grammar::file(&near, &mut draws_of(options.seed, k));
+        if !file.contains(&FILE_END) && table.len() + file.len() < TABLE {
+            table.extend(file);
+            table.push(FILE_END);
+        }
+    }
+    table
 }
 
 /// What was compared so far, and how many files differ.
@@ -108,8 +142,7 @@ impl Run {
         let from = options.from.unwrap_or(0);
         let weighed_before = self.tried.weighed;
         for k in from..from.saturating_add(options.count) {
-            // Each file has draws of its own, so that one can be drawn again without those before it.
-            let mut draws = Draws::new(options.seed ^ k.wrapping_mul(0x2545_f491_4f6c_dd1d));
+            let mut draws = draws_of(options.seed, k);
             let file = grammar::file(&near, &mut draws);
             let label = format!("seed {}, file {k}", options.seed);
             self.try_one(&label, &file, &mut draws);
@@ -207,6 +240,7 @@ struct Options {
     from: Option<u64>,
     count: u64,
     sample: usize,
+    table: bool,
 }
 
 fn options() -> Result<Options, String> {
@@ -215,6 +249,7 @@ fn options() -> Result<Options, String> {
         from: None,
         count: COUNT,
         sample: 1,
+        table: false,
     };
     let mut words = env::args().skip(1);
     while let Some(word) = words.next() {
@@ -225,6 +260,7 @@ fn options() -> Result<Options, String> {
             "--from" => options.from = Some(value),
             "--count" => options.count = value,
             "--sample" => options.sample = value.max(1) as usize,
+            "--table" => options.table = value != 0,
             _ => return Err(format!("there is no option `{word}`")),
         }
     }
