@@ -3,7 +3,7 @@ use mathlib.Core.Path.{_≡_, refl, sym, ap, subst, _∙_}
 use mathlib.Core.Bool.{Bool, true, false}
 use mathlib.Core.List.{List}
 use mathlib.Core.Logic.{inl, inr}
-use Prim.Native.Nat.{ℕ, zero, suc, _+_, _-_, _*_, _≤_, _<_}
+use Prim.Native.Nat.{ℕ, _+_, _-_, _*_, _≤_, _<_}
 use native.Mathlib.Omega.{arith}
 use lib.Dec.{eqb}
 use lib.Seq.{getD-set-same, getD-set-other}
@@ -11,13 +11,13 @@ use lib.ListN.{length, getD, set, length-set}
 use borrow.Author.Tests.{eqb-true, eqb-false}
 use Rattle.text.specs.Bytes.{Bytes}
 use Rattle.text.specs.Places.{part}
-use Rattle.stamps.specs.Stamps.{DOORS, BRANCHES, ASKS, STARTS, ENDS, ROOM, IsDoor, branch, nameAt, hashOf, bitOf, entered, forked}
+use Rattle.stamps.specs.Stamps.{DOORS, BRANCHES, ASKS, ROOM, IsDoor, branch, nameAt, hashOf, bitOf, entered, forked}
 use Rattle.stamps.specs.Ways.{Way, here, Known, Noted, Adds}
 use Rattle.stamps.proofs.Laws.Asking.{hash-below, bit-below}
 use Rattle.stamps.proofs.Laws.Passing.{way-first, way-one, way-range, way-on}
 use Rattle.stamps.proofs.Laws.Naming.{named-one, named-none, named-more}
 use Rattle.stamps.proofs.Laws.Writing.{entered-length, entered-other, entered-own, forked-length, forked-other, forked-ask, forked-else, forked-door}
-use Rattle.stamps.proofs.Laws.Noting.{Split, Turned, Grows, names-stay, name-new, way-grown, known-stays, noted-more}
+use Rattle.stamps.proofs.Laws.Noting.{Turned, Grows, names-stay, name-new, way-grown, known-stays, noted-more}
 
 module _ {t : List ℕ} {n : ℕ} {line : Bytes} {m : ℕ} (noted : Noted t n line m) (few : m ≤ 254) (start end : ℕ) (up : start ≤ end) (within : end ≤ length line) where
   -- a place of the first m, below the questions, is as it was

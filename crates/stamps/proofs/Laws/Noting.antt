@@ -1,23 +1,18 @@
 -- The first names are noted, and one more with them: it is the first of its stamp, or came before, or gets a fork of its own. Assumes nothing.
-use mathlib.Core.Path.{_≡_, refl, sym, ap, subst, _∙_}
-use mathlib.Core.Bool.{Bool, true, false}
+use mathlib.Core.Path.{_≡_, _∙_}
 use mathlib.Core.List.{List}
-use mathlib.Core.Logic.{_⊎_, inl, inr, ⊎-elim}
-use Prim.Native.Nat.{ℕ, zero, suc, _+_, _-_, _*_, _%_, _≤_, _<_}
-use native.Mathlib.Nat.{not-suc-le-zero, eq-or-lt-of-le, le-of-suc-le-suc}
-use native.Mathlib.Numerals.{add-one}
+use mathlib.Core.Logic.{_⊎_, ⊎-elim}
+use Prim.Native.Nat.{ℕ, _+_, _≤_, _<_}
+use native.Mathlib.Nat.{not-suc-le-zero, eq-or-lt-of-le}
 use native.Mathlib.Omega.{arith}
-use lib.Dec.{eqb}
-use lib.Seq.{getD-set-same, getD-set-other}
-use lib.ListN.{length, getD, set, length-set}
-use borrow.Author.Tests.{eqb-true, eqb-false}
+use lib.ListN.{length, getD}
 use Rattle.text.specs.Bytes.{Bytes}
 use Rattle.text.specs.Places.{part}
-use Rattle.stamps.specs.Stamps.{DOORS, BRANCHES, ASKS, STARTS, ENDS, ROOM, IsDoor, branch, nameAt, hashOf, bitOf, entered, forked}
-use Rattle.stamps.specs.Ways.{Way, here, Doors, Known, Noted}
-use Rattle.stamps.proofs.Laws.Asking.{hash-below, bit-below}
-use Rattle.stamps.proofs.Laws.Passing.{way-first, way-one, way-last, way-on, way-stays}
-use Rattle.stamps.proofs.Laws.Writing.{entered-length, entered-other, entered-start, entered-end, entered-own, forked-length, forked-other, forked-ask, forked-else, forked-door}
+use Rattle.stamps.specs.Stamps.{DOORS, ASKS, STARTS, ENDS, ROOM, IsDoor, branch, nameAt, hashOf, bitOf, entered}
+use Rattle.stamps.specs.Ways.{Way, Known, Noted}
+use Rattle.stamps.proofs.Laws.Asking.{hash-below}
+use Rattle.stamps.proofs.Laws.Passing.{way-last, way-on, way-stays}
+use Rattle.stamps.proofs.Laws.Writing.{entered-other, entered-start, entered-end}
 
 -- no name is noted, whatever the list holds
 pub noted-none : (t : List ℕ) (n : ℕ) (line : Bytes) → length t ≡ ROOM → Noted t n line 0

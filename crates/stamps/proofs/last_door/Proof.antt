@@ -1,5 +1,5 @@
 -- `stamps::last_door` meets its contract. The loop's invariant: a way on from the door is a way from the first. Forks rise, so the way ends. Assumes nothing.
-use mathlib.Core.Path.{_≡_, refl}
+use mathlib.Core.Path.{refl}
 use Prim.Native.Nat.{ℕ, _+_, _≤_, _<_}
 use native.Mathlib.Omega.{arith}
 use borrow.Author.Needs.{needs}
