@@ -1,11 +1,11 @@
 -- `stamps::last_door` meets its contract. The loop's invariant: a way on from the door is a way from the first. Forks rise, so the way ends. Assumes nothing.
 use mathlib.Core.Path.{refl}
-use Prim.Native.Nat.{ℕ, _+_, _≤_, _<_}
+use Prim.Native.Nat.{ℕ, _≤_, _<_}
 use native.Mathlib.Omega.{arith}
 use borrow.Author.Needs.{needs}
 use borrow.Author.Tests.{not-true, not-false}
 use lib.ListN.{getD}
-use Rattle.stamps.specs.Stamps.{ASKS, IsDoor, branch}
+use Rattle.stamps.specs.Stamps.{IsDoor, branch}
 use Rattle.stamps.specs.Ways.{Way, here, on}
 use Rattle.stamps.proofs.Laws.Asking.{bit-below}
 use Rattle.stamps.proofs.Laws.Passing.{rank, rank-falls}
@@ -38,20 +38,16 @@ loop-holds c =
     (omega arith, omega arith, live .ensures .0 (not-false (live .result) (c .if1 .left)) .1, λ e w. w)
 
 -- the fork is one of those that came
-below : (c : tie.After-index Inv-loop μ-loop) → c .index .result < 254
-below c =
-    let l = c .before .before .before .before in
-    omega (arith, c .index .ensures, c .before .before .if2 .taken, l .loop .inv .2, start (l .before .before) .pre .1 .0)
-
 came : (c : tie.After-index Inv-loop μ-loop) → c .index .result < start (c .before .before .before .before .before .before) .args .count
 came c =
     let l = c .before .before .before .before in
     omega (arith, c .index .ensures, c .before .before .if2 .taken, l .loop .inv .2)
 
+below : (c : tie.After-index Inv-loop μ-loop) → c .index .result < 254
+below c = omega (arith, came c, start (c .before .before .before .before .before .before) .pre .1 .0)
+
 two : (c : tie.After-side Inv-loop μ-loop) → c .side .result < 2
-two c =
-    let args = start (c .before .before .before .before .before .before .before .before) .args in
-    rw (c .side .ensures) (bit-below (getD (args .stamps .now) (ASKS + c .before .before .index .result) 0) (args .name .now))
+two c = rw (c .side .ensures) (bit-below _ _)
 
 loop-less : tie.Need-loop-less Inv-loop μ-loop
 loop-less c =
@@ -67,7 +63,6 @@ loop-again c =
     let at-index = c .before .before in
     let l = at-index .before .before .before .before in
     let s = start (l .before .before) in
-    let t = s .args .stamps .now in
     let f = at-index .index .result in (
       omega arith,
       omega (arith, below at-index, two c),
