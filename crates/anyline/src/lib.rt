@@ -17,6 +17,7 @@ ghost use Rattle.breaks.specs.Sorts.{controlCell};
 ghost use Rattle.breaks.specs.Places.{lent, Puts};
 ghost use Rattle.book.specs.Rows.{IsBook};
 ghost use Rattle.ids.specs.Ids.{Flags};
+ghost use Rattle.stamps.specs.Stamps.{ROOM};
 ghost use Rattle.breaks.specs.Machine.{SLOTS, idsOf, unknownBreaks};
 ghost use Rattle.breaks.specs.Carried.{lineBreaks, Follows};
 
@@ -64,10 +65,10 @@ pub fn judge_line(
     requires { ⌜ Flags (now flags) ⌝ }
     requires { ⌜ length (now kinds) ≡ 256 ⌝ }
     requires { ⌜ length (now slots) ≡ SLOTS ⌝ }
-    requires { ⌜ length (now stamps) ≡ 4096 ⌝ }
+    requires { ⌜ length (now stamps) ≡ ROOM ⌝ }
     ensures { λ r. ⌜ Puts (lineBreaks (idsOf (now (flags .entry))) state (now (kinds .entry)) (now (slots .entry)) «line_no» (now (line .entry))) 1300 (lent (now (places .entry)) count) (lent (now (places .exit)) (r .count)) ⌝ }
     ensures { λ r. ⌜ Follows state (now (kinds .entry)) (now (slots .entry)) (now (line .entry)) (r .state) (now (kinds .exit)) (now (slots .exit)) ⌝ }
-    ensures { λ r. ⌜ length (now (stamps .exit)) ≡ 4096 ⌝ }
+    ensures { λ r. ⌜ length (now (stamps .exit)) ≡ ROOM ⌝ }
 {
     let sort = sort_of(line);
     let control = control_of(line);

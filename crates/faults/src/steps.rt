@@ -103,7 +103,7 @@ pub fn next(
     let d = s.runs;
     let flags = [a, b, c, d];
     let mut kinds = s.kinds;
-    let mut stamps = [0u32; 4096];
+    let mut stamps = [0u32; stamps::ROOM];
     let stand = judge_part(
         places,
         FULL,

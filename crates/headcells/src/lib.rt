@@ -4,21 +4,21 @@ use book::is_opt;
 use breaks::places::both;
 use breaks::places::either;
 use breaks::places::put_if;
-use headnames::came_before;
 use kinds::family_number;
 use names::Found;
+use stamps::came_before;
 use text::cells::cell_end;
 ghost use mathlib.Core.Path.{_≡_};
 ghost use Prim.Native.Nat.{_+_, _-_, _≤_, _<_};
 ghost use lib.ListN.{length, drop, set};
-ghost use Rattle.text.specs.Lines.{cells};
+ghost use Rattle.text.specs.Lines.{LIMIT, cells};
 ghost use Rattle.book.specs.Rows.{IsBook};
 ghost use Rattle.names.specs.Names.{isKnown};
 ghost use Rattle.book.specs.Columns.{columnOf};
 ghost use Rattle.breaks.specs.Places.{lent, Puts};
 ghost use Rattle.breaks.specs.Rules.{lastIndex, kindIn};
 ghost use Rattle.breaks.specs.Machine.{idsOf, columnIn, eachCell, nameCell, headCell, KindsOf, Within, knownBreaks};
-ghost use Rattle.headnames.specs.Stamps.{STAMPS as room};
+ghost use Rattle.stamps.specs.Stamps.{ROOM as room};
 
 // The letter of a column that names no id.
 const NO_FAMILY: u8 = b'-';
@@ -186,7 +186,7 @@ pub fn head_cells(
 ) -> u32
     requires { ⌜ count ≤ 4000000000 ⌝ }
     requires { ⌜ IsBook (now book) ⌝ }
-    requires { ⌜ from ≤ length (now line) ⌝ }
+    requires { ⌜ (from ≤ length (now line)) × (length (now line) ≤ LIMIT) ⌝ }
     requires { ⌜ length (cells (drop from (now line))) ≤ 255 ⌝ }
     requires { ⌜ length (now kinds) ≡ 256 ⌝ }
     requires { ⌜ length (now stamps) ≡ room ⌝ }
@@ -201,7 +201,7 @@ pub fn head_cells(
     let mut opt = false;
     loop {
         let e = cell_end(line, at);
-        let again = came_before(stamps, line_no, line, from, (c - 2) as usize, &line[at..e]);
+        let again = came_before(stamps, line_no, line, (c - 2) as usize, at, e);
         k = head_cell(
             places,
             k,

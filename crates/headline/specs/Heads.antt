@@ -6,16 +6,16 @@ use lib.ListN.{length, drop}
 use Rattle.text.specs.Bytes.{Bytes}
 use Rattle.text.specs.Lines.{cells}
 use Rattle.breaks.specs.Machine.{KindsOf}
-use Rattle.headnames.specs.Stamps.{STAMPS}
+use Rattle.stamps.specs.Stamps.{ROOM}
 
 -- the names' kinds are kept, and the lists have their lengths
 pub record Kept (section : ℕ) (names : List Bytes) (kinds stamps : List ℕ) : Type 0 where
   pub columns : KindsOf section names kinds
   pub kind-places : length kinds ≡ 256
-  pub stamp-places : length stamps ≡ STAMPS
+  pub stamp-places : length stamps ≡ ROOM
 
 -- the same of a header, where it has not over 256 cells
 pub record Keeps (section : ℕ) (line : Bytes) (kinds stamps : List ℕ) : Type 0 where
   pub columns : length (cells line) ≤ 256 → KindsOf section (drop 1 (cells line)) kinds
   pub kind-places : length kinds ≡ 256
-  pub stamp-places : length stamps ≡ STAMPS
+  pub stamp-places : length stamps ≡ ROOM

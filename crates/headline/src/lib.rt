@@ -7,11 +7,11 @@ use text::cells::count_cells;
 ghost use mathlib.Core.Path.{_≡_};
 ghost use Prim.Native.Nat.{_≤_, _<_};
 ghost use lib.ListN.{length, drop};
-ghost use Rattle.text.specs.Lines.{cells};
+ghost use Rattle.text.specs.Lines.{LIMIT, cells};
 ghost use Rattle.book.specs.Rows.{IsBook};
 ghost use Rattle.breaks.specs.Places.{lent, Puts};
 ghost use Rattle.breaks.specs.Machine.{idsOf, headBreaks, headFirst, nameBreaks};
-ghost use Rattle.headnames.specs.Stamps.{STAMPS as room};
+ghost use Rattle.stamps.specs.Stamps.{ROOM as room};
 ghost use Rattle.headline.specs.Heads.{Kept, Keeps};
 
 const MOST_CELLS: usize = 256;
@@ -52,7 +52,7 @@ fn head_names(
     requires { ⌜ count ≤ 3999999000 ⌝ }
     requires { ⌜ IsBook (now book) ⌝ }
     requires { ⌜ (0 < section) × (section < 5) ⌝ }
-    requires { ⌜ from ≤ length (now line) ⌝ }
+    requires { ⌜ (from ≤ length (now line)) × (length (now line) ≤ LIMIT) ⌝ }
     requires { ⌜ length (cells (drop from (now line))) ≤ 255 ⌝ }
     requires { ⌜ length (now kinds) ≡ 256 ⌝ }
     requires { ⌜ length (now stamps) ≡ room ⌝ }
@@ -97,6 +97,7 @@ pub fn judge_head(
     requires { ⌜ (0 < section) × (section < 5) ⌝ }
     requires { ⌜ length (now kinds) ≡ 256 ⌝ }
     requires { ⌜ length (now stamps) ≡ room ⌝ }
+    requires { ⌜ length (now line) ≤ LIMIT ⌝ }
     ensures { λ r. ⌜ Puts (headBreaks section again later (idsOf (now (flags .entry))) control «line_no» (cells (now (line .entry)))) 1300 (lent (now (places .entry)) count) (lent (now (places .exit)) r) ⌝ }
     ensures { λ r. ⌜ Keeps section (now (line .entry)) (now (kinds .exit)) (now (stamps .exit)) ⌝ }
 {

@@ -1,43 +1,17 @@
-// The names of a header: whether one came before, and whether a required one is absent.
+// The names of a header: whether a required one is absent.
 use text::bytes::same_bytes;
 use text::cells::cell_end;
 ghost use mathlib.Core.Path.{_≡_};
 ghost use mathlib.Core.Bool.{not};
 ghost use Prim.Native.Nat.{_≤_, _<_};
-ghost use lib.ListN.{length, take, drop, set};
+ghost use lib.ListN.{length, take, drop};
 ghost use Rattle.text.specs.Bytes.{any, all, same};
 ghost use Rattle.text.specs.Lines.{cells};
 ghost use Rattle.breaks.specs.Rules.{lacksColumn};
-ghost use Rattle.headnames.specs.Stamps.{STAMPS as room, hashOf, Stamped};
 ghost use Rattle.headnames.specs.Wanted.{isIn};
-
-// A hash keeps 16 bits of each turn, and its stamp stands at one of so many places.
-const BITS: usize = 65536;
-
-const STAMPS: usize = 4096;
 
 // A header of 256 cells has so many names.
 const NAMES: usize = 255;
-
-// A byte as a number of an index's width.
-fn wide(x: u8) -> usize
-    ensures { λ r. ⌜ r ≡ x ⌝ }
-{
-    x as usize
-}
-
-// The place of a name's stamp.
-fn hash(name: &[u8]) -> usize
-    ensures { λ r. ⌜ r ≡ hashOf (now (name .entry)) ⌝ }
-{
-    let mut h = 0;
-    let mut i = 0;
-    while i < name.len() {
-        h = (h * 33 + wide(name[i])) % BITS;
-        i += 1;
-    }
-    h % STAMPS
-}
 
 // Whether the name is one of the first `count` cells from `from` on.
 fn named_before(line: &[u8], from: usize, count: usize, name: &[u8]) -> bool
@@ -58,30 +32,6 @@ fn named_before(line: &[u8], from: usize, count: usize, name: &[u8]) -> bool
         left -= 1;
     }
     false
-}
-
-// The same, where those cells have left the line's number as their stamps: a name whose place has another stamp is none of them. It is stamped too.
-pub fn came_before(
-    stamps: &mut [u32],
-    line_no: u32,
-    line: &[u8],
-    from: usize,
-    count: usize,
-    name: &[u8],
-) -> bool
-    requires { ⌜ length (now stamps) ≡ room ⌝ }
-    requires { ⌜ from ≤ length (now line) ⌝ }
-    requires { ⌜ Stamped (now stamps) «line_no» (take count (cells (drop from (now line)))) ⌝ }
-    ensures { λ r. ⌜ r ≡ any (same (now (name .entry))) (take count (cells (drop from (now (line .entry))))) ⌝ }
-    ensures { λ r. ⌜ now (stamps .exit) ≡ set (now (stamps .entry)) (hashOf (now (name .entry))) «line_no» ⌝ }
-{
-    let h = hash(name);
-    let stamp = stamps[h];
-    stamps[h] = line_no;
-    if stamp != line_no {
-        return false;
-    }
-    named_before(line, from, count, name)
 }
 
 // Whether one of the wanted names, with tabs between them, is none of the cells from `from` on.

@@ -12,6 +12,7 @@ ghost use Rattle.text.specs.Lines.{LIMIT};
 ghost use Rattle.book.specs.Rows.{IsBook};
 ghost use Rattle.ids.specs.Ids.{Declared};
 ghost use Rattle.breaks.specs.Machine.{SLOTS};
+ghost use Rattle.stamps.specs.Stamps.{ROOM};
 ghost use Rattle.judging.specs.Parts.{beginning as first, Midway, Parts};
 
 // Where the judging of a file stands: whether there is more to judge, the place of the next line and how many lines are passed, the breaks of the parts
@@ -59,7 +60,7 @@ pub fn judge_part(
     requires { ⌜ Declared (now flags) (now file) ⌝ }
     requires { ⌜ length (now kinds) ≡ 256 ⌝ }
     requires { ⌜ length (now slots) ≡ SLOTS ⌝ }
-    requires { ⌜ length (now stamps) ≡ 4096 ⌝ }
+    requires { ⌜ length (now stamps) ≡ ROOM ⌝ }
     ensures { λ r. ⌜ Parts (now (file .entry)) room stand r (now (places .entry)) (now (places .exit)) ⌝ }
     ensures { λ r. ⌜ (r .more ≡ true → Midway (now (file .entry)) r (now (kinds .exit)) (now (slots .exit))) ⌝ }
     ensures { λ r. ⌜ (length (now (kinds .exit)) ≡ 256) × (length (now (slots .exit)) ≡ SLOTS) ⌝ }

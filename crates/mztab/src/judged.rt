@@ -25,7 +25,7 @@ pub fn judge_places(file: &[u8], places: &mut [u32], number: &mut u32) -> u32
     let flags = declared_ids(&rows, file);
     let mut kinds = [0u8; 256];
     let mut slots = [false; 257725];
-    let mut stamps = [0u32; 4096];
+    let mut stamps = [0u32; stamps::ROOM];
     let whole = judge_part(
         places,
         ALL,

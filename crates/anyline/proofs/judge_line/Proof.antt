@@ -68,7 +68,7 @@ judge-head-requires c κs =
     let told = c .before .before .before .before .before .before .before in
     let w = told .before .before in
     let pre = start w .pre in
-    (pre .0, (pre .1 .0, (section-of told, (pre .1 .1 .1 .1 .0, pre .1 .1 .1 .1 .1 .1))))
+    (pre .0, (pre .1 .0, (section-of told, (pre .1 .1 .1 .1 .0, (pre .1 .1 .1 .1 .1 .1, pre .1 .1 .0)))))
 
 after-header-requires : tie.Need-after-header-requires
 after-header-requires c κs = section-of (c .before .before .before .before .before .before .before .before .before .before .before .before) .1

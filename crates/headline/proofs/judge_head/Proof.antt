@@ -24,7 +24,7 @@ returns c =
     let count = at-count .count-cells .ensures in
     let taken = c .before .before .before .before .if1 .taken in (
       head-wide (args .section) (args .again) (args .later) (idsOf (args .flags .now)) (args .control) (args .line-no) (cells line) (rw count at (code .head-code .ensures)) (rw count at (taken)) (c .before .before .put-if .ensures),
-      record { columns = λ narrow. absurd (omega (arith, ltb-true 256 (length (cells line)) (rw count at taken), narrow)); kind-places = pre .1 .1 .1 .0; stamp-places = pre .1 .1 .1 .1 },
+      record { columns = λ narrow. absurd (omega (arith, ltb-true 256 (length (cells line)) (rw count at taken), narrow)); kind-places = pre .1 .1 .1 .0; stamp-places = pre .1 .1 .1 .1 .0 },
     )
 
 returns-2 : tie.Need-returns-2
@@ -41,7 +41,7 @@ returns-2 c =
     let last = cells-last (at-end .cell-end .ensures) (at-then .if2 .taken) in (
       head-named (args .section) (args .again) (args .later) (idsOf (args .flags .now)) (args .control) (args .line-no) (cells line) (rw count at (code .head-code .ensures)) (rw count at (at-end .before .if1 .left))
           (names-none (args .section) (idsOf (args .flags .now)) (args .control) (args .line-no) (drop 1 (cells line)) (pre .1 .1 .0) last (c .before .before .put-if2 .ensures)),
-      record { columns = λ narrow. rw last (λ i l. absurd (not-suc-le-zero l)); kind-places = pre .1 .1 .1 .0; stamp-places = pre .1 .1 .1 .1 },
+      record { columns = λ narrow. rw last (λ i l. absurd (not-suc-le-zero l)); kind-places = pre .1 .1 .1 .0; stamp-places = pre .1 .1 .1 .1 .0 },
     )
 
 head-names-requires : tie.Need-head-names-requires
@@ -58,7 +58,7 @@ head-names-requires c κs =
     let ends = at-end .cell-end .ensures in
     let lt : at-end .cell-end .result < length line = omega (arith, at-else .if2 .left, ends .within) in
     let narrow = ltb-false 256 (length (cells line)) (rw count at (at-end .before .if1 .left)) in
-    (omega (arith, pre .0, code .head-code .ensures .most), (pre .1 .0, (pre .1 .1 .0, (omega (arith, lt), (omega (arith, narrow, ap length (cell-here ends), ap length (cells-next ends lt)), (pre .1 .1 .1 .0, pre .1 .1 .1 .1))))))
+    (omega (arith, pre .0, code .head-code .ensures .most), (pre .1 .0, (pre .1 .1 .0, ((omega (arith, lt), pre .1 .1 .1 .1 .1), (omega (arith, narrow, ap length (cell-here ends), ap length (cells-next ends lt)), (pre .1 .1 .1 .0, pre .1 .1 .1 .1 .0))))))
 
 returns-3 : tie.Need-returns-3
 returns-3 c =

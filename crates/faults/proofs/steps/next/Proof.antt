@@ -1,12 +1,14 @@
 -- `faults::steps::next` meets its contract. Assumes nothing.
 use mathlib.Core.Path.{_≡_, refl, sym, ap, _∙_}
+use Prim.Native.Nat.{ℕ}
 use native.Mathlib.Omega.{arith}
 use borrow.Author.Needs.{needs}
-use lib.ListN.{length, take, drop}
+use lib.ListN.{length, take, drop, length-replicate}
 use Rattle.breaks.specs.Rules.{breaks}
 use Rattle.breaks.specs.Places.{Lent}
 use Rattle.breaks.proofs.Laws.Placing.{placed-length}
 use Rattle.breaks.proofs.Laws.Scanning.{breaks-bound}
+use Rattle.stamps.specs.Stamps.{ROOM}
 use Rattle.judging.specs.Parts.{total}
 use Rattle.faults.proofs.Laws.Stepping.{found-all, step-moves, step-less}
 use Rattle.faults.proofs.steps.next.Statement.{statement}
@@ -20,7 +22,7 @@ judge-part-requires c κs =
     let at-book = c .before .before .before .before .before .before .before .before .before .before .before in
     let s = at-book .before .before in
     let g = s .pre .0 .going (s .pre .1 .0) in
-    (omega arith, (at-book .book .ensures .1, (g .limit, (g .midway, (g .declared, (g .columns, (g .keys, refl)))))))
+    (omega arith, (at-book .book .ensures .1, (g .limit, (g .midway, (g .declared, (g .columns, (g .keys, length-replicate {A = ℕ} ROOM 0)))))))
 
 add-count : tie.Need-add-count
 add-count c =

@@ -12,6 +12,7 @@ use Rattle.breaks.specs.Machine.{SLOTS}
 use Rattle.breaks.specs.Rules.{breaks}
 use Rattle.breaks.specs.Carried.{Scan, from, last}
 use Rattle.breaks.proofs.Laws.Scanning.{scan-step, scan-left, breaks-bound}
+use Rattle.stamps.specs.Stamps.{ROOM}
 use Rattle.judging.proofs.Laws.Parting.{Parted, parted-start, parted-next, parted-all}
 use Rattle.judging.proofs.Laws.Knowing.{flags-know, end-left}
 use Rattle.judging.proofs.parts.judge_part.Statement.{statement}
@@ -19,7 +20,7 @@ use Rattle.judging.proofs.parts.judge_part.Tie as tie
 
 abbrev Inv-loop : tie.InvT-loop
 Inv-loop places₀ room book file flags kinds₀ slots₀ stamps₀ before state₀ at₀ n₀ k₀ places kinds slots stamps state at n k =
-    Scan file at n state kinds slots × Parted (breaks file) before places₀ places k (from (lines file) n ++ last (lines file)) × (k ≤ room + 1300) × (at₀ ≤ at) × (0 < k → at₀ < at) × (length places ≡ length places₀) × (length kinds ≡ 256) × (length slots ≡ SLOTS) × (length stamps ≡ 4096)
+    Scan file at n state kinds slots × Parted (breaks file) before places₀ places k (from (lines file) n ++ last (lines file)) × (k ≤ room + 1300) × (at₀ ≤ at) × (0 < k → at₀ < at) × (length places ≡ length places₀) × (length kinds ≡ 256) × (length slots ≡ SLOTS) × (length stamps ≡ ROOM)
 
 abbrev μ-loop : tie.MeasureT-loop
 μ-loop places₀ room book file flags kinds₀ slots₀ stamps₀ before state₀ at₀ n₀ k₀ places kinds slots stamps state at n k = length file - at

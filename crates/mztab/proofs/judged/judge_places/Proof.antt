@@ -8,6 +8,7 @@ use borrow.Author.Tests.{lt-ltb, le-ltb}
 use lib.ListN.{length, length-replicate}
 use Rattle.text.specs.Lines.{LIMIT}
 use Rattle.mztab.specs.Judged.{judged, ended}
+use Rattle.stamps.specs.Stamps.{ROOM}
 use Rattle.judging.proofs.Laws.Parting.{midway-start, part-whole, same-everywhere}
 use Rattle.mztab.proofs.judged.judge_places.Statement.{statement}
 use Rattle.mztab.proofs.judged.judge_places.Tie as tie
@@ -20,7 +21,7 @@ judge-part-requires : tie.Need-judge-part-requires
 judge-part-requires c κs =
     let at-ids = c .before .before .before .before .before .before .before in
     let at-book = at-ids .before .before in
-    (omega arith, (at-book .book .ensures .1, (at-book .before .if1 .left, (midway-start (c .before .before .before .before .beginning .ensures) (λ i. same-everywhere 257725 i false), (at-ids .declared-ids .ensures, (refl, (length-replicate 257725 false, length-replicate {A = ℕ} 4096 0)))))))
+    (omega arith, (at-book .book .ensures .1, (at-book .before .if1 .left, (midway-start (c .before .before .before .before .beginning .ensures) (λ i. same-everywhere 257725 i false), (at-ids .declared-ids .ensures, (refl, (length-replicate 257725 false, length-replicate {A = ℕ} ROOM 0)))))))
 
 returns-2 : tie.Need-returns-2
 unfolding judged

@@ -1,14 +1,14 @@
--- `headnames::hash` meets its contract. The loop's invariant: the hash so far and the bytes that are left give the whole. Assumes nothing.
+-- `stamps::hash` meets its contract. The loop's invariant: the hash so far and the bytes that are left give the whole. Assumes nothing.
 use mathlib.Core.Path.{_≡_, refl, sym, ap, _∙_}
 use Prim.Native.Nat.{ℕ, _+_, _-_, _*_, _%_, _≤_, _<_}
 use native.Mathlib.Nat.{mod-lt}
 use native.Mathlib.Omega.{arith}
 use borrow.Author.Needs.{needs}
 use lib.ListN.{length, drop}
-use Rattle.headnames.specs.Stamps.{STAMPS, hashFrom, hashOf}
-use Rattle.headnames.proofs.Laws.Stamping.{hash-next, hash-end}
-use Rattle.headnames.proofs.hash.Statement.{statement}
-use Rattle.headnames.proofs.hash.Tie as tie
+use Rattle.stamps.specs.Stamps.{DOORS, hashFrom, hashOf}
+use Rattle.stamps.proofs.Laws.Asking.{hash-next, hash-end}
+use Rattle.stamps.proofs.hash.Statement.{statement}
+use Rattle.stamps.proofs.hash.Tie as tie
 
 abbrev Inv-loop : tie.InvT-loop
 Inv-loop name h₀ i₀ h i = (i ≤ length name) × (h < 65536) × (hashFrom 0 name ≡ hashFrom h (drop i name))
@@ -38,7 +38,7 @@ unfolding hashOf
 returns c =
     let l = c .before in
     let name = l .before .before .args .name .now in
-    ap (λ (h : ℕ). h % STAMPS) (sym (l .loop .inv .2 ∙ hash-end name (l .loop .i) (l .loop .h) (c .loop-test .left)))
+    ap (λ (h : ℕ). h % DOORS) (sym (l .loop .inv .2 ∙ hash-end name (l .loop .i) (l .loop .h) (c .loop-test .left)))
 
 pub hash-spec : {M : Type 1} → statement M
 hash-spec =

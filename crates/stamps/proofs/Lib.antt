@@ -1,0 +1,2 @@
+-- The laws that the proofs cite, here and on the floors above.
+pub mod Laws

@@ -1,0 +1,187 @@
+-- `stamps::came_before` meets its contract: a name is the first of its stamp, or the one name at the end of its way decides. Assumes nothing.
+use mathlib.Core.Path.{_≡_, refl, sym, ap, _∙_}
+use mathlib.Core.Bool.{true, false}
+use Prim.Native.Nat.{_+_, _≤_, _<_}
+use native.Mathlib.Omega.{arith}
+use borrow.Author.Needs.{needs}
+use borrow.Author.Tests.{eqb-true, eqb-false}
+use lib.Dec.{eqb}
+use lib.ListN.{length, getD, length-set}
+use Rattle.text.specs.Bytes.{Bytes}
+use Rattle.text.specs.Places.{part}
+use Rattle.stamps.specs.Stamps.{DOORS, nameAt, hashOf, bitOf}
+use Rattle.stamps.specs.Ways.{Way}
+use Rattle.stamps.proofs.Laws.Asking.{hash-below, bit-below}
+use Rattle.stamps.proofs.Laws.Naming.{name-there}
+use Rattle.stamps.proofs.Laws.Passing.{way-range}
+use Rattle.stamps.proofs.Laws.Writing.{entered-length}
+use Rattle.stamps.proofs.Laws.Adding.{adds-first, adds-again, adds-fork}
+use Rattle.stamps.proofs.came_before.Statement.{statement}
+use Rattle.stamps.proofs.came_before.Tie as tie
+
+abbrev start : tie.After-hash → tie.Start
+start c = c .before .before .before .before
+
+abbrev name : tie.After-hash → Bytes
+name c = part (start c .args .at) (start c .args .end) (start c .args .line .now)
+
+below : (c : tie.After-hash) → c .hash .result < 4096
+below c = rw (c .hash .ensures) (hash-below (name c))
+
+last-door-requires : tie.Need-last-door-requires
+last-door-requires c κs =
+    let pre = start (c .before) .pre in
+    (pre .0 .places, ((pre .1 .1 .0, below (c .before)), pre .0 .doors))
+
+-- THE FIRST OF ITS STAMP
+
+abbrev first : tie.After-slice-known2 → tie.After-hash
+first c = c .before .before .before .before .before .before .before
+
+slice-write-stamps : tie.Need-slice-write-stamps
+slice-write-stamps c =
+    let s = start (first c) in
+    rw (c .before .before .enter .ensures) (omega (arith, below (first c), entered-length (s .args .stamps .now) (s .args .count) (s .args .at) (s .args .end), s .pre .0 .places))
+
+slice-write-stamps-2 : tie.Need-slice-write-stamps-2
+slice-write-stamps-2 c =
+    let s = start (first c) in
+    rw (length-set, c .before .before .enter .ensures) (omega (arith, below (first c), entered-length (s .args .stamps .now) (s .args .count) (s .args .at) (s .args .end), s .pre .0 .places))
+
+returns : tie.Need-returns
+returns c =
+    let at-enter = c .before .before in
+    let then = at-enter .before .before in
+    let s = start (first c) in
+    let pre = s .pre in
+    let hashed = first c .hash .ensures in
+    rw (at-enter .enter .ensures, hashed) (adds-first (pre .0) (pre .1 .1 .0) (s .args .at) (s .args .end) (pre .1 .1 .1) (pre .1 .1 .2) (name (first c)) refl (rw hashed at (then .before .last-door .ensures .none (then .if1 .taken))))
+
+-- A WAY ENDS AT A NAME
+
+abbrev hashed : tie.Else1 → tie.After-hash
+hashed c = c .before .before .before
+
+way : (c : tie.Else1) → Way (start (hashed c) .args .stamps .now) (start (hashed c) .args .count) (name (hashed c)) (c .before .last-door .result) (DOORS + hashOf (name (hashed c)))
+way c = rw (hashed c .hash .ensures) at (c .before .last-door .ensures .way (c .if1 .left))
+
+stamped : (c : tie.Else1) → getD (start (hashed c) .args .stamps .now) (hashOf (name (hashed c))) 0 ≡ start (hashed c) .args .line-no
+stamped c = rw (hashed c .hash .ensures) at (c .before .last-door .ensures .stamped (c .if1 .left))
+
+door-below : (c : tie.Else1) → c .before .last-door .result < 8700
+door-below c = omega (arith, way-range (way c) (omega arith) (omega (arith, hash-below (name (hashed c)))) .1, start (hashed c) .pre .1 .1 .0)
+
+-- the number there is that of an earlier name
+abbrev met : tie.After-index → tie.Else1
+met c = c .before .before
+
+number-below : (c : tie.After-index) → c .index .result < start (hashed (met c)) .args .count
+number-below c = omega (arith, c .index .ensures, met c .before .last-door .ensures .ends (met c .if1 .left))
+
+number-few : (c : tie.After-index) → c .index .result < 254
+number-few c = omega (arith, number-below c, start (hashed (met c)) .pre .1 .1 .0)
+
+-- which stands in the line
+abbrev numbered : tie.After-index3 → tie.After-index
+numbered c = c .before .before .before .before
+
+stands : (c : tie.After-index3) → (c .before .before .index2 .result ≤ c .index3 .result) × (c .index3 .result ≤ length (start (hashed (met (numbered c))) .args .line .now))
+stands c =
+    let noted = start (hashed (met (numbered c))) .pre .0 in
+    let k = numbered c .index .result in
+    let l = number-below (numbered c) in
+    (omega (arith, c .index3 .ensures, c .before .before .index2 .ensures, noted .starts k l), omega (arith, c .index3 .ensures, noted .ends k l))
+
+abbrev there : tie.Else1 → Bytes
+there c = nameAt (start (hashed c) .args .stamps .now) (start (hashed c) .args .line .now) (getD (start (hashed c) .args .stamps .now) (c .before .last-door .result) 0)
+
+other-name : (c : tie.After-index3) → part (c .before .before .index2 .result) (c .index3 .result) (start (hashed (met (numbered c))) .args .line .now) ≡ there (met (numbered c))
+other-name c =
+    let door = met (numbered c) in
+    let args = start (hashed door) .args in
+    name-there (args .stamps .now) (args .line .now) (door .before .last-door .result) (numbered c .index .ensures) (c .before .before .index2 .ensures) (c .index3 .ensures)
+
+-- THE BIT DECIDES
+
+abbrev told : tie.After-side2 → tie.After-index3
+told c = c .before .before .before .before
+
+abbrev ended : tie.After-side2 → tie.Else1
+ended c = met (numbered (told c))
+
+equal : (c : tie.After-side2) → eqb (c .before .side .result) (c .side2 .result) ≡ true → there (ended c) ≡ name (hashed (ended c))
+equal c e = sym (c .before .before .question .ensures (sym (c .before .side .ensures) ∙ eqb-true (c .before .side .result) (c .side2 .result) e ∙ c .side2 .ensures) ∙ other-name (told c))
+
+differ : (c : tie.After-side2) → eqb (c .before .side .result) (c .side2 .result) ≡ false → bitOf (c .before .before .question .result) (name (hashed (ended c))) ≡ bitOf (c .before .before .question .result) (there (ended c)) → ⊥
+differ c e q = eqb-false (c .before .side .result) (c .side2 .result) e (c .before .side .ensures ∙ q ∙ ap (bitOf (c .before .before .question .result)) (sym (other-name (told c))) ∙ sym (c .side2 .ensures))
+
+returns-2 : tie.Need-returns-2
+returns-2 c =
+    let at-enter = c .before .before .before in
+    let sides = at-enter .before .before in
+    let door = ended sides in
+    let s = start (hashed door) in
+    let pre = s .pre in
+    rw (at-enter .enter2 .ensures) (adds-again (pre .0) (pre .1 .1 .0) (s .args .at) (s .args .end) (pre .1 .1 .1) (pre .1 .1 .2) (name (hashed door)) refl (stamped door) (door .before .last-door .result) (way door) (door .before .last-door .ensures .ends (door .if1 .left)) (equal sides (c .if2 .taken)))
+
+put-fork-requires : tie.Need-put-fork-requires
+put-fork-requires c κs =
+    let at-enter = c .before .before .before .before in
+    let sides = at-enter .before .before in
+    let door = ended sides in
+    let s = start (hashed door) in
+    (ap length (at-enter .enter2 .ensures) ∙ entered-length (s .args .stamps .now) (s .args .count) (s .args .at) (s .args .end) ∙ s .pre .0 .places, (omega (arith, door-below door), s .pre .1 .1 .0, rw (sides .before .side .ensures) (bit-below (sides .before .before .question .result) (name (hashed door)))))
+
+returns-3 : tie.Need-returns-3
+returns-3 c =
+    let at-fork = c .before .before in
+    let else = at-fork .before .before in
+    let at-enter = else .before .before .before in
+    let sides = at-enter .before .before in
+    let door = ended sides in
+    let s = start (hashed door) in
+    let pre = s .pre in
+    rw (at-fork .put-fork .ensures, at-enter .enter2 .ensures, sides .before .side .ensures) (adds-fork (pre .0) (pre .1 .1 .0) (s .args .at) (s .args .end) (pre .1 .1 .1) (pre .1 .1 .2) (name (hashed door)) refl (stamped door) (door .before .last-door .result) (way door) (door .before .last-door .ensures .ends (door .if1 .left)) (sides .before .before .question .result) (differ sides (else .if2 .left)))
+
+pub came-before-spec : {M : Type 1} → statement M
+came-before-spec =
+    tie.close
+    (tie.spec
+    (λ c. search needs)
+    (λ c. search needs)
+    (λ c. search needs)
+    (λ c κs. search needs)
+    (λ c. search needs)
+    last-door-requires
+    (λ c κs. search needs)
+    (λ c. omega (arith, below (first c)))
+    slice-write-stamps
+    (λ c. search needs)
+    (λ c. omega (arith, below (first c)))
+    (λ c. omega (arith, below (first c)))
+    slice-write-stamps-2
+    (λ c. search needs)
+    returns
+    (λ c. omega (arith, door-below c))
+    (λ c. omega (arith, door-below (c .before), start (hashed (c .before)) .pre .0 .places))
+    (λ c κs. search needs)
+    (λ c. omega (arith, number-few c))
+    (λ c. omega (arith, number-few c))
+    (λ c. omega (arith, number-few (c .before), start (c .before .before .before .before .before .before) .pre .0 .places))
+    (λ c κs. search needs)
+    (λ c. omega (arith, number-few (c .before .before)))
+    (λ c. omega (arith, number-few (c .before .before)))
+    (λ c. omega (arith, number-few (c .before .before .before), start (c .before .before .before .before .before .before .before .before) .pre .0 .places))
+    (λ c κs. search needs)
+    (λ c. stands c .0)
+    (λ c. omega (arith, stands c))
+    (λ c. omega (arith, stands c))
+    (λ c κs. search needs)
+    (λ c κs. search needs)
+    (λ c κs. search needs)
+    (λ c κs. search needs)
+    (λ c. search needs)
+    returns-2
+    put-fork-requires
+    (λ c. search needs)
+    returns-3)

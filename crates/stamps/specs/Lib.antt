@@ -1,0 +1,2 @@
+pub mod Stamps
+pub mod Ways

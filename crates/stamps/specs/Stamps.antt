@@ -1,0 +1,64 @@
+-- The list by which a name of a header is known to have come before: what stands where, and what is written. No rule speaks of it. Assumes nothing.
+use Prim.Native.Nat.{ℕ, zero, suc, _+_, _-_, _*_, _/_, _%_, _^_, _<_}
+use mathlib.Core.List.{List, [], _∷_}
+use lib.ListN.{getD, set}
+use Rattle.text.specs.Bytes.{Bytes}
+use Rattle.text.specs.Places.{part}
+
+-- PLACES: the stamps, and from here on their doors, the doors of the forks, what each fork asks, where each name begins, and where it ends
+abbrev pub DOORS : ℕ
+DOORS = 4096
+
+abbrev pub BRANCHES : ℕ
+BRANCHES = 8192
+
+abbrev pub ASKS : ℕ
+ASKS = 8704
+
+abbrev pub STARTS : ℕ
+STARTS = 8960
+
+abbrev pub ENDS : ℕ
+ENDS = 9216
+
+abbrev pub ROOM : ℕ
+ROOM = 9472
+
+-- the door of a fork on one of its sides, 0 and 1
+abbrev pub branch : ℕ → ℕ → ℕ
+branch fork side = BRANCHES + 2 * fork + side
+
+-- a door holds the number of one of the first m names, or 256 more: that of the fork that came with it
+abbrev pub IsDoor : ℕ → ℕ → Type 0
+IsDoor m held = (held < 512) × (held % 256 < m)
+
+-- name number j of the line
+unfoldable pub nameAt : List ℕ → Bytes → ℕ → Bytes
+nameAt t line j = part (getD t (STARTS + j) 0) (getD t (ENDS + j) 0) line
+
+-- THE HASH: times 33 and the byte, of which 16 bits are kept
+unfoldable pub hashFrom : ℕ → Bytes → ℕ
+hashFrom h [] = h
+hashFrom h (x ∷ xs) = hashFrom ((h * 33 + x) % 65536) xs
+
+-- the place of a name's stamp
+unfoldable pub hashOf : Bytes → ℕ
+hashOf name = hashFrom 0 name % DOORS
+
+-- WHAT A FORK ASKS: the code at a place is the byte and one more, 0 past the end
+unfoldable pub codeAt : Bytes → ℕ → ℕ
+codeAt [] place = 0
+codeAt (x ∷ xs) zero = x + 1
+codeAt (x ∷ xs) (suc place) = codeAt xs place
+
+-- 16 times a place and a bit's number ask for that bit of the code there
+unfoldable pub bitOf : ℕ → Bytes → ℕ
+bitOf ask name = codeAt name (ask / 16) / 2 ^ (ask % 16) % 2
+
+-- WHAT IS WRITTEN: name number m stands from a place up to another, and is behind both doors of its fork
+unfoldable pub entered : List ℕ → ℕ → ℕ → ℕ → List ℕ
+entered t m start end = set (set (set (set t (STARTS + m) start) (ENDS + m) end) (BRANCHES + 2 * m) m) (BRANCHES + 2 * m + 1) m
+
+-- a door leads to fork m, whose own side is that of name m; on the other is what the door held
+unfoldable pub forked : List ℕ → ℕ → ℕ → ℕ → ℕ → List ℕ
+forked t door m ask own = set (set (set t (ASKS + m) ask) (BRANCHES + 2 * m + 1 - own) (getD t door 0)) door (256 + m)
