@@ -1,5 +1,6 @@
 // Whether a name of a header came before in it, where each name is compared with one earlier name at most, whatever the names are. A name leaves its line's
 // number as a stamp, at a place that its bytes give. From the stamp's door the names of that stamp go apart by forks, each of which asks for one bit.
+use text::bytes::same_bytes;
 ghost use mathlib.Core.Path.{_≡_};
 ghost use mathlib.Core.Bool.{true, false};
 ghost use Prim.Native.Nat.{_+_, _/_, _%_, _^_, _≤_, _<_};
@@ -215,13 +216,13 @@ pub fn came_before(
     let start = index(stamps[STARTS + k]);
     let stop = index(stamps[ENDS + k]);
     let other = &line[start..stop];
-    let ask = question(name, other);
-    let own = side(name, ask);
-    let again = own == side(other, ask);
+    let again = same_bytes(name, other);
     enter(stamps, count, at, end);
     if again {
         return true;
     }
+    let ask = question(name, other);
+    let own = side(name, ask);
     put_fork(stamps, door, count, ask, own);
     false
 }

@@ -4,11 +4,11 @@ use mathlib.Core.Bool.{true, false}
 use Prim.Native.Nat.{_+_, _≤_, _<_}
 use native.Mathlib.Omega.{arith}
 use borrow.Author.Needs.{needs}
-use borrow.Author.Tests.{eqb-true, eqb-false}
-use lib.Dec.{eqb}
 use lib.ListN.{length, getD, length-set}
-use Rattle.text.specs.Bytes.{Bytes}
+use Rattle.text.specs.Bytes.{Bytes, same}
 use Rattle.text.specs.Places.{part}
+use Rattle.text.proofs.Laws.Same.{same-equal, same-self}
+use Rattle.text.proofs.Laws.Tests.{absurd-bool}
 use Rattle.stamps.specs.Stamps.{DOORS, nameAt, hashOf, bitOf}
 use Rattle.stamps.specs.Ways.{Way}
 use Rattle.stamps.proofs.Laws.Asking.{hash-below, bit-below}
@@ -101,47 +101,55 @@ other-name c =
     let args = start (hashed door) .args in
     name-there (args .stamps .now) (args .line .now) (door .before .last-door .result) (numbered c .index .ensures) (c .before .before .index2 .ensures) (c .index3 .ensures)
 
--- THE BIT DECIDES
+-- IT IS THE SAME NAME, or a bit tells the two apart
 
-abbrev told : tie.After-side2 → tie.After-index3
-told c = c .before .before .before .before
+abbrev told : tie.After-same-bytes → tie.After-index3
+told c = c .before .before
 
-abbrev ended : tie.After-side2 → tie.Else1
+abbrev ended : tie.After-same-bytes → tie.Else1
 ended c = met (numbered (told c))
 
-equal : (c : tie.After-side2) → eqb (c .before .side .result) (c .side2 .result) ≡ true → there (ended c) ≡ name (hashed (ended c))
-equal c e = sym (c .before .before .question .ensures (sym (c .before .side .ensures) ∙ eqb-true (c .before .side .result) (c .side2 .result) e ∙ c .side2 .ensures) ∙ other-name (told c))
+equal : (c : tie.After-same-bytes) → c .same-bytes .result ≡ true → there (ended c) ≡ name (hashed (ended c))
+equal c e = sym (same-equal _ _ (sym (c .same-bytes .ensures) ∙ e) ∙ other-name (told c))
 
-differ : (c : tie.After-side2) → eqb (c .before .side .result) (c .side2 .result) ≡ false → bitOf (c .before .before .question .result) (name (hashed (ended c))) ≡ bitOf (c .before .before .question .result) (there (ended c)) → ⊥
-differ c e q = eqb-false (c .before .side .result) (c .side2 .result) e (c .before .side .ensures ∙ q ∙ ap (bitOf (c .before .before .question .result)) (sym (other-name (told c))) ∙ sym (c .side2 .ensures))
+abbrev compared : tie.Else2 → tie.After-same-bytes
+compared c = c .before .before .before .before .before
+
+differ : (c : tie.After-question) → bitOf (c .question .result) (name (hashed (ended (compared (c .before))))) ≡ bitOf (c .question .result) (there (ended (compared (c .before)))) → ⊥
+differ c q =
+    let at-same = compared (c .before) in
+    let other = other-name (told at-same) in
+    let equals = c .question .ensures (q ∙ ap (bitOf (c .question .result)) (sym other)) in
+    absurd-bool (sym (c .before .if2 .left) ∙ at-same .same-bytes .ensures ∙ ap (same (name (hashed (ended at-same)))) (sym equals) ∙ same-self (name (hashed (ended at-same))))
 
 returns-2 : tie.Need-returns-2
 returns-2 c =
     let at-enter = c .before .before .before in
-    let sides = at-enter .before .before in
-    let door = ended sides in
+    let at-same = at-enter .before .before in
+    let door = ended at-same in
     let s = start (hashed door) in
     let pre = s .pre in
-    rw (at-enter .enter2 .ensures) (adds-again (pre .0) (pre .1 .1 .0) (s .args .at) (s .args .end) (pre .1 .1 .1) (pre .1 .1 .2) (name (hashed door)) refl (stamped door) (door .before .last-door .result) (way door) (door .before .last-door .ensures .ends (door .if1 .left)) (equal sides (c .if2 .taken)))
+    rw (at-enter .enter2 .ensures) (adds-again (pre .0) (pre .1 .1 .0) (s .args .at) (s .args .end) (pre .1 .1 .1) (pre .1 .1 .2) (name (hashed door)) refl (stamped door) (door .before .last-door .result) (way door) (door .before .last-door .ensures .ends (door .if1 .left)) (equal at-same (c .if2 .taken)))
 
 put-fork-requires : tie.Need-put-fork-requires
 put-fork-requires c κs =
-    let at-enter = c .before .before .before .before in
-    let sides = at-enter .before .before in
-    let door = ended sides in
+    let at-side = c .before in
+    let else = at-side .before .before in
+    let at-enter = else .before .before .before in
+    let door = ended (compared else) in
     let s = start (hashed door) in
-    (ap length (at-enter .enter2 .ensures) ∙ entered-length (s .args .stamps .now) (s .args .count) (s .args .at) (s .args .end) ∙ s .pre .0 .places, (omega (arith, door-below door), s .pre .1 .1 .0, rw (sides .before .side .ensures) (bit-below (sides .before .before .question .result) (name (hashed door)))))
+    (ap length (at-enter .enter2 .ensures) ∙ entered-length (s .args .stamps .now) (s .args .count) (s .args .at) (s .args .end) ∙ s .pre .0 .places, (omega (arith, door-below door), s .pre .1 .1 .0, rw (at-side .side .ensures) (bit-below (at-side .before .question .result) (name (hashed door)))))
 
 returns-3 : tie.Need-returns-3
 returns-3 c =
     let at-fork = c .before .before in
-    let else = at-fork .before .before in
+    let at-side = at-fork .before .before in
+    let else = at-side .before .before in
     let at-enter = else .before .before .before in
-    let sides = at-enter .before .before in
-    let door = ended sides in
+    let door = ended (compared else) in
     let s = start (hashed door) in
     let pre = s .pre in
-    rw (at-fork .put-fork .ensures, at-enter .enter2 .ensures, sides .before .side .ensures) (adds-fork (pre .0) (pre .1 .1 .0) (s .args .at) (s .args .end) (pre .1 .1 .1) (pre .1 .1 .2) (name (hashed door)) refl (stamped door) (door .before .last-door .result) (way door) (door .before .last-door .ensures .ends (door .if1 .left)) (sides .before .before .question .result) (differ sides (else .if2 .left)))
+    rw (at-fork .put-fork .ensures, at-enter .enter2 .ensures, at-side .side .ensures) (adds-fork (pre .0) (pre .1 .1 .0) (s .args .at) (s .args .end) (pre .1 .1 .1) (pre .1 .1 .2) (name (hashed door)) refl (stamped door) (door .before .last-door .result) (way door) (door .before .last-door .ensures .ends (door .if1 .left)) (at-side .before .question .result) (differ (at-side .before)))
 
 pub came-before-spec : {M : Type 1} → statement M
 came-before-spec =
@@ -178,10 +186,10 @@ came-before-spec =
     (λ c. omega (arith, stands c))
     (λ c κs. search needs)
     (λ c κs. search needs)
-    (λ c κs. search needs)
-    (λ c κs. search needs)
     (λ c. search needs)
     returns-2
+    (λ c κs. search needs)
+    (λ c κs. search needs)
     put-fork-requires
     (λ c. search needs)
     returns-3)
