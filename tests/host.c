@@ -103,6 +103,26 @@ static void like_name(char *s, uint32_t k) {
     s[16] = 0;
 }
 
+/* The place of a name's stamp. */
+static uint32_t stamp(const char *s) {
+    uint32_t h = 0;
+    for (; *s; s++) h = (h * 33 + (uint8_t)*s) % 65536;
+    return h % 4096;
+}
+
+/* Names of one stamp that stay together with the first of them as long as they can: for k / 6 bytes, and in the next for up to five bits of the byte and one
+ * more. The last three bytes give the stamp. */
+static void late_name(char *s, uint32_t k) {
+    size_t n = k ? (k - 1) / 6 : 43;
+    memset(s, '_', n);
+    if (k) s[n++] = (char)((('_' + 1) ^ 1 << (k - 1) % 6) - 1);
+    s[n + 3] = 0;
+    for (s[n] = '!'; s[n] < '~'; s[n]++)
+        for (s[n + 1] = '!'; s[n + 1] < '~'; s[n + 1]++)
+            for (s[n + 2] = '!'; s[n + 2] < '~'; s[n + 2]++)
+                if (stamp(s) == 7) return;
+}
+
 static struct want tabs(size_t n) { begin(n); fill('\t', n); return want(6, 2, 1, 1); }
 static struct want ends(size_t n) { begin(n); fill('\n', n); return want(5, 21, (uint32_t)n + 1, 1); }
 static struct want returns(size_t n) { begin(n); fill('\r', n); return want(7, 1, 1, 1); }
@@ -146,6 +166,7 @@ static struct want nameless_headers(size_t n) { begin(n); return headers(line_of
 static struct want short_headers(size_t n) { begin(n); return headers(line_of("SMH", 255, short_name), 1 + 255 + 254, 16, 1); }
 static struct want near_headers(size_t n) { begin(n); return headers(line_of("SMH", 255, near_name), 1 + 255 + 254, 16, 1); }
 static struct want like_headers(size_t n) { begin(n); return headers(line_of("PRH", 255, like_name), 1 + 255, 16, 1); }
+static struct want late_headers(size_t n) { begin(n); return headers(line_of("PRH", 255, late_name), 1 + 255, 16, 1); }
 
 /* 255 names of 60,000 bytes, fewer in a small file: all equal, or alike up to their last 16 bytes. */
 static struct want long_names(size_t n, int alike) {
@@ -271,6 +292,7 @@ static const struct hostile {
     {"headers of 255 names `s`", short_headers},
     {"headers of 255 names `sma`", near_headers},
     {"headers of 255 like names", like_headers},
+    {"headers of 255 late names", late_headers},
     {"255 equal names of 60,000", equal_names},
     {"255 like names of 60,000", alike_names},
     {"one cell of digits", digits},

@@ -9,7 +9,7 @@ pub struct Hostile {
 
 type Make = fn(usize) -> (Vec<u8>, usize);
 
-const ALL: [(&str, Make); 16] = [
+const ALL: [(&str, Make); 17] = [
     ("tabs alone", |n| (vec![b'\t'; n], 1 + ABSENT)),
     ("LF alone", |n| (vec![b'\n'; n], ABSENT)),
     ("one line", |n| (vec![b'x'; n], 1 + ABSENT)),
@@ -43,6 +43,9 @@ const ALL: [(&str, Make); 16] = [
     }),
     ("headers of 255 names of one stamp", |n| {
         less(1, lines(n, b"", &line("PRH", of_one_stamp), 257))
+    }),
+    ("headers of 255 names that part late", |n| {
+        less(1, lines(n, b"", &line("PRH", parting_late), 257))
     }),
     ("one cell of digits", |n| {
         let table = "PRH\taccession\tdescription\tdatabase\tsearch_engine\tbest_search_engine_score[1]\nPRT\ta\tb\tc\tnull\t";
@@ -128,4 +131,27 @@ fn of_one_stamp(k: usize) -> String {
     (0..8)
         .map(|b| if k >> b & 1 == 1 { "aB" } else { "b!" })
         .collect()
+}
+
+/// Names of one stamp that stay together with the first of them as long as they can: for k / 6 bytes, and in the next for up to five bits
+/// of the byte and one more. The last three bytes give the stamp.
+fn parting_late(k: usize) -> String {
+    let mut name = match k.checked_sub(1) {
+        None => "_".repeat(43),
+        Some(k) => "_".repeat(k / 6) + ["`", "a", "c", "g", "o", "?"][k % 6],
+    };
+    for last in 0..93 * 93 * 93 {
+        let kept = name.len();
+        name.extend([last / 93 / 93, last / 93 % 93, last % 93].map(|b| char::from(b'!' + b as u8)));
+        if stamp(&name) == 7 {
+            break;
+        }
+        name.truncate(kept);
+    }
+    name
+}
+
+/// The place of a name's stamp.
+fn stamp(name: &str) -> u32 {
+    name.bytes().fold(0, |h, b| (h * 33 + u32::from(b)) % 65_536) % 4_096
 }
