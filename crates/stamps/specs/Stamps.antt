@@ -1,5 +1,5 @@
 -- The list by which a name of a header is known to have come before: what stands where, and what is written. No rule speaks of it. Assumes nothing.
-use Prim.Native.Nat.{ℕ, zero, suc, _+_, _-_, _*_, _/_, _%_, _^_, _<_}
+use Prim.Native.Nat.{ℕ, zero, suc, _+_, _*_, _/_, _%_, _^_, _<_}
 use mathlib.Core.List.{List, [], _∷_}
 use lib.ListN.{getD, set}
 use Rattle.text.specs.Bytes.{Bytes}
@@ -13,20 +13,20 @@ abbrev pub BRANCHES : ℕ
 BRANCHES = 8192
 
 abbrev pub ASKS : ℕ
-ASKS = 8704
+ASKS = 12288
 
 abbrev pub STARTS : ℕ
-STARTS = 8960
+STARTS = 12544
 
 abbrev pub ENDS : ℕ
-ENDS = 9216
+ENDS = 12800
 
 abbrev pub ROOM : ℕ
-ROOM = 9472
+ROOM = 13056
 
--- the door of a fork on one of its sides, 0 and 1
+-- the door of a fork on one of its sides, 0 to 15
 abbrev pub branch : ℕ → ℕ → ℕ
-branch fork side = BRANCHES + 2 * fork + side
+branch fork side = BRANCHES + 16 * fork + side
 
 -- a door holds the number of one of the first m names, or 256 more: that of the fork that came with it
 abbrev pub IsDoor : ℕ → ℕ → Type 0
@@ -51,14 +51,19 @@ codeAt [] place = 0
 codeAt (x ∷ xs) zero = x + 1
 codeAt (x ∷ xs) (suc place) = codeAt xs place
 
--- 16 times a place and a bit's number ask for that bit of the code there
-unfoldable pub bitOf : ℕ → Bytes → ℕ
-bitOf ask name = codeAt name (ask / 16) / 2 ^ (ask % 16) % 2
+-- 16 times a place and a shift ask for four bits of the code there, and these are the side of a name
+unfoldable pub sideOf : ℕ → Bytes → ℕ
+sideOf ask name = codeAt name (ask / 16) / 2 ^ (ask % 16) % 16
 
--- WHAT IS WRITTEN: name number m stands from a place up to another, and is behind both doors of its fork
+-- WHAT IS WRITTEN: n places from one on hold a number
+unfoldable pub filled : List ℕ → ℕ → ℕ → ℕ → List ℕ
+filled t from zero held = t
+filled t from (suc n) held = set (filled t from n held) (from + n) held
+
+-- name number m stands from a place up to another, and is behind all doors of its fork
 unfoldable pub entered : List ℕ → ℕ → ℕ → ℕ → List ℕ
-entered t m start end = set (set (set (set t (STARTS + m) start) (ENDS + m) end) (BRANCHES + 2 * m) m) (BRANCHES + 2 * m + 1) m
+entered t m start end = filled (set (set t (STARTS + m) start) (ENDS + m) end) (BRANCHES + 16 * m) 16 m
 
--- a door leads to fork m, whose own side is that of name m; on the other is what the door held
+-- a door leads to fork m, where on one side is what the door held
 unfoldable pub forked : List ℕ → ℕ → ℕ → ℕ → ℕ → List ℕ
-forked t door m ask own = set (set (set t (ASKS + m) ask) (BRANCHES + 2 * m + 1 - own) (getD t door 0)) door (256 + m)
+forked t door m ask their = set (set (set t (ASKS + m) ask) (branch m their) (getD t door 0)) door (256 + m)

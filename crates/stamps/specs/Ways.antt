@@ -6,17 +6,17 @@ use mathlib.Core.Bool.{Bool, false, _||_}
 use mathlib.Core.List.{List}
 use lib.ListN.{length, getD}
 use Rattle.text.specs.Bytes.{Bytes, same}
-use Rattle.stamps.specs.Stamps.{ROOM, DOORS, ASKS, STARTS, ENDS, IsDoor, branch, nameAt, hashOf, bitOf}
+use Rattle.stamps.specs.Stamps.{ROOM, DOORS, ASKS, STARTS, ENDS, IsDoor, branch, nameAt, hashOf, sideOf}
 
--- from the last door back to the first: a door that holds a fork leads to that of its two which the name's bit says
+-- from the last door back to the first: a door that holds a fork leads to that of its doors which is on the name's side
 pub data Way (t : List ℕ) (m : ℕ) (name : Bytes) (last : ℕ) : ℕ → Type 0 where
   here : Way t m name last last
-  on : {door : ℕ} (fork : ℕ) → getD t door 0 ≡ 256 + fork → fork < m → Way t m name last (branch fork (bitOf (getD t (ASKS + fork) 0) name)) → Way t m name last door
+  on : {door : ℕ} (fork : ℕ) → getD t door 0 ≡ 256 + fork → fork < m → Way t m name last (branch fork (sideOf (getD t (ASKS + fork) 0) name)) → Way t m name last door
 
 -- behind the doors of the first m forks are names or later forks, so that each way ends
 pub record Doors (t : List ℕ) (m : ℕ) : Type 0 where
-  pub holds : (fork side : ℕ) → fork < m → side < 2 → IsDoor m (getD t (branch fork side) 0)
-  pub rises : (fork side : ℕ) → fork < m → side < 2 → 256 ≤ getD t (branch fork side) 0 → 256 + fork < getD t (branch fork side) 0
+  pub holds : (fork side : ℕ) → fork < m → side < 16 → IsDoor m (getD t (branch fork side) 0)
+  pub rises : (fork side : ℕ) → fork < m → side < 16 → 256 ≤ getD t (branch fork side) 0 → 256 + fork < getD t (branch fork side) 0
 
 -- the way of the name, whose stamp stands at h, ends at this door; it is 0 where there is no such stamp of line n
 pub record FindsDoor (t : List ℕ) (n m h : ℕ) (name : Bytes) (door : ℕ) : Type 0 where

@@ -1,28 +1,28 @@
 // Whether a name of a header came before in it, where each name is compared with one earlier name at most, whatever the names are. A name leaves its line's
-// number as a stamp, at a place that its bytes give. From the stamp's door the names of that stamp go apart by forks, each of which asks for one bit.
+// number as a stamp, at a place that its bytes give. From the stamp's door the names of that stamp go apart by forks, each of which asks for four bits.
 use text::bytes::same_bytes;
 ghost use mathlib.Core.Path.{_≡_};
 ghost use mathlib.Core.Bool.{true, false};
-ghost use Prim.Native.Nat.{_+_, _/_, _%_, _^_, _≤_, _<_};
+ghost use Prim.Native.Nat.{_+_, _*_, _/_, _%_, _^_, _≤_, _<_};
 ghost use lib.ListN.{length};
 ghost use Rattle.text.specs.Lines.{LIMIT};
 ghost use Rattle.text.specs.Places.{part};
-ghost use Rattle.stamps.specs.Stamps.{ROOM as room, IsDoor, hashOf, codeAt, bitOf, entered, forked};
+ghost use Rattle.stamps.specs.Stamps.{ROOM as room, IsDoor, BRANCHES as branches, hashOf, codeAt, sideOf, filled, entered, forked};
 ghost use Rattle.stamps.specs.Ways.{Doors, FindsDoor, Noted, Adds};
 
-// The list that is lent has so many places: the stamps, and from the places below on their doors, the two doors of each fork, what each fork asks, and where each
+// The list that is lent has so many places: the stamps, and from the places below on their doors, the doors of each fork, what each fork asks, and where each
 // name begins and ends.
-pub const ROOM: usize = 9472;
+pub const ROOM: usize = 13056;
 
 const DOORS: usize = 4096;
 
 const BRANCHES: usize = 8192;
 
-const ASKS: usize = 8704;
+const ASKS: usize = 12288;
 
-const STARTS: usize = 8960;
+const STARTS: usize = 12544;
 
-const ENDS: usize = 9216;
+const ENDS: usize = 12800;
 
 // A door holds the number of a name, or from here on that of the fork that came with a name.
 const FORK: u32 = 256;
@@ -32,8 +32,8 @@ const BITS: usize = 65536;
 
 const STAMPS: usize = 4096;
 
-// A code of a byte has so many bits.
-const CODE_BITS: u32 = 9;
+// A fork has so many doors, one for each side that four bits can give.
+const SIDES: usize = 16;
 
 // A byte as a number of an index's width.
 fn wide(x: u8) -> usize
@@ -79,12 +79,12 @@ fn code_at(name: &[u8], place: usize) -> u32
     0
 }
 
-// The bit of the name that a fork asks for: 0 or 1.
+// The four bits of the name that a fork asks for: its side there.
 fn side(name: &[u8], ask: u32) -> usize
-    ensures { λ r. ⌜ r ≡ bitOf ask (now (name .entry)) ⌝ }
+    ensures { λ r. ⌜ r ≡ sideOf ask (now (name .entry)) ⌝ }
 {
     let held = code_at(name, index(ask / 16));
-    index((held >> (ask % 16)) % 2)
+    index((held >> (ask % 16)) % 16)
 }
 
 // Whether a stamp is of this line, and what its door holds is a number of one of the first `count` names. Else an earlier header left them behind.
@@ -114,7 +114,7 @@ fn last_door(stamps: &[u32], line_no: u32, count: u32, h: usize, name: &[u8]) ->
     }
     while FORK <= stamps[door] {
         let fork = index(stamps[door] - FORK);
-        door = BRANCHES + 2 * fork + side(name, stamps[ASKS + fork]);
+        door = BRANCHES + SIDES * fork + side(name, stamps[ASKS + fork]);
     }
     door
 }
@@ -136,36 +136,44 @@ fn first_difference(a: &[u8], b: &[u8]) -> usize
     i
 }
 
-// The lowest bit in which two codes differ; a bit that both lack where they are the same.
-fn differing_bit(a: u32, b: u32) -> u32
+// Where the lowest four bits begin in which two codes differ; the highest where they are the same.
+fn differing_bits(a: u32, b: u32) -> u32
     requires { ⌜ (a ≤ 256) × (b ≤ 256) ⌝ }
-    ensures { λ r. ⌜ (r ≤ 9) × (a / 2 ^ r % 2 ≡ b / 2 ^ r % 2 → a ≡ b) ⌝ }
+    ensures { λ r. ⌜ (r ≤ 8) × (a / 2 ^ r % 16 ≡ b / 2 ^ r % 16 → a ≡ b) ⌝ }
 {
-    let mut x = a;
-    let mut y = b;
-    let mut n = 0;
-    while n < CODE_BITS {
-        if x % 2 != y % 2 {
-            return n;
-        }
-        x = x / 2;
-        y = y / 2;
-        n += 1;
+    if a % 16 != b % 16 {
+        return 0;
     }
-    n
+    if a / 16 % 16 != b / 16 % 16 {
+        return 4;
+    }
+    8
 }
 
-// What a fork has to ask to tell the two apart: names with the same bit there are the same.
+// What a fork has to ask to tell the two apart: names with the same side there are the same.
 fn question(a: &[u8], b: &[u8]) -> u32
     requires { ⌜ length (now a) ≤ LIMIT ⌝ }
-    ensures { λ r. ⌜ (bitOf r (now (a .entry)) ≡ bitOf r (now (b .entry)) → now (a .entry) ≡ now (b .entry)) ⌝ }
+    ensures { λ r. ⌜ (sideOf r (now (a .entry)) ≡ sideOf r (now (b .entry)) → now (a .entry) ≡ now (b .entry)) ⌝ }
 {
     let place = first_difference(a, b);
-    let bit = differing_bit(code_at(a, place), code_at(b, place));
-    16 * (place as u32) + bit
+    let shift = differing_bits(code_at(a, place), code_at(b, place));
+    16 * (place as u32) + shift
 }
 
-// Name number `count` begins at `at` and ends before `end`. Both doors of its fork hold it.
+// All doors of fork number `count` hold the number of its name.
+fn fill_doors(stamps: &mut [u32], count: usize)
+    requires { ⌜ length (now stamps) ≡ room ⌝ }
+    requires { ⌜ count ≤ 254 ⌝ }
+    ensures { λ r. ⌜ now (stamps .exit) ≡ filled (now (stamps .entry)) (branches + 16 * count) 16 count ⌝ }
+{
+    let mut k = 0;
+    while k < SIDES {
+        stamps[BRANCHES + SIDES * count + k] = count as u32;
+        k += 1;
+    }
+}
+
+// Name number `count` begins at `at` and ends before `end`. All doors of its fork hold it.
 fn enter(stamps: &mut [u32], count: usize, at: usize, end: usize)
     requires { ⌜ length (now stamps) ≡ room ⌝ }
     requires { ⌜ (count ≤ 254) × (at ≤ LIMIT) × (end ≤ LIMIT) ⌝ }
@@ -173,19 +181,18 @@ fn enter(stamps: &mut [u32], count: usize, at: usize, end: usize)
 {
     stamps[STARTS + count] = at as u32;
     stamps[ENDS + count] = end as u32;
-    stamps[BRANCHES + 2 * count] = count as u32;
-    stamps[BRANCHES + 2 * count + 1] = count as u32;
+    fill_doors(stamps, count);
 }
 
-// The door leads to the fork of name number `count`, whose own side is the name's; what the door held is on the other side.
-fn put_fork(stamps: &mut [u32], door: usize, count: usize, ask: u32, own: usize)
+// The door leads to the fork of name number `count`. On side `their` is what the door held; all others hold the name already.
+fn put_fork(stamps: &mut [u32], door: usize, count: usize, ask: u32, their: usize)
     requires { ⌜ length (now stamps) ≡ room ⌝ }
-    requires { ⌜ (door < room) × (count ≤ 254) × (own < 2) ⌝ }
-    ensures { λ r. ⌜ now (stamps .exit) ≡ forked (now (stamps .entry)) door count ask own ⌝ }
+    requires { ⌜ (door < room) × (count ≤ 254) × (their < 16) ⌝ }
+    ensures { λ r. ⌜ now (stamps .exit) ≡ forked (now (stamps .entry)) door count ask their ⌝ }
 {
     let held = stamps[door];
     stamps[ASKS + count] = ask;
-    stamps[BRANCHES + 2 * count + 1 - own] = held;
+    stamps[BRANCHES + SIDES * count + their] = held;
     stamps[door] = FORK + (count as u32);
 }
 
@@ -222,7 +229,7 @@ pub fn came_before(
         return true;
     }
     let ask = question(name, other);
-    let own = side(name, ask);
-    put_fork(stamps, door, count, ask, own);
+    let their = side(other, ask);
+    put_fork(stamps, door, count, ask, their);
     false
 }

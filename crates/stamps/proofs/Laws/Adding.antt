@@ -3,7 +3,7 @@ use mathlib.Core.Path.{_≡_, refl, sym, ap, subst, _∙_}
 use mathlib.Core.Bool.{Bool, true, false}
 use mathlib.Core.List.{List}
 use mathlib.Core.Logic.{inl, inr}
-use Prim.Native.Nat.{ℕ, _+_, _-_, _*_, _≤_, _<_}
+use Prim.Native.Nat.{ℕ, _+_, _≤_, _<_}
 use native.Mathlib.Omega.{arith}
 use lib.Dec.{eqb}
 use lib.Seq.{getD-set-same, getD-set-other}
@@ -11,20 +11,20 @@ use lib.ListN.{length, getD, set, length-set}
 use borrow.Author.Tests.{eqb-true, eqb-false}
 use Rattle.text.specs.Bytes.{Bytes}
 use Rattle.text.specs.Places.{part}
-use Rattle.stamps.specs.Stamps.{DOORS, BRANCHES, ASKS, ROOM, IsDoor, branch, nameAt, hashOf, bitOf, entered, forked}
+use Rattle.stamps.specs.Stamps.{DOORS, ASKS, ROOM, IsDoor, branch, nameAt, hashOf, sideOf, entered, forked}
 use Rattle.stamps.specs.Ways.{Way, here, Known, Noted, Adds}
-use Rattle.stamps.proofs.Laws.Asking.{hash-below, bit-below}
+use Rattle.stamps.proofs.Laws.Asking.{hash-below, side-below}
 use Rattle.stamps.proofs.Laws.Passing.{way-first, way-one, way-range, way-on}
 use Rattle.stamps.proofs.Laws.Naming.{named-one, named-none, named-more}
-use Rattle.stamps.proofs.Laws.Writing.{entered-length, entered-other, entered-own, forked-length, forked-other, forked-ask, forked-else, forked-door}
+use Rattle.stamps.proofs.Laws.Writing.{entered-length, entered-other, entered-own, forked-length, forked-other, forked-ask, forked-their, forked-door}
 use Rattle.stamps.proofs.Laws.Noting.{Turned, Grows, names-stay, name-new, way-grown, known-stays, noted-more}
 
 module _ {t : List ℕ} {n : ℕ} {line : Bytes} {m : ℕ} (noted : Noted t n line m) (few : m ≤ 254) (start end : ℕ) (up : start ≤ end) (within : end ≤ length line) where
   -- a place of the first m, below the questions, is as it was
-  entered-old : (i : ℕ) → i < BRANCHES + 2 * m → getD (entered t m start end) i 0 ≡ getD t i 0
-  entered-old i l = entered-other t m start end i (omega arith) (omega arith) (omega arith) (omega arith)
+  entered-old : (i : ℕ) → i < branch m 0 → getD (entered t m start end) i 0 ≡ getD t i 0
+  entered-old i l = entered-other t m start end i (omega arith) (omega arith) (λ k. omega (arith, k))
 
-  root-below : (z : Bytes) → DOORS + hashOf z < BRANCHES + 2 * m
+  root-below : (z : Bytes) → DOORS + hashOf z < branch m 0
   root-below z = omega (arith, hash-below z)
 
   -- THE FIRST OF ITS STAMP
@@ -89,7 +89,7 @@ module _ {t : List ℕ} {n : ℕ} {line : Bytes} {m : ℕ} (noted : Noted t n li
           names = named-more t fresh line x m (names-stay noted few fresh-grows) (name-new noted few fresh-grows ∙ named);
         }
 
-  -- A WAY ENDS at a door, and one bit tells whether the name behind it is equal
+  -- A WAY ENDS at a door, and the name behind it is equal or not
   module _ (x : Bytes) (named : part start end line ≡ x) (stamped : getD t (hashOf x) 0 ≡ n) (d : ℕ) (way : Way t m x d (DOORS + hashOf x)) (ends : getD t d 0 < m) where
     -- it came before
     entered-grows : Grows t (entered t m start end) n line m start end
@@ -112,49 +112,56 @@ module _ {t : List ℕ} {n : ℕ} {line : Bytes} {m : ℕ} (noted : Noted t n li
         }
 
     -- it is new, and gets a fork
-    module _ (ask : ℕ) (differ : bitOf ask x ≡ bitOf ask (nameAt t line (getD t d 0)) → ⊥) where
-      grown : List ℕ
-      grown = forked (entered t m start end) d m ask (bitOf ask x)
+    module _ (ask : ℕ) (differ : sideOf ask x ≡ sideOf ask (nameAt t line (getD t d 0)) → ⊥) where
+      their : ℕ
+      their = sideOf ask (nameAt t line (getD t d 0))
 
-      door-range : (DOORS ≤ d) × (d < BRANCHES + 2 * m)
+      their-below : their < 16
+      unfolding their
+      their-below = side-below ask (nameAt t line (getD t d 0))
+
+      grown : List ℕ
+      grown = forked (entered t m start end) d m ask their
+
+      door-range : (DOORS ≤ d) × (d < branch m 0)
       door-range = way-range way (omega arith) (root-below x)
 
       long : length (entered t m start end) ≡ ROOM
       long = entered-length t m start end ∙ noted .places
 
-      grown-old : (i : ℕ) → i < BRANCHES + 2 * m → (i ≡ d → ⊥) → getD grown i 0 ≡ getD t i 0
+      grown-old : (i : ℕ) → i < branch m 0 → (i ≡ d → ⊥) → getD grown i 0 ≡ getD t i 0
       unfolding grown
-      grown-old i l ne = forked-other (entered t m start end) d m ask (bitOf ask x) i (omega arith) (omega (arith, bit-below ask x)) ne ∙ entered-old i l
+      grown-old i l ne = forked-other (entered t m start end) d m ask their i (omega arith) (omega arith) ne ∙ entered-old i l
 
       grown-ask : getD grown (ASKS + m) 0 ≡ ask
       unfolding grown
-      grown-ask = forked-ask (entered t m start end) d m ask (bitOf ask x) long few (door-range .1) (bit-below ask x)
+      grown-ask = forked-ask (entered t m start end) d m ask their long few (door-range .1) their-below
 
       grown-door : getD grown d 0 ≡ 256 + m
       unfolding grown
-      grown-door = forked-door (entered t m start end) d m ask (bitOf ask x) long few (door-range .1) (bit-below ask x)
+      grown-door = forked-door (entered t m start end) d m ask their long few (door-range .1) their-below
 
-      -- its own side holds it, the other what the door held
-      grown-own : getD grown (branch m (bitOf ask x)) 0 ≡ m
+      -- one side holds what the door held, all others the name
+      grown-their : getD grown (branch m their) 0 ≡ getD t d 0
       unfolding grown
-      grown-own =
-          forked-other (entered t m start end) d m ask (bitOf ask x) (branch m (bitOf ask x)) (omega (arith, bit-below ask x)) (omega (arith, bit-below ask x)) (omega (arith, door-range .1))
-          ∙ entered-own t m start end (noted .places) few (bitOf ask x) (bit-below ask x)
+      grown-their = forked-their (entered t m start end) d m ask their long few (door-range .1) their-below ∙ entered-old d (door-range .1)
 
-      grown-else : (s : ℕ) → s < 2 → (bitOf ask x ≡ s → ⊥) → getD grown (branch m s) 0 ≡ getD t d 0
+      grown-side : (s : ℕ) → s < 16 → (s ≡ their → ⊥) → getD grown (branch m s) 0 ≡ m
       unfolding grown
-      grown-else s l ne =
-          let z : branch m s ≡ BRANCHES + 2 * m + 1 - bitOf ask x = omega (arith, bit-below ask x) in
-          rw z (forked-else (entered t m start end) d m ask (bitOf ask x) long few (door-range .1) (bit-below ask x) ∙ entered-old d (door-range .1))
+      grown-side s l ne =
+          forked-other (entered t m start end) d m ask their (branch m s) (omega arith) (λ e. ne (omega (arith, e))) (omega (arith, door-range .1))
+          ∙ entered-own t m start end (noted .places) few s l
 
-      grown-turned : (i : ℕ) → i < BRANCHES + 2 * m → Turned t grown line m i
+      grown-own : getD grown (branch m (sideOf ask x)) 0 ≡ m
+      unfolding their
+      grown-own = grown-side (sideOf ask x) (side-below ask x) differ
+
+      grown-turned : (i : ℕ) → i < branch m 0 → Turned t grown line m i
+      unfolding their
       grown-turned i l = go (eqb i d) refl
         where
-          y : Bytes
-          y = nameAt t line (getD t d 0)
-
           go : (b : Bool) → eqb i d ≡ b → Turned t grown line m i
-          go true e = rw (eqb-true i d e) (inr (record { was = omega (arith, ends); fork = grown-door; side = rw grown-ask (grown-else (bitOf ask y) (bit-below ask y) differ) }))
+          go true e = rw (eqb-true i d e) (inr (record { was = omega (arith, ends); fork = grown-door; side = rw grown-ask grown-their }))
           go false e = inl (grown-old i l (eqb-false i d e))
 
       grown-grows : Grows t grown n line m start end
@@ -163,26 +170,26 @@ module _ {t : List ℕ} {n : ℕ} {line : Bytes} {m : ℕ} (noted : Noted t n li
           record {
             places = places;
             rest = rest;
-            own = λ s l. side s l (eqb (bitOf ask x) s) refl;
+            own = λ s l. side s l (eqb s their) refl;
             stamps = λ h l q. grown-old h (omega arith) (omega (arith, door-range .0)) ∙ q;
             doors = λ f s l k. grown-turned (branch f s) (omega arith);
           }
         where
           places : length grown ≡ ROOM
-          places = forked-length (entered t m start end) d m ask (bitOf ask x) ∙ long
+          places = forked-length (entered t m start end) d m ask their ∙ long
 
           rest : (i : ℕ) → ASKS ≤ i → (i ≡ ASKS + m → ⊥) → getD grown i 0 ≡ getD (entered t m start end) i 0
-          rest i l ne = forked-other (entered t m start end) d m ask (bitOf ask x) i ne (omega (arith, bit-below ask x)) (omega (arith, door-range .1))
+          rest i l ne = forked-other (entered t m start end) d m ask their i ne (omega (arith, their-below)) (omega (arith, door-range .1))
 
-          side : (s : ℕ) → s < 2 → (b : Bool) → eqb (bitOf ask x) s ≡ b → getD grown (branch m s) 0 ≤ m
-          side s l true e = rw (← eqb-true (bitOf ask x) s e) (omega (arith, grown-own))
-          side s l false e = omega (arith, grown-else s l (eqb-false (bitOf ask x) s e), ends)
+          side : (s : ℕ) → s < 16 → (b : Bool) → eqb s their ≡ b → getD grown (branch m s) 0 ≤ m
+          side s l true e = rw (eqb-true s their e) (omega (arith, grown-their, ends))
+          side s l false e = omega (arith, grown-side s l (eqb-false s their e))
 
       grown-known : Known grown n line (m + 1) x
       grown-known =
           record {
             stamped = grown-grows .stamps (hashOf x) (hash-below x) stamped;
-            door = branch m (bitOf ask x);
+            door = branch m (sideOf ask x);
             way = rw grown-ask at (way-on m (way-grown noted few grown-grows way (grown-turned (DOORS + hashOf x) (root-below x))) grown-door (omega arith));
             ends = omega (arith, grown-own);
             equal = ap (λ (j : ℕ). nameAt grown line j) grown-own ∙ name-new noted few grown-grows ∙ named;
@@ -193,10 +200,10 @@ module _ {t : List ℕ} {n : ℕ} {line : Bytes} {m : ℕ} (noted : Noted t n li
       meet k = subst (λ (i : ℕ). nameAt t line (getD t i 0) ≡ x) (way-one (k .way) (omega (arith, k .ends)) way (omega (arith, ends))) (k .equal)
 
       new : (j : ℕ) → j < m → nameAt t line j ≡ x → ⊥
-      new j l e = differ (ap (bitOf ask) (sym (meet (rw e at (noted .known j l)))))
+      new j l e = differ (ap (sideOf ask) (sym (meet (rw e at (noted .known j l)))))
 
-      pub adds-fork : Adds t (forked (entered t m start end) d m ask (bitOf ask x)) n line m x false
-      unfolding grown
+      pub adds-fork : Adds t (forked (entered t m start end) d m ask (sideOf ask (nameAt t line (getD t d 0)))) n line m x false
+      unfolding grown their
       adds-fork =
           record {
             answer = sym (named-none t line x m new);

@@ -1,18 +1,17 @@
--- The hash of a name, the codes of its bytes, and the bits that forks ask for. Assumes nothing.
-use mathlib.Core.Path.{_≡_, refl, sym, ap, _∙_}
+-- The hash of a name, the codes of its bytes, and its sides at forks. Assumes nothing.
+use mathlib.Core.Path.{_≡_, refl, sym, _∙_}
 use mathlib.Core.Bool.{Bool, true, false}
 use mathlib.Core.List.{[], _∷_}
 use Prim.Native.Nat.{ℕ, zero, suc, _+_, _*_, _/_, _%_, _^_, _≤_, _<_}
 use native.Mathlib.Nat.{mod-lt, not-suc-le-zero, le-of-suc-le-suc}
 use native.Mathlib.Omega.{arith}
 use lib.Dec.{ltb}
-use lib.Pow.{shr-shr}
 use lib.ListN.{length, drop, getD, drop-of-length-le}
 use borrow.Author.Tests.{ltb-true, ltb-false}
 use Rattle.text.specs.Bytes.{Bytes, same}
 use Rattle.text.proofs.Laws.Pieces.{drop-step}
 use Rattle.text.proofs.Laws.Same.{same-equal, same-end}
-use Rattle.stamps.specs.Stamps.{DOORS, hashFrom, hashOf, codeAt, bitOf}
+use Rattle.stamps.specs.Stamps.{DOORS, hashFrom, hashOf, codeAt, sideOf}
 
 -- THE HASH
 
@@ -51,27 +50,23 @@ codes-end a b i l left e = go (ltb i (length b)) refl
     go true q = absurd (omega (arith, code-past a i l, code-here b i (ltb-true i (length b) q)))
     go false q = same-equal a b (sym left ∙ same-end a b i l (ltb-false i (length b) q))
 
--- BITS
+-- SIDES
 
-pub bit-below : (ask : ℕ) (name : Bytes) → bitOf ask name < 2
-unfolding bitOf
-bit-below ask name = mod-lt (codeAt name (ask / 16) / 2 ^ (ask % 16)) (omega arith)
+pub side-below : (ask : ℕ) (name : Bytes) → sideOf ask name < 16
+unfolding sideOf
+side-below ask name = mod-lt (codeAt name (ask / 16) / 2 ^ (ask % 16)) (omega arith)
 
-bit-at : (place bit : ℕ) (name : Bytes) → bit < 16 → bitOf (16 * place + bit) name ≡ codeAt name place / 2 ^ bit % 2
-unfolding bitOf
-bit-at place bit name l =
-    let p : (16 * place + bit) / 16 ≡ place = omega arith in
-    let b : (16 * place + bit) % 16 ≡ bit = omega arith in
-    rw (p, b)
+side-at : (place shift : ℕ) (name : Bytes) → shift < 16 → sideOf (16 * place + shift) name ≡ codeAt name place / 2 ^ shift % 16
+unfolding sideOf
+side-at place shift name l =
+    let p : (16 * place + shift) / 16 ≡ place = omega arith in
+    let s : (16 * place + shift) % 16 ≡ shift = omega arith in
+    rw (p, s)
 
--- one bit further
-pub halved : (a n x : ℕ) → x ≡ a / 2 ^ n → x / 2 ≡ a / 2 ^ (n + 1)
-halved a n x e = ap (λ (q : ℕ). q / 2) e ∙ shr-shr a n 1
-
--- where the codes at a place decide whether two names are equal, and a bit whether the codes are, the bit decides
-pub bit-decides : (a b : Bytes) (place bit x y : ℕ) → bit ≤ 9 → x ≡ codeAt a place → y ≡ codeAt b place → (x / 2 ^ bit % 2 ≡ y / 2 ^ bit % 2 → x ≡ y)
-    → (codeAt a place ≡ codeAt b place → a ≡ b) → bitOf (16 * place + bit) a ≡ bitOf (16 * place + bit) b → a ≡ b
-bit-decides a b place bit x y l p q f g e =
-    let few : bit < 16 = omega arith in
-    let s : x / 2 ^ bit % 2 ≡ y / 2 ^ bit % 2 = rw (p, q) (sym (bit-at place bit a few) ∙ e ∙ bit-at place bit b few) in
+-- where the codes at a place decide whether two names are equal, and four bits whether the codes are, the sides decide
+pub side-decides : (a b : Bytes) (place shift x y : ℕ) → shift ≤ 8 → x ≡ codeAt a place → y ≡ codeAt b place → (x / 2 ^ shift % 16 ≡ y / 2 ^ shift % 16 → x ≡ y)
+    → (codeAt a place ≡ codeAt b place → a ≡ b) → sideOf (16 * place + shift) a ≡ sideOf (16 * place + shift) b → a ≡ b
+side-decides a b place shift x y l p q f g e =
+    let few : shift < 16 = omega arith in
+    let s : x / 2 ^ shift % 16 ≡ y / 2 ^ shift % 16 = rw (p, q) (sym (side-at place shift a few) ∙ e ∙ side-at place shift b few) in
     g (sym p ∙ f s ∙ q)

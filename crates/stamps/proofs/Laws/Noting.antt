@@ -8,7 +8,7 @@ use native.Mathlib.Omega.{arith}
 use lib.ListN.{length, getD}
 use Rattle.text.specs.Bytes.{Bytes}
 use Rattle.text.specs.Places.{part}
-use Rattle.stamps.specs.Stamps.{DOORS, ASKS, STARTS, ENDS, ROOM, IsDoor, branch, nameAt, hashOf, bitOf, entered}
+use Rattle.stamps.specs.Stamps.{DOORS, ASKS, STARTS, ENDS, ROOM, IsDoor, branch, nameAt, hashOf, sideOf, entered}
 use Rattle.stamps.specs.Ways.{Way, Known, Noted}
 use Rattle.stamps.proofs.Laws.Asking.{hash-below}
 use Rattle.stamps.proofs.Laws.Passing.{way-last, way-on, way-stays}
@@ -29,7 +29,7 @@ noted-none t n line room =
 pub record Split (t t' : List ℕ) (line : Bytes) (m i : ℕ) : Type 0 where
   pub was : getD t i 0 < 256
   pub fork : getD t' i 0 ≡ 256 + m
-  pub side : getD t' (branch m (bitOf (getD t' (ASKS + m) 0) (nameAt t line (getD t i 0)))) 0 ≡ getD t i 0
+  pub side : getD t' (branch m (sideOf (getD t' (ASKS + m) 0) (nameAt t line (getD t i 0)))) 0 ≡ getD t i 0
 
 -- a door holds what it held, or leads to fork m
 abbrev pub Turned : List ℕ → List ℕ → Bytes → ℕ → ℕ → Type 0
@@ -39,19 +39,19 @@ Turned t t' line m i = (getD t' i 0 ≡ getD t i 0) ⊎ Split t t' line m i
 pub record Grows (t t' : List ℕ) (n : ℕ) (line : Bytes) (m start end : ℕ) : Type 0 where
   pub places : length t' ≡ ROOM
   pub rest : (i : ℕ) → ASKS ≤ i → (i ≡ ASKS + m → ⊥) → getD t' i 0 ≡ getD (entered t m start end) i 0
-  pub own : (s : ℕ) → s < 2 → getD t' (branch m s) 0 ≤ m
+  pub own : (s : ℕ) → s < 16 → getD t' (branch m s) 0 ≤ m
   pub stamps : (h : ℕ) → h < DOORS → getD t h 0 ≡ n → getD t' h 0 ≡ n
-  pub doors : (f s : ℕ) → f < m → s < 2 → Turned t t' line m (branch f s)
+  pub doors : (f s : ℕ) → f < m → s < 16 → Turned t t' line m (branch f s)
 
 module _ {t t' : List ℕ} {n : ℕ} {line : Bytes} {m start end : ℕ} (noted : Noted t n line m) (few : m ≤ 254) (grows : Grows t t' n line m start end) where
   starts-stay : (j : ℕ) → j < m → getD t' (STARTS + j) 0 ≡ getD t (STARTS + j) 0
-  starts-stay j l = grows .rest (STARTS + j) (omega arith) (omega arith) ∙ entered-other t m start end (STARTS + j) (omega arith) (omega arith) (omega arith) (omega arith)
+  starts-stay j l = grows .rest (STARTS + j) (omega arith) (omega arith) ∙ entered-other t m start end (STARTS + j) (omega arith) (omega arith) (λ k. omega arith)
 
   ends-stay : (j : ℕ) → j < m → getD t' (ENDS + j) 0 ≡ getD t (ENDS + j) 0
-  ends-stay j l = grows .rest (ENDS + j) (omega arith) (omega arith) ∙ entered-other t m start end (ENDS + j) (omega arith) (omega arith) (omega arith) (omega arith)
+  ends-stay j l = grows .rest (ENDS + j) (omega arith) (omega arith) ∙ entered-other t m start end (ENDS + j) (omega arith) (omega arith) (λ k. omega arith)
 
   asks-stay : (f : ℕ) → f < m → getD t' (ASKS + f) 0 ≡ getD t (ASKS + f) 0
-  asks-stay f l = grows .rest (ASKS + f) (omega arith) (omega arith) ∙ entered-other t m start end (ASKS + f) (omega arith) (omega arith) (omega arith) (omega arith)
+  asks-stay f l = grows .rest (ASKS + f) (omega arith) (omega arith) ∙ entered-other t m start end (ASKS + f) (omega arith) (omega arith) (λ k. omega arith)
 
   pub names-stay : (j : ℕ) → j < m → nameAt t' line j ≡ nameAt t line j
   unfolding nameAt
@@ -68,7 +68,7 @@ module _ {t t' : List ℕ} {n : ℕ} {line : Bytes} {m start end : ℕ} (noted :
   name-new = rw (start-new, end-new)
 
   -- the doors of the first m forks, and of fork m
-  doors-old : (f s : ℕ) → f < m → s < 2 → IsDoor (m + 1) (getD t' (branch f s) 0) × (256 ≤ getD t' (branch f s) 0 → 256 + f < getD t' (branch f s) 0)
+  doors-old : (f s : ℕ) → f < m → s < 16 → IsDoor (m + 1) (getD t' (branch f s) 0) × (256 ≤ getD t' (branch f s) 0 → 256 + f < getD t' (branch f s) 0)
   doors-old f s l k = ⊎-elim same split (grows .doors f s l k)
     where
       same : getD t' (branch f s) 0 ≡ getD t (branch f s) 0 → IsDoor (m + 1) (getD t' (branch f s) 0) × (256 ≤ getD t' (branch f s) 0 → 256 + f < getD t' (branch f s) 0)
@@ -77,7 +77,7 @@ module _ {t t' : List ℕ} {n : ℕ} {line : Bytes} {m start end : ℕ} (noted :
       split : Split t t' line m (branch f s) → IsDoor (m + 1) (getD t' (branch f s) 0) × (256 ≤ getD t' (branch f s) 0 → 256 + f < getD t' (branch f s) 0)
       split q = rw (q .fork) ((omega arith, omega arith), λ h. omega arith)
 
-  doors-new : (f s : ℕ) → f < m + 1 → s < 2 → IsDoor (m + 1) (getD t' (branch f s) 0) × (256 ≤ getD t' (branch f s) 0 → 256 + f < getD t' (branch f s) 0)
+  doors-new : (f s : ℕ) → f < m + 1 → s < 16 → IsDoor (m + 1) (getD t' (branch f s) 0) × (256 ≤ getD t' (branch f s) 0 → 256 + f < getD t' (branch f s) 0)
   doors-new f s l k =
       ⊎-elim (λ (q : f ≡ m). rw q ((omega (arith, grows .own s k), omega (arith, grows .own s k)), λ h. omega (arith, h, grows .own s k)))
       (λ (q : f < m). doors-old f s q k)
@@ -112,7 +112,7 @@ module _ {t t' : List ℕ} {n : ℕ} {line : Bytes} {m start end : ℕ} (noted :
 
       split : Split t t' line m (k .door) → Known t' n line (m + 1) z
       split s =
-          let b = branch m (bitOf (getD t' (ASKS + m) 0) z) in
+          let b = branch m (sideOf (getD t' (ASKS + m) 0) z) in
           let e : getD t' b 0 ≡ getD t (k .door) 0 = rw (k .equal) at (s .side) in
           record {
             stamped = stamped;

@@ -2,15 +2,15 @@
 use mathlib.Core.Path.{_≡_, refl, subst, _∙_}
 use mathlib.Core.Bool.{Bool, true, false, cond}
 use mathlib.Core.List.{List}
-use Prim.Native.Nat.{ℕ, _+_, _-_, _*_, _≤_, _<_}
+use Prim.Native.Nat.{ℕ, _+_, _-_, _≤_, _<_}
 use native.Mathlib.Omega.{arith}
 use lib.Dec.{ltb}
 use lib.ListN.{getD}
 use borrow.Author.Tests.{le-ltb, ltb-false}
 use Rattle.text.specs.Bytes.{Bytes}
-use Rattle.stamps.specs.Stamps.{DOORS, BRANCHES, ASKS, IsDoor, branch, bitOf}
+use Rattle.stamps.specs.Stamps.{DOORS, ASKS, IsDoor, branch, sideOf}
 use Rattle.stamps.specs.Ways.{Way, here, on}
-use Rattle.stamps.proofs.Laws.Asking.{bit-below}
+use Rattle.stamps.proofs.Laws.Asking.{side-below}
 
 -- how far a way can go on from a door that holds this: forks rise, and a name ends it
 pub rank : ℕ → ℕ
@@ -36,28 +36,28 @@ way-one here l (on f q g w) l' = absurd (omega arith)
 way-one (on f q g w) l here l' = absurd (omega arith)
 way-one {t} {m} {z} {e} {e'} (on f q g w) l (on f' q' g' w') l' =
     let same : f' ≡ f = omega arith in
-    way-one w l (subst (λ (k : ℕ). Way t m z e' (branch k (bitOf (getD t (ASKS + k) 0) z))) same w') l'
+    way-one w l (subst (λ (k : ℕ). Way t m z e' (branch k (sideOf (getD t (ASKS + k) 0) z))) same w') l'
 
 -- what holds of its first door and of those of all forks holds of its last
-pub way-last : {t : List ℕ} {m : ℕ} {z : Bytes} {e d : ℕ} (P : ℕ → Type 0) → Way t m z e d → P d → ((f s : ℕ) → f < m → s < 2 → P (branch f s)) → P e
+pub way-last : {t : List ℕ} {m : ℕ} {z : Bytes} {e d : ℕ} (P : ℕ → Type 0) → Way t m z e d → P d → ((f s : ℕ) → f < m → s < 16 → P (branch f s)) → P e
 way-last P here p q = p
-way-last {t} {m} {z} P (on f e l w) p q = way-last P w (q f (bitOf (getD t (ASKS + f) 0) z) l (bit-below (getD t (ASKS + f) 0) z)) q
+way-last {t} {m} {z} P (on f e l w) p q = way-last P w (q f (sideOf (getD t (ASKS + f) 0) z) l (side-below (getD t (ASKS + f) 0) z)) q
 
 -- its last door is that of a stamp, or of one of the forks
-pub way-range : {t : List ℕ} {m : ℕ} {z : Bytes} {e d : ℕ} → Way t m z e d → DOORS ≤ d → d < BRANCHES + 2 * m → (DOORS ≤ e) × (e < BRANCHES + 2 * m)
-way-range {t} {m} w low high = way-last (λ (i : ℕ). (DOORS ≤ i) × (i < BRANCHES + 2 * m)) w (low, high) (λ f s l k. (omega arith, omega arith))
+pub way-range : {t : List ℕ} {m : ℕ} {z : Bytes} {e d : ℕ} → Way t m z e d → DOORS ≤ d → d < branch m 0 → (DOORS ≤ e) × (e < branch m 0)
+way-range {t} {m} w low high = way-last (λ (i : ℕ). (DOORS ≤ i) × (i < branch m 0)) w (low, high) (λ f s l k. (omega arith, omega arith))
 
 -- a fork more
-pub way-on : {t : List ℕ} {m : ℕ} {z : Bytes} {e d : ℕ} (f : ℕ) → Way t m z e d → getD t e 0 ≡ 256 + f → f < m → Way t m z (branch f (bitOf (getD t (ASKS + f) 0) z)) d
+pub way-on : {t : List ℕ} {m : ℕ} {z : Bytes} {e d : ℕ} (f : ℕ) → Way t m z e d → getD t e 0 ≡ 256 + f → f < m → Way t m z (branch f (sideOf (getD t (ASKS + f) 0) z)) d
 way-on f here q l = on f q l here
 way-on f (on g p k w) q l = on g p k (way-on f w q l)
 
 -- it stays where the forks that it passes stay
 module _ (t t' : List ℕ) (m m' : ℕ) (more : m ≤ m')
-    (forks : (f s : ℕ) → f < m → s < 2 → 256 ≤ getD t (branch f s) 0 → getD t' (branch f s) 0 ≡ getD t (branch f s) 0)
+    (forks : (f s : ℕ) → f < m → s < 16 → 256 ≤ getD t (branch f s) 0 → getD t' (branch f s) 0 ≡ getD t (branch f s) 0)
     (asks : (f : ℕ) → f < m → getD t' (ASKS + f) 0 ≡ getD t (ASKS + f) 0) where
   pub way-stays : {z : Bytes} {e d : ℕ} → Way t m z e d → (256 ≤ getD t d 0 → getD t' d 0 ≡ getD t d 0) → Way t' m' z e d
   way-stays here s = here
   way-stays {z} (on f q l w) s =
       let ask = getD t (ASKS + f) 0 in
-      on f (s (omega arith) ∙ q) (omega arith) (rw (asks f l) (way-stays w (forks f (bitOf ask z) l (bit-below ask z))))
+      on f (s (omega arith) ∙ q) (omega arith) (rw (asks f l) (way-stays w (forks f (sideOf ask z) l (side-below ask z))))

@@ -1,6 +1,6 @@
 -- `stamps::came_before` meets its contract: a name is the first of its stamp, or the one name at the end of its way decides. Assumes nothing.
 use mathlib.Core.Path.{_≡_, refl, sym, ap, _∙_}
-use mathlib.Core.Bool.{true, false}
+use mathlib.Core.Bool.{true}
 use Prim.Native.Nat.{_+_, _≤_, _<_}
 use native.Mathlib.Omega.{arith}
 use borrow.Author.Needs.{needs}
@@ -9,9 +9,9 @@ use Rattle.text.specs.Bytes.{Bytes, same}
 use Rattle.text.specs.Places.{part}
 use Rattle.text.proofs.Laws.Same.{same-equal, same-self}
 use Rattle.text.proofs.Laws.Tests.{absurd-bool}
-use Rattle.stamps.specs.Stamps.{DOORS, nameAt, hashOf, bitOf}
+use Rattle.stamps.specs.Stamps.{DOORS, nameAt, hashOf, sideOf}
 use Rattle.stamps.specs.Ways.{Way}
-use Rattle.stamps.proofs.Laws.Asking.{hash-below, bit-below}
+use Rattle.stamps.proofs.Laws.Asking.{hash-below, side-below}
 use Rattle.stamps.proofs.Laws.Naming.{name-there}
 use Rattle.stamps.proofs.Laws.Passing.{way-range}
 use Rattle.stamps.proofs.Laws.Writing.{entered-length}
@@ -68,7 +68,7 @@ way c = rw (hashed c .hash .ensures) at (c .before .last-door .ensures .way (c .
 stamped : (c : tie.Else1) → getD (start (hashed c) .args .stamps .now) (hashOf (name (hashed c))) 0 ≡ start (hashed c) .args .line-no
 stamped c = rw (hashed c .hash .ensures) at (c .before .last-door .ensures .stamped (c .if1 .left))
 
-door-below : (c : tie.Else1) → c .before .last-door .result < 8700
+door-below : (c : tie.Else1) → c .before .last-door .result < 12288
 door-below c = omega (arith, way-range (way c) (omega arith) (omega (arith, hash-below (name (hashed c)))) .1, start (hashed c) .pre .1 .1 .0)
 
 -- the number there is that of an earlier name
@@ -101,7 +101,7 @@ other-name c =
     let args = start (hashed door) .args in
     name-there (args .stamps .now) (args .line .now) (door .before .last-door .result) (numbered c .index .ensures) (c .before .before .index2 .ensures) (c .index3 .ensures)
 
--- IT IS THE SAME NAME, or a bit tells the two apart
+-- IT IS THE SAME NAME, or its side tells the two apart
 
 abbrev told : tie.After-same-bytes → tie.After-index3
 told c = c .before .before
@@ -115,12 +115,16 @@ equal c e = sym (same-equal _ _ (sym (c .same-bytes .ensures) ∙ e) ∙ other-n
 abbrev compared : tie.Else2 → tie.After-same-bytes
 compared c = c .before .before .before .before .before
 
-differ : (c : tie.After-question) → bitOf (c .question .result) (name (hashed (ended (compared (c .before))))) ≡ bitOf (c .question .result) (there (ended (compared (c .before)))) → ⊥
+differ : (c : tie.After-question) → sideOf (c .question .result) (name (hashed (ended (compared (c .before))))) ≡ sideOf (c .question .result) (there (ended (compared (c .before)))) → ⊥
 differ c q =
     let at-same = compared (c .before) in
     let other = other-name (told at-same) in
-    let equals = c .question .ensures (q ∙ ap (bitOf (c .question .result)) (sym other)) in
+    let equals = c .question .ensures (q ∙ ap (sideOf (c .question .result)) (sym other)) in
     absurd-bool (sym (c .before .if2 .left) ∙ at-same .same-bytes .ensures ∙ ap (same (name (hashed (ended at-same)))) (sym equals) ∙ same-self (name (hashed (ended at-same))))
+
+-- the side of the name that is there
+their-side : (c : tie.After-side) → c .side .result ≡ sideOf (c .before .question .result) (there (ended (compared (c .before .before))))
+their-side c = c .side .ensures ∙ ap (sideOf (c .before .question .result)) (other-name (told (compared (c .before .before))))
 
 returns-2 : tie.Need-returns-2
 returns-2 c =
@@ -138,7 +142,7 @@ put-fork-requires c κs =
     let at-enter = else .before .before .before in
     let door = ended (compared else) in
     let s = start (hashed door) in
-    (ap length (at-enter .enter2 .ensures) ∙ entered-length (s .args .stamps .now) (s .args .count) (s .args .at) (s .args .end) ∙ s .pre .0 .places, (omega (arith, door-below door), s .pre .1 .1 .0, rw (at-side .side .ensures) (bit-below (at-side .before .question .result) (name (hashed door)))))
+    (ap length (at-enter .enter2 .ensures) ∙ entered-length (s .args .stamps .now) (s .args .count) (s .args .at) (s .args .end) ∙ s .pre .0 .places, (omega (arith, door-below door), s .pre .1 .1 .0, rw (their-side at-side) (side-below (at-side .before .question .result) (there door))))
 
 returns-3 : tie.Need-returns-3
 returns-3 c =
@@ -149,7 +153,7 @@ returns-3 c =
     let door = ended (compared else) in
     let s = start (hashed door) in
     let pre = s .pre in
-    rw (at-fork .put-fork .ensures, at-enter .enter2 .ensures, at-side .side .ensures) (adds-fork (pre .0) (pre .1 .1 .0) (s .args .at) (s .args .end) (pre .1 .1 .1) (pre .1 .1 .2) (name (hashed door)) refl (stamped door) (door .before .last-door .result) (way door) (door .before .last-door .ensures .ends (door .if1 .left)) (at-side .before .question .result) (differ (at-side .before)))
+    rw (at-fork .put-fork .ensures, at-enter .enter2 .ensures, their-side at-side) (adds-fork (pre .0) (pre .1 .1 .0) (s .args .at) (s .args .end) (pre .1 .1 .1) (pre .1 .1 .2) (name (hashed door)) refl (stamped door) (door .before .last-door .result) (way door) (door .before .last-door .ensures .ends (door .if1 .left)) (at-side .before .question .result) (differ (at-side .before)))
 
 pub came-before-spec : {M : Type 1} → statement M
 came-before-spec =

@@ -1,24 +1,24 @@
--- `stamps::enter` meets its contract: four places are written. Assumes nothing.
-use mathlib.Core.Path.{refl}
+-- `stamps::enter` meets its contract: two places are written, and sixteen filled. Assumes nothing.
+use mathlib.Core.Path.{ap, _∙_}
 use native.Mathlib.Omega.{arith}
 use borrow.Author.Needs.{needs}
-use lib.ListN.{length-set}
+use lib.ListN.{length, length-set}
 use Rattle.stamps.specs.Stamps.{entered}
+use Rattle.stamps.proofs.Laws.Writing.{entered-length}
 use Rattle.stamps.proofs.enter.Statement.{statement}
 use Rattle.stamps.proofs.enter.Tie as tie
 
 slice-write-stamps-2 : tie.Need-slice-write-stamps-2
 slice-write-stamps-2 c = simp length-set (omega arith)
 
-slice-write-stamps-3 : tie.Need-slice-write-stamps-3
-slice-write-stamps-3 c = simp length-set (omega arith)
-
-slice-write-stamps-4 : tie.Need-slice-write-stamps-4
-slice-write-stamps-4 c = simp length-set (omega arith)
-
 returns : tie.Need-returns
 unfolding entered
-returns c = refl
+returns c = c .before .before .fill-doors .ensures
+
+same-length : tie.Need-same-length
+same-length c =
+    let args = c .before .before .before .before .before .args in
+    ap length (returns c) ∙ entered-length (args .stamps .now) (args .count) (args .at) (args .end)
 
 pub enter-spec : {M : Type 1} → statement M
 enter-spec =
@@ -32,16 +32,6 @@ enter-spec =
     (λ c. search needs)
     (λ c. search needs)
     slice-write-stamps-2
-    (λ c. search needs)
-    (λ c. search needs)
-    (λ c. search needs)
-    (λ c. search needs)
-    slice-write-stamps-3
-    (λ c. search needs)
-    (λ c. search needs)
-    (λ c. search needs)
-    (λ c. search needs)
-    (λ c. search needs)
-    slice-write-stamps-4
-    (λ c. search needs)
+    (λ c κs. search needs)
+    same-length
     returns)

@@ -7,14 +7,14 @@ use borrow.Author.Tests.{not-true, not-false}
 use lib.ListN.{getD}
 use Rattle.stamps.specs.Stamps.{IsDoor, branch}
 use Rattle.stamps.specs.Ways.{Way, here, on}
-use Rattle.stamps.proofs.Laws.Asking.{bit-below}
+use Rattle.stamps.proofs.Laws.Asking.{side-below}
 use Rattle.stamps.proofs.Laws.Passing.{rank, rank-falls}
 use Rattle.stamps.proofs.last_door.Statement.{statement}
 use Rattle.stamps.proofs.last_door.Tie as tie
 
 abbrev Inv-loop : tie.InvT-loop
 Inv-loop stamps line-no count h name door₀ door =
-    (4096 ≤ door) × (door < 8704) × IsDoor count (getD stamps door 0) × ((e : ℕ) → Way stamps count name e door → Way stamps count name e door₀)
+    (4096 ≤ door) × (door < 12288) × IsDoor count (getD stamps door 0) × ((e : ℕ) → Way stamps count name e door → Way stamps count name e door₀)
 
 abbrev μ-loop : tie.MeasureT-loop
 μ-loop stamps line-no count h name door₀ door = rank (getD stamps door 0)
@@ -46,8 +46,8 @@ came c =
 below : (c : tie.After-index Inv-loop μ-loop) → c .index .result < 254
 below c = omega (arith, came c, start (c .before .before .before .before .before .before) .pre .1 .0)
 
-two : (c : tie.After-side Inv-loop μ-loop) → c .side .result < 2
-two c = rw (c .side .ensures) (bit-below _ _)
+sixteen : (c : tie.After-side Inv-loop μ-loop) → c .side .result < 16
+sixteen c = rw (c .side .ensures) (side-below _ _)
 
 loop-less : tie.Need-loop-less Inv-loop μ-loop
 loop-less c =
@@ -56,7 +56,7 @@ loop-less c =
     let s = start (l .before .before) in
     let t = s .args .stamps .now in
     let f = at-index .index .result in
-    rank-falls (getD t (l .loop .door) 0) (getD t (branch f (c .side .result)) 0) (at-index .before .before .if2 .taken) (l .loop .inv .2 .0) (λ g. omega (arith, at-index .index .ensures, s .pre .1 .1 .rises f (c .side .result) (came at-index) (two c) g))
+    rank-falls (getD t (l .loop .door) 0) (getD t (branch f (c .side .result)) 0) (at-index .before .before .if2 .taken) (l .loop .inv .2 .0) (λ g. omega (arith, at-index .index .ensures, s .pre .1 .1 .rises f (c .side .result) (came at-index) (sixteen c) g))
 
 loop-again : tie.Need-loop-again Inv-loop μ-loop
 loop-again c =
@@ -65,8 +65,8 @@ loop-again c =
     let s = start (l .before .before) in
     let f = at-index .index .result in (
       omega arith,
-      omega (arith, below at-index, two c),
-      s .pre .1 .1 .holds f (c .side .result) (came at-index) (two c),
+      omega (arith, below at-index, sixteen c),
+      s .pre .1 .1 .holds f (c .side .result) (came at-index) (sixteen c),
       (λ e w. l .loop .inv .3 e (on f (omega (arith, at-index .index .ensures, at-index .before .before .if2 .taken)) (came at-index) (rw (c .side .ensures) at w))),
     )
 
@@ -108,7 +108,7 @@ last-door-spec =
     (λ c. omega (arith, below c))
     (λ c. omega (arith, below (c .before), start (c .before .before .before .before .before .before .before) .pre .0))
     (λ c κs. search needs)
-    (λ c. omega (arith, below (c .before .before), two c))
+    (λ c. omega (arith, below (c .before .before), sixteen c))
     loop-less
     loop-again
     returns-2)

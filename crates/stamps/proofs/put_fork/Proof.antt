@@ -27,7 +27,6 @@ put-fork-spec =
     (λ c. search needs)
     (λ c. search needs)
     (λ c. search needs)
-    (λ c. search needs)
     slice-write-stamps-2
     (λ c. search needs)
     (λ c. search needs)

@@ -1,6 +1,6 @@
--- `stamps::question` meets its contract: the first place where two names differ, and there the lowest bit. Assumes nothing.
+-- `stamps::question` meets its contract: the first place where two names differ, and there the lowest four bits that do. Assumes nothing.
 use borrow.Author.Needs.{needs}
-use Rattle.stamps.proofs.Laws.Asking.{bit-decides}
+use Rattle.stamps.proofs.Laws.Asking.{side-decides}
 use Rattle.stamps.proofs.question.Statement.{statement}
 use Rattle.stamps.proofs.question.Tie as tie
 
@@ -10,8 +10,8 @@ returns c =
     let first = second .before in
     let at-place = first .before in
     let args = at-place .before .before .before .args in
-    bit-decides (args .a .now) (args .b .now) (at-place .first-difference .result) (c .differing-bit .result) (first .code-at .result) (second .code-at2 .result)
-    (c .differing-bit .ensures .0) (first .code-at .ensures .0) (second .code-at2 .ensures .0) (c .differing-bit .ensures .1) (at-place .first-difference .ensures .1)
+    side-decides (args .a .now) (args .b .now) (at-place .first-difference .result) (c .differing-bits .result) (first .code-at .result) (second .code-at2 .result)
+    (c .differing-bits .ensures .0) (first .code-at .ensures .0) (second .code-at2 .ensures .0) (c .differing-bits .ensures .1) (at-place .first-difference .ensures .1)
 
 pub question-spec : {M : Type 1} → statement M
 question-spec =

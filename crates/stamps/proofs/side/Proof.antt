@@ -1,12 +1,12 @@
 -- `stamps::side` meets its contract: a shift to the right and a rest. Assumes nothing.
 use mathlib.Core.Path.{_∙_}
 use borrow.Author.Needs.{needs}
-use Rattle.stamps.specs.Stamps.{bitOf}
+use Rattle.stamps.specs.Stamps.{sideOf}
 use Rattle.stamps.proofs.side.Statement.{statement}
 use Rattle.stamps.proofs.side.Tie as tie
 
 returns : tie.Need-returns
-unfolding bitOf
+unfolding sideOf
 returns c = c .index2 .ensures ∙ rw (c .before .code-at .ensures .0, c .before .before .index .ensures)
 
 pub side-spec : {M : Type 1} → statement M
