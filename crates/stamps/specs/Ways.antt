@@ -1,17 +1,22 @@
 -- The way of a name from its stamp's door through forks to the number of a name, and that each name's way ends at its own number or that of an equal name.
 -- No rule speaks of it. Assumes nothing.
-use Prim.Native.Nat.{ℕ, zero, suc, _+_, _≤_, _<_}
+use Prim.Native.Nat.{ℕ, zero, suc, _+_, _-_, _/_, _%_, _≤_, _<_}
 use mathlib.Core.Path.{_≡_}
 use mathlib.Core.Bool.{Bool, false, _||_}
 use mathlib.Core.List.{List}
 use lib.ListN.{length, getD}
 use Rattle.text.specs.Bytes.{Bytes, same}
-use Rattle.stamps.specs.Stamps.{ROOM, DOORS, ASKS, STARTS, ENDS, IsDoor, branch, nameAt, hashOf, sideOf}
+use Rattle.stamps.specs.Stamps.{ROOM, DOORS, BRANCHES, ASKS, STARTS, ENDS, IsDoor, branch, nameAt, hashOf, sideOf}
 
 -- from the last door back to the first: a door that holds a fork leads to that of its doors which is on the name's side
 pub data Way (t : List ℕ) (m : ℕ) (name : Bytes) (last : ℕ) : ℕ → Type 0 where
   here : Way t m name last last
   on : {door : ℕ} (fork : ℕ) → getD t door 0 ≡ 256 + fork → fork < m → Way t m name last (branch fork (sideOf (getD t (ASKS + fork) 0) name)) → Way t m name last door
+
+-- a door of a fork, with a name of another side
+pub record Astray (t : List ℕ) (door : ℕ) (name : Bytes) : Type 0 where
+  pub branched : BRANCHES ≤ door
+  pub other : sideOf (getD t (ASKS + (door - BRANCHES) / 16) 0) name ≡ (door - BRANCHES) % 16 → ⊥
 
 -- behind the doors of the first m forks are names or later forks, so that each way ends
 pub record Doors (t : List ℕ) (m : ℕ) : Type 0 where

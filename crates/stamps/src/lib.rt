@@ -8,7 +8,7 @@ ghost use lib.ListN.{length};
 ghost use Rattle.text.specs.Lines.{LIMIT};
 ghost use Rattle.text.specs.Places.{part};
 ghost use Rattle.stamps.specs.Stamps.{ROOM as room, IsDoor, BRANCHES as branches, hashOf, codeAt, sideOf, filled, entered, forked};
-ghost use Rattle.stamps.specs.Ways.{Doors, FindsDoor, Noted, Adds};
+ghost use Rattle.stamps.specs.Ways.{Astray, Doors, FindsDoor, Noted, Adds};
 
 // The list that is lent has so many places: the stamps, and from the places below on their doors, the doors of each fork, what each fork asks, and where each
 // name begins and ends.
@@ -26,6 +26,9 @@ const ENDS: usize = 12800;
 
 // A door holds the number of a name, or from here on that of the fork that came with a name.
 const FORK: u32 = 256;
+
+// All that a door of this header holds is below.
+const HELD: u32 = 512;
 
 // A hash keeps 16 bits of each turn, and its stamp stands at one of so many places.
 const BITS: usize = 65536;
@@ -95,7 +98,7 @@ fn is_live(stamp: u32, line_no: u32, held: u32, count: u32) -> bool
     if stamp != line_no {
         return false;
     }
-    if 512 <= held {
+    if HELD <= held {
         return false;
     }
     held % FORK < count
@@ -196,6 +199,19 @@ fn put_fork(stamps: &mut [u32], door: usize, count: usize, ask: u32, their: usiz
     stamps[door] = FORK + (count as u32);
 }
 
+// Whether the name behind a door of a fork is of another side than the door. No way of an earlier name ends there then.
+fn is_astray(stamps: &[u32], door: usize, other: &[u8]) -> bool
+    requires { ⌜ length (now stamps) ≡ room ⌝ }
+    requires { ⌜ door < 12288 ⌝ }
+    ensures { λ r. ⌜ (r ≡ true → Astray (now (stamps .entry)) door (now (other .entry))) ⌝ }
+{
+    if door < BRANCHES {
+        return false;
+    }
+    let at = door - BRANCHES;
+    side(other, stamps[ASKS + at / SIDES]) != at % SIDES
+}
+
 // Whether the name from `at` up to `end` is one of the first `count` of the line, which are noted. It is noted too.
 pub fn came_before(
     stamps: &mut [u32],
@@ -224,9 +240,14 @@ pub fn came_before(
     let stop = index(stamps[ENDS + k]);
     let other = &line[start..stop];
     let again = same_bytes(name, other);
+    let astray = is_astray(stamps, door, other);
     enter(stamps, count, at, end);
     if again {
         return true;
+    }
+    if astray {
+        stamps[door] = count as u32;
+        return false;
     }
     let ask = question(name, other);
     let their = side(other, ask);

@@ -1,9 +1,9 @@
--- A name is added to the first ones: as the first of its stamp, as one that came before, or behind a fork of its own. Assumes nothing.
+-- A name is added to the first ones: as the first of its stamp, as one that came before, at a door that is free, or behind a fork of its own. Assumes nothing.
 use mathlib.Core.Path.{_≡_, refl, sym, ap, subst, _∙_}
 use mathlib.Core.Bool.{Bool, true, false}
 use mathlib.Core.List.{List}
 use mathlib.Core.Logic.{inl, inr}
-use Prim.Native.Nat.{ℕ, _+_, _≤_, _<_}
+use Prim.Native.Nat.{ℕ, _+_, _-_, _/_, _≤_, _<_}
 use native.Mathlib.Omega.{arith}
 use lib.Dec.{eqb}
 use lib.Seq.{getD-set-same, getD-set-other}
@@ -11,10 +11,10 @@ use lib.ListN.{length, getD, set, length-set}
 use borrow.Author.Tests.{eqb-true, eqb-false}
 use Rattle.text.specs.Bytes.{Bytes}
 use Rattle.text.specs.Places.{part}
-use Rattle.stamps.specs.Stamps.{DOORS, ASKS, ROOM, IsDoor, branch, nameAt, hashOf, sideOf, entered, forked}
-use Rattle.stamps.specs.Ways.{Way, here, Known, Noted, Adds}
+use Rattle.stamps.specs.Stamps.{DOORS, BRANCHES, ASKS, ROOM, IsDoor, branch, nameAt, hashOf, sideOf, entered, forked}
+use Rattle.stamps.specs.Ways.{Way, here, Astray, Known, Noted, Adds}
 use Rattle.stamps.proofs.Laws.Asking.{hash-below, side-below}
-use Rattle.stamps.proofs.Laws.Passing.{way-first, way-one, way-range, way-on}
+use Rattle.stamps.proofs.Laws.Passing.{way-first, way-one, way-range, way-side, way-on}
 use Rattle.stamps.proofs.Laws.Naming.{named-one, named-none, named-more}
 use Rattle.stamps.proofs.Laws.Writing.{entered-length, entered-other, entered-own, forked-length, forked-other, forked-ask, forked-their, forked-door}
 use Rattle.stamps.proofs.Laws.Noting.{Turned, Grows, names-stay, name-new, way-grown, known-stays, noted-more}
@@ -111,6 +111,76 @@ module _ {t : List ℕ} {n : ℕ} {line : Bytes} {m : ℕ} (noted : Noted t n li
           names = named-more t (entered t m start end) line x m (names-stay noted few entered-grows) (name-new noted few entered-grows ∙ named);
         }
 
+    -- an equal name before it would have led to the same door
+    meet : Known t n line m x → nameAt t line (getD t d 0) ≡ x
+    meet k = subst (λ (i : ℕ). nameAt t line (getD t i 0) ≡ x) (way-one (k .way) (omega (arith, k .ends)) way (omega (arith, ends))) (k .equal)
+
+    door-range : (DOORS ≤ d) × (d < branch m 0)
+    door-range = way-range way (omega arith) (root-below x)
+
+    long : length (entered t m start end) ≡ ROOM
+    long = entered-length t m start end ∙ noted .places
+
+    -- it is new, and takes a door at which no way of an earlier name ends
+    module _ (differ : nameAt t line (getD t d 0) ≡ x → ⊥) (astray : Astray t d (nameAt t line (getD t d 0))) where
+      over : List ℕ
+      over = set (entered t m start end) d m
+
+      over-other : (i : ℕ) → (i ≡ d → ⊥) → getD over i 0 ≡ getD (entered t m start end) i 0
+      unfolding over
+      over-other i ne = getD-set-other (entered t m start end) d i m 0 ne
+
+      over-door : getD over d 0 ≡ m
+      unfolding over
+      over-door = getD-set-same (entered t m start end) d m 0 (omega (arith, long, door-range .1))
+
+      over-length : length over ≡ ROOM
+      unfolding over
+      over-length = length-set (entered t m start end) d m ∙ long
+
+      -- a name whose way ends there would be that behind it, and on its side
+      free : {z : Bytes} (k : Known t n line m z) → k .door ≡ d → ⊥
+      free {z} k e =
+          let equal : nameAt t line (getD t d 0) ≡ z = rw e at (k .equal) in
+          let side = way-side (k .way) (λ (h : BRANCHES ≤ DOORS + hashOf z). absurd (omega (arith, hash-below z, h))) (omega (arith, e, astray .branched)) in
+          astray .other (ap (sideOf (getD t (ASKS + (d - BRANCHES) / 16) 0)) equal ∙ rw e at side)
+
+      over-turned : (i : ℕ) → i < branch m 0 → Turned t over n line m i
+      over-turned i l = go (eqb i d) refl
+        where
+          go : (b : Bool) → eqb i d ≡ b → Turned t over n line m i
+          go true e = rw (eqb-true i d e) (inr (inr (record { was = omega (arith, ends); now = over-door; free = free })))
+          go false e = inl (over-other i (eqb-false i d e) ∙ entered-old i l)
+
+      over-grows : Grows t over n line m start end
+      over-grows =
+          record {
+            places = over-length;
+            rest = λ i l ne. over-other i (omega (arith, door-range .1));
+            own = λ s l. omega (arith, over-other (branch m s) (omega (arith, door-range .1)), entered-own t m start end (noted .places) few s l);
+            stamps = λ h l q. over-other h (omega (arith, door-range .0)) ∙ entered-old h (omega arith) ∙ q;
+            doors = λ f s l k. over-turned (branch f s) (omega arith);
+          }
+
+      over-known : Known over n line (m + 1) x
+      over-known =
+          record {
+            stamped = over-grows .stamps (hashOf x) (hash-below x) stamped;
+            door = d;
+            way = way-grown noted few over-grows way (over-turned (DOORS + hashOf x) (root-below x));
+            ends = omega (arith, over-door);
+            equal = ap (λ (j : ℕ). nameAt over line j) over-door ∙ name-new noted few over-grows ∙ named;
+          }
+
+      pub adds-over : Adds t (set (entered t m start end) d m) n line m x false
+      unfolding over
+      adds-over =
+          record {
+            answer = sym (named-none t line x m (λ j l e. differ (meet (rw e at (noted .known j l)))));
+            noted = noted-more noted few over-grows up within (name-new noted few over-grows ∙ named) (λ j l. over-turned (DOORS + hashOf (nameAt t line j)) (root-below (nameAt t line j))) over-known;
+            names = named-more t over line x m (names-stay noted few over-grows) (name-new noted few over-grows ∙ named);
+          }
+
     -- it is new, and gets a fork
     module _ (ask : ℕ) (differ : sideOf ask x ≡ sideOf ask (nameAt t line (getD t d 0)) → ⊥) where
       their : ℕ
@@ -122,12 +192,6 @@ module _ {t : List ℕ} {n : ℕ} {line : Bytes} {m : ℕ} (noted : Noted t n li
 
       grown : List ℕ
       grown = forked (entered t m start end) d m ask their
-
-      door-range : (DOORS ≤ d) × (d < branch m 0)
-      door-range = way-range way (omega arith) (root-below x)
-
-      long : length (entered t m start end) ≡ ROOM
-      long = entered-length t m start end ∙ noted .places
 
       grown-old : (i : ℕ) → i < branch m 0 → (i ≡ d → ⊥) → getD grown i 0 ≡ getD t i 0
       unfolding grown
@@ -156,12 +220,12 @@ module _ {t : List ℕ} {n : ℕ} {line : Bytes} {m : ℕ} (noted : Noted t n li
       unfolding their
       grown-own = grown-side (sideOf ask x) (side-below ask x) differ
 
-      grown-turned : (i : ℕ) → i < branch m 0 → Turned t grown line m i
+      grown-turned : (i : ℕ) → i < branch m 0 → Turned t grown n line m i
       unfolding their
       grown-turned i l = go (eqb i d) refl
         where
-          go : (b : Bool) → eqb i d ≡ b → Turned t grown line m i
-          go true e = rw (eqb-true i d e) (inr (record { was = omega (arith, ends); fork = grown-door; side = rw grown-ask grown-their }))
+          go : (b : Bool) → eqb i d ≡ b → Turned t grown n line m i
+          go true e = rw (eqb-true i d e) (inr (inl (record { was = omega (arith, ends); fork = grown-door; side = rw grown-ask grown-their })))
           go false e = inl (grown-old i l (eqb-false i d e))
 
       grown-grows : Grows t grown n line m start end
@@ -194,10 +258,6 @@ module _ {t : List ℕ} {n : ℕ} {line : Bytes} {m : ℕ} (noted : Noted t n li
             ends = omega (arith, grown-own);
             equal = ap (λ (j : ℕ). nameAt grown line j) grown-own ∙ name-new noted few grown-grows ∙ named;
           }
-
-      -- an equal name before it would have led to the same door
-      meet : Known t n line m x → nameAt t line (getD t d 0) ≡ x
-      meet k = subst (λ (i : ℕ). nameAt t line (getD t i 0) ≡ x) (way-one (k .way) (omega (arith, k .ends)) way (omega (arith, ends))) (k .equal)
 
       new : (j : ℕ) → j < m → nameAt t line j ≡ x → ⊥
       new j l e = differ (ap (sideOf ask) (sym (meet (rw e at (noted .known j l)))))

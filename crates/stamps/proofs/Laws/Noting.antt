@@ -1,5 +1,5 @@
 -- The first names are noted, and one more with them: it is the first of its stamp, or came before, or gets a fork of its own. Assumes nothing.
-use mathlib.Core.Path.{_≡_, _∙_}
+use mathlib.Core.Path.{_≡_, refl, _∙_}
 use mathlib.Core.List.{List}
 use mathlib.Core.Logic.{_⊎_, ⊎-elim}
 use Prim.Native.Nat.{ℕ, _+_, _≤_, _<_}
@@ -31,17 +31,23 @@ pub record Split (t t' : List ℕ) (line : Bytes) (m i : ℕ) : Type 0 where
   pub fork : getD t' i 0 ≡ 256 + m
   pub side : getD t' (branch m (sideOf (getD t' (ASKS + m) 0) (nameAt t line (getD t i 0)))) 0 ≡ getD t i 0
 
--- a door holds what it held, or leads to fork m
-abbrev pub Turned : List ℕ → List ℕ → Bytes → ℕ → ℕ → Type 0
-Turned t t' line m i = (getD t' i 0 ≡ getD t i 0) ⊎ Split t t' line m i
+-- a door at which no known name's way ends holds name m
+pub record Taken (t t' : List ℕ) (n : ℕ) (line : Bytes) (m i : ℕ) : Type 0 where
+  pub was : getD t i 0 < 256
+  pub now : getD t' i 0 ≡ m
+  pub free : {z : Bytes} (k : Known t n line m z) → k .door ≡ i → ⊥
 
--- name number m is entered, and of the first m no more is changed than doors that lead to fork m
+-- a door holds what it held, leads to fork m, or holds name m
+abbrev pub Turned : List ℕ → List ℕ → ℕ → Bytes → ℕ → ℕ → Type 0
+Turned t t' n line m i = (getD t' i 0 ≡ getD t i 0) ⊎ (Split t t' line m i ⊎ Taken t t' n line m i)
+
+-- name number m is entered, and of the first m no more is changed than doors that lead to fork m or hold name m
 pub record Grows (t t' : List ℕ) (n : ℕ) (line : Bytes) (m start end : ℕ) : Type 0 where
   pub places : length t' ≡ ROOM
   pub rest : (i : ℕ) → ASKS ≤ i → (i ≡ ASKS + m → ⊥) → getD t' i 0 ≡ getD (entered t m start end) i 0
   pub own : (s : ℕ) → s < 16 → getD t' (branch m s) 0 ≤ m
   pub stamps : (h : ℕ) → h < DOORS → getD t h 0 ≡ n → getD t' h 0 ≡ n
-  pub doors : (f s : ℕ) → f < m → s < 16 → Turned t t' line m (branch f s)
+  pub doors : (f s : ℕ) → f < m → s < 16 → Turned t t' n line m (branch f s)
 
 module _ {t t' : List ℕ} {n : ℕ} {line : Bytes} {m start end : ℕ} (noted : Noted t n line m) (few : m ≤ 254) (grows : Grows t t' n line m start end) where
   starts-stay : (j : ℕ) → j < m → getD t' (STARTS + j) 0 ≡ getD t (STARTS + j) 0
@@ -69,13 +75,16 @@ module _ {t t' : List ℕ} {n : ℕ} {line : Bytes} {m start end : ℕ} (noted :
 
   -- the doors of the first m forks, and of fork m
   doors-old : (f s : ℕ) → f < m → s < 16 → IsDoor (m + 1) (getD t' (branch f s) 0) × (256 ≤ getD t' (branch f s) 0 → 256 + f < getD t' (branch f s) 0)
-  doors-old f s l k = ⊎-elim same split (grows .doors f s l k)
+  doors-old f s l k = ⊎-elim same (⊎-elim split taken) (grows .doors f s l k)
     where
       same : getD t' (branch f s) 0 ≡ getD t (branch f s) 0 → IsDoor (m + 1) (getD t' (branch f s) 0) × (256 ≤ getD t' (branch f s) 0 → 256 + f < getD t' (branch f s) 0)
       same q = rw q ((omega (arith, noted .doors .holds f s l k), omega (arith, noted .doors .holds f s l k)), noted .doors .rises f s l k)
 
       split : Split t t' line m (branch f s) → IsDoor (m + 1) (getD t' (branch f s) 0) × (256 ≤ getD t' (branch f s) 0 → 256 + f < getD t' (branch f s) 0)
       split q = rw (q .fork) ((omega arith, omega arith), λ h. omega arith)
+
+      taken : Taken t t' n line m (branch f s) → IsDoor (m + 1) (getD t' (branch f s) 0) × (256 ≤ getD t' (branch f s) 0 → 256 + f < getD t' (branch f s) 0)
+      taken q = rw (q .now) ((omega arith, omega arith), λ h. omega arith)
 
   doors-new : (f s : ℕ) → f < m + 1 → s < 16 → IsDoor (m + 1) (getD t' (branch f s) 0) × (256 ≤ getD t' (branch f s) 0 → 256 + f < getD t' (branch f s) 0)
   doors-new f s l k =
@@ -84,15 +93,15 @@ module _ {t t' : List ℕ} {n : ℕ} {line : Bytes} {m start end : ℕ} (noted :
       (eq-or-lt-of-le (omega arith))
 
   -- a way of the first m
-  pub way-grown : {z : Bytes} {e d : ℕ} → Way t m z e d → Turned t t' line m d → Way t' (m + 1) z e d
+  pub way-grown : {z : Bytes} {e d : ℕ} → Way t m z e d → Turned t t' n line m d → Way t' (m + 1) z e d
   way-grown {z} {e} {d} w q = way-stays t t' m (m + 1) (omega arith) (λ f s l k. kept (branch f s) (grows .doors f s l k)) asks-stay w (kept d q)
     where
-      kept : (i : ℕ) → Turned t t' line m i → 256 ≤ getD t i 0 → getD t' i 0 ≡ getD t i 0
-      kept i q h = ⊎-elim (λ (e : getD t' i 0 ≡ getD t i 0). e) (λ (s : Split t t' line m i). absurd (omega (arith, s .was, h))) q
+      kept : (i : ℕ) → Turned t t' n line m i → 256 ≤ getD t i 0 → getD t' i 0 ≡ getD t i 0
+      kept i q h = ⊎-elim (λ (e : getD t' i 0 ≡ getD t i 0). e) (⊎-elim (λ (s : Split t t' line m i). absurd (omega (arith, s .was, h))) (λ (s : Taken t t' n line m i). absurd (omega (arith, s .was, h)))) q
 
   -- a known name stays known
-  pub known-stays : {z : Bytes} → Known t n line m z → Turned t t' line m (DOORS + hashOf z) → Known t' n line (m + 1) z
-  known-stays {z} k q = ⊎-elim same split (way-last (Turned t t' line m) (k .way) q (grows .doors))
+  pub known-stays : {z : Bytes} → Known t n line m z → Turned t t' n line m (DOORS + hashOf z) → Known t' n line (m + 1) z
+  known-stays {z} k q = ⊎-elim same (⊎-elim split (λ (s : Taken t t' n line m (k .door)). absurd (s .free k refl))) (way-last (Turned t t' n line m) (k .way) q (grows .doors))
     where
       way : Way t' (m + 1) z (k .door) (DOORS + hashOf z)
       way = way-grown (k .way) q
@@ -123,7 +132,7 @@ module _ {t t' : List ℕ} {n : ℕ} {line : Bytes} {m start end : ℕ} (noted :
           }
 
   -- one more is noted
-  pub noted-more : {x : Bytes} → start ≤ end → end ≤ length line → nameAt t' line m ≡ x → ((j : ℕ) → j < m → Turned t t' line m (DOORS + hashOf (nameAt t line j))) → Known t' n line (m + 1) x → Noted t' n line (m + 1)
+  pub noted-more : {x : Bytes} → start ≤ end → end ≤ length line → nameAt t' line m ≡ x → ((j : ℕ) → j < m → Turned t t' n line m (DOORS + hashOf (nameAt t line j))) → Known t' n line (m + 1) x → Noted t' n line (m + 1)
   noted-more s e named roots new =
       record {
         places = grows .places;

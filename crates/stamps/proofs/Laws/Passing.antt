@@ -1,14 +1,14 @@
 -- The way of a name through forks. Assumes nothing.
-use mathlib.Core.Path.{_≡_, refl, subst, _∙_}
+use mathlib.Core.Path.{_≡_, refl, sym, ap, subst, _∙_}
 use mathlib.Core.Bool.{Bool, true, false, cond}
 use mathlib.Core.List.{List}
-use Prim.Native.Nat.{ℕ, _+_, _-_, _≤_, _<_}
+use Prim.Native.Nat.{ℕ, _+_, _-_, _/_, _%_, _≤_, _<_}
 use native.Mathlib.Omega.{arith}
 use lib.Dec.{ltb}
 use lib.ListN.{getD}
 use borrow.Author.Tests.{le-ltb, ltb-false}
 use Rattle.text.specs.Bytes.{Bytes}
-use Rattle.stamps.specs.Stamps.{DOORS, ASKS, IsDoor, branch, sideOf}
+use Rattle.stamps.specs.Stamps.{DOORS, BRANCHES, ASKS, IsDoor, branch, sideOf}
 use Rattle.stamps.specs.Ways.{Way, here, on}
 use Rattle.stamps.proofs.Laws.Asking.{side-below}
 
@@ -23,6 +23,10 @@ rank-falls held next l h rises = rw (le-ltb held 256 l) (go (ltb next 256) refl)
     go : (b : Bool) → ltb next 256 ≡ b → cond b 0 (512 - next) < 512 - held
     go true e = omega arith
     go false e = omega (arith, rises (ltb-false next 256 e))
+
+-- a door of a fork is on the side of the name
+abbrev Aside : List ℕ → Bytes → ℕ → Type 0
+Aside t z i = sideOf (getD t (ASKS + (i - BRANCHES) / 16) 0) z ≡ (i - BRANCHES) % 16
 
 -- a way that ends at a name begins at a door
 pub way-first : {t : List ℕ} {m : ℕ} {z : Bytes} {e d : ℕ} → Way t m z e d → getD t e 0 < m → m ≤ 254 → IsDoor m (getD t d 0)
@@ -46,6 +50,20 @@ way-last {t} {m} {z} P (on f e l w) p q = way-last P w (q f (sideOf (getD t (ASK
 -- its last door is that of a stamp, or of one of the forks
 pub way-range : {t : List ℕ} {m : ℕ} {z : Bytes} {e d : ℕ} → Way t m z e d → DOORS ≤ d → d < branch m 0 → (DOORS ≤ e) × (e < branch m 0)
 way-range {t} {m} w low high = way-last (λ (i : ℕ). (DOORS ≤ i) × (i < branch m 0)) w (low, high) (λ f s l k. (omega arith, omega arith))
+
+-- behind a fork it goes by the door of the name's own side
+pub way-side : {t : List ℕ} {m : ℕ} {z : Bytes} {e d : ℕ} → Way t m z e d → (BRANCHES ≤ d → Aside t z d) → BRANCHES ≤ e → Aside t z e
+way-side here p = p
+way-side {t} {m} {z} (on f q l w) p = way-side w (λ (h : BRANCHES ≤ branch f (sideOf (getD t (ASKS + f) 0) z)). turned)
+  where
+    below : sideOf (getD t (ASKS + f) 0) z < 16
+    below = side-below (getD t (ASKS + f) 0) z
+
+    turned : Aside t z (branch f (sideOf (getD t (ASKS + f) 0) z))
+    turned =
+        let a : (branch f (sideOf (getD t (ASKS + f) 0) z) - BRANCHES) / 16 ≡ f = omega (arith, below) in
+        let b : (branch f (sideOf (getD t (ASKS + f) 0) z) - BRANCHES) % 16 ≡ sideOf (getD t (ASKS + f) 0) z = omega (arith, below) in
+        ap (λ (k : ℕ). sideOf (getD t (ASKS + k) 0) z) a ∙ sym b
 
 -- a fork more
 pub way-on : {t : List ℕ} {m : ℕ} {z : Bytes} {e d : ℕ} (f : ℕ) → Way t m z e d → getD t e 0 ≡ 256 + f → f < m → Way t m z (branch f (sideOf (getD t (ASKS + f) 0) z)) d

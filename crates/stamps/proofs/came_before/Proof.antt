@@ -1,6 +1,6 @@
 -- `stamps::came_before` meets its contract: a name is the first of its stamp, or the one name at the end of its way decides. Assumes nothing.
-use mathlib.Core.Path.{_≡_, refl, sym, ap, _∙_}
-use mathlib.Core.Bool.{true}
+use mathlib.Core.Path.{_≡_, refl, sym, ap, subst, _∙_}
+use mathlib.Core.Bool.{true, false}
 use Prim.Native.Nat.{_+_, _≤_, _<_}
 use native.Mathlib.Omega.{arith}
 use borrow.Author.Needs.{needs}
@@ -10,12 +10,12 @@ use Rattle.text.specs.Places.{part}
 use Rattle.text.proofs.Laws.Same.{same-equal, same-self}
 use Rattle.text.proofs.Laws.Tests.{absurd-bool}
 use Rattle.stamps.specs.Stamps.{DOORS, nameAt, hashOf, sideOf}
-use Rattle.stamps.specs.Ways.{Way}
+use Rattle.stamps.specs.Ways.{Way, Astray}
 use Rattle.stamps.proofs.Laws.Asking.{hash-below, side-below}
 use Rattle.stamps.proofs.Laws.Naming.{name-there}
 use Rattle.stamps.proofs.Laws.Passing.{way-range}
 use Rattle.stamps.proofs.Laws.Writing.{entered-length}
-use Rattle.stamps.proofs.Laws.Adding.{adds-first, adds-again, adds-fork}
+use Rattle.stamps.proofs.Laws.Adding.{adds-first, adds-again, adds-over, adds-fork}
 use Rattle.stamps.proofs.came_before.Statement.{statement}
 use Rattle.stamps.proofs.came_before.Tie as tie
 
@@ -101,7 +101,7 @@ other-name c =
     let args = start (hashed door) .args in
     name-there (args .stamps .now) (args .line .now) (door .before .last-door .result) (numbered c .index .ensures) (c .before .before .index2 .ensures) (c .index3 .ensures)
 
--- IT IS THE SAME NAME, or its side tells the two apart
+-- IT IS THE SAME NAME, or the door is free, or its side tells the two apart
 
 abbrev told : tie.After-same-bytes → tie.After-index3
 told c = c .before .before
@@ -112,45 +112,74 @@ ended c = met (numbered (told c))
 equal : (c : tie.After-same-bytes) → c .same-bytes .result ≡ true → there (ended c) ≡ name (hashed (ended c))
 equal c e = sym (same-equal _ _ (sym (c .same-bytes .ensures) ∙ e) ∙ other-name (told c))
 
-abbrev compared : tie.Else2 → tie.After-same-bytes
-compared c = c .before .before .before .before .before
+unequal : (c : tie.After-same-bytes) → c .same-bytes .result ≡ false → there (ended c) ≡ name (hashed (ended c)) → ⊥
+unequal c e q =
+    let x = name (hashed (ended c)) in
+    absurd-bool (sym e ∙ c .same-bytes .ensures ∙ ap (same x) (other-name (told c) ∙ q) ∙ same-self x)
 
-differ : (c : tie.After-question) → sideOf (c .question .result) (name (hashed (ended (compared (c .before))))) ≡ sideOf (c .question .result) (there (ended (compared (c .before)))) → ⊥
-differ c q =
-    let at-same = compared (c .before) in
-    let other = other-name (told at-same) in
-    let equals = c .question .ensures (q ∙ ap (sideOf (c .question .result)) (sym other)) in
-    absurd-bool (sym (c .before .if2 .left) ∙ at-same .same-bytes .ensures ∙ ap (same (name (hashed (ended at-same)))) (sym equals) ∙ same-self (name (hashed (ended at-same))))
+is-astray-requires : tie.Need-is-astray-requires
+is-astray-requires c κs = let door = ended (c .before) in (start (hashed door) .pre .0 .places, omega (arith, door-below door))
 
--- the side of the name that is there
-their-side : (c : tie.After-side) → c .side .result ≡ sideOf (c .before .question .result) (there (ended (compared (c .before .before))))
-their-side c = c .side .ensures ∙ ap (sideOf (c .before .question .result)) (other-name (told (compared (c .before .before))))
+-- the name is entered
+abbrev compared : tie.After-enter2 → tie.After-same-bytes
+compared c = c .before .before .before .before
+
+abbrev new : tie.Else2 → tie.After-enter2
+new c = c .before .before .before
 
 returns-2 : tie.Need-returns-2
 returns-2 c =
     let at-enter = c .before .before .before in
-    let at-same = at-enter .before .before in
+    let door = ended (compared at-enter) in
+    let s = start (hashed door) in
+    let pre = s .pre in
+    rw (at-enter .enter2 .ensures) (adds-again (pre .0) (pre .1 .1 .0) (s .args .at) (s .args .end) (pre .1 .1 .1) (pre .1 .1 .2) (name (hashed door)) refl (stamped door) (door .before .last-door .result) (way door) (door .before .last-door .ensures .ends (door .if1 .left)) (equal (compared at-enter) (c .if2 .taken)))
+
+-- the door is free
+slice-write-stamps-3 : tie.Need-slice-write-stamps-3
+slice-write-stamps-3 c =
+    let at-enter = new (c .before) in
+    let s = start (hashed (ended (compared at-enter))) in
+    rw (at-enter .enter2 .ensures) (omega (arith, door-below (ended (compared at-enter)), entered-length (s .args .stamps .now) (s .args .count) (s .args .at) (s .args .end), s .pre .0 .places))
+
+returns-3 : tie.Need-returns-3
+returns-3 c =
+    let else = c .before in
+    let at-enter = new else in
+    let at-same = compared at-enter in
     let door = ended at-same in
     let s = start (hashed door) in
     let pre = s .pre in
-    rw (at-enter .enter2 .ensures) (adds-again (pre .0) (pre .1 .1 .0) (s .args .at) (s .args .end) (pre .1 .1 .1) (pre .1 .1 .2) (name (hashed door)) refl (stamped door) (door .before .last-door .result) (way door) (door .before .last-door .ensures .ends (door .if1 .left)) (equal at-same (c .if2 .taken)))
+    let d = door .before .last-door .result in
+    let astray = subst (λ (b : Bytes). Astray (s .args .stamps .now) d b) (other-name (told at-same)) (at-enter .before .before .is-astray .ensures (c .if3 .taken)) in
+    rw (at-enter .enter2 .ensures) (adds-over (pre .0) (pre .1 .1 .0) (s .args .at) (s .args .end) (pre .1 .1 .1) (pre .1 .1 .2) (name (hashed door)) refl (stamped door) d (way door) (door .before .last-door .ensures .ends (door .if1 .left)) (unequal at-same (else .if2 .left)) astray)
+
+-- a fork parts them
+differ : (c : tie.After-question) → let at-same = compared (new (c .before .before)) in sideOf (c .question .result) (name (hashed (ended at-same))) ≡ sideOf (c .question .result) (there (ended at-same)) → ⊥
+differ c q =
+    let else = c .before .before in
+    let at-same = compared (new else) in
+    let other = other-name (told at-same) in
+    unequal at-same (else .if2 .left) (sym (c .question .ensures (q ∙ ap (sideOf (c .question .result)) (sym other)) ∙ other))
+
+-- the side of the name that is there
+their-side : (c : tie.After-side) → c .side .result ≡ sideOf (c .before .question .result) (there (ended (compared (new (c .before .before .before)))))
+their-side c = c .side .ensures ∙ ap (sideOf (c .before .question .result)) (other-name (told (compared (new (c .before .before .before)))))
 
 put-fork-requires : tie.Need-put-fork-requires
 put-fork-requires c κs =
     let at-side = c .before in
-    let else = at-side .before .before in
-    let at-enter = else .before .before .before in
-    let door = ended (compared else) in
+    let at-enter = new (at-side .before .before .before) in
+    let door = ended (compared at-enter) in
     let s = start (hashed door) in
     (ap length (at-enter .enter2 .ensures) ∙ entered-length (s .args .stamps .now) (s .args .count) (s .args .at) (s .args .end) ∙ s .pre .0 .places, (omega (arith, door-below door), s .pre .1 .1 .0, rw (their-side at-side) (side-below (at-side .before .question .result) (there door))))
 
-returns-3 : tie.Need-returns-3
-returns-3 c =
+returns-4 : tie.Need-returns-4
+returns-4 c =
     let at-fork = c .before .before in
     let at-side = at-fork .before .before in
-    let else = at-side .before .before in
-    let at-enter = else .before .before .before in
-    let door = ended (compared else) in
+    let at-enter = new (at-side .before .before .before) in
+    let door = ended (compared at-enter) in
     let s = start (hashed door) in
     let pre = s .pre in
     rw (at-fork .put-fork .ensures, at-enter .enter2 .ensures, their-side at-side) (adds-fork (pre .0) (pre .1 .1 .0) (s .args .at) (s .args .end) (pre .1 .1 .1) (pre .1 .1 .2) (name (hashed door)) refl (stamped door) (door .before .last-door .result) (way door) (door .before .last-door .ensures .ends (door .if1 .left)) (at-side .before .question .result) (differ (at-side .before)))
@@ -189,11 +218,17 @@ came-before-spec =
     (λ c. omega (arith, stands c))
     (λ c. omega (arith, stands c))
     (λ c κs. search needs)
+    is-astray-requires
     (λ c κs. search needs)
     (λ c. search needs)
     returns-2
+    (λ c. search needs)
+    (λ c. omega (arith, door-below (ended (compared (new (c .before))))))
+    slice-write-stamps-3
+    (λ c. search needs)
+    returns-3
     (λ c κs. search needs)
     (λ c κs. search needs)
     put-fork-requires
     (λ c. search needs)
-    returns-3)
+    returns-4)
