@@ -3,3 +3,4 @@ pub mod Turns
 pub mod Known
 pub mod Apart
 pub mod Lengths
+pub mod Lasts

@@ -32,11 +32,11 @@ module _ (p : List ℕ) (a : ℕ) where
   unfolding piecesFrom
   at-end h = rw (drop-of-length-le p h)
 
-  at-space : a < length p → getD p a 0 ≡ 32 → pieces (drop a p) ≡ []
+  pub at-space : a < length p → getD p a 0 ≡ 32 → pieces (drop a p) ≡ []
   unfolding piecesFrom
   at-space h e = rw (drop-step p a h, eq-eqb (getD p a 0) 32 e)
 
-  at-place : a < length p → getD p a 0 ≡ 91 → pieces (drop a p) ≡ place ∷ pieces (drop (a + 3) p)
+  pub at-place : a < length p → getD p a 0 ≡ 91 → pieces (drop a p) ≡ place ∷ pieces (drop (a + 3) p)
   unfolding piecesFrom
   at-place h e =
       let n : a + 1 + 2 ≡ a + 3 = omega arith in
@@ -44,7 +44,7 @@ module _ (p : List ℕ) (a : ℕ) where
       rw (drop-step p a h, ne-eqb (getD p a 0) 32 s, eq-eqb (getD p a 0) 91 e)
       (ap (λ (l : List Piece). place ∷ l) (skip2 (drop (a + 1) p) ∙ ap pieces (drop-drop 2 (a + 1) p ∙ ap (λ (k : ℕ). drop k p) n)))
 
-  at-byte : a < length p → (getD p a 0 ≡ 32 → ⊥) → (getD p a 0 ≡ 91 → ⊥) → pieces (drop a p) ≡ byte (getD p a 0) ∷ pieces (drop (a + 1) p)
+  pub at-byte : a < length p → (getD p a 0 ≡ 32 → ⊥) → (getD p a 0 ≡ 91 → ⊥) → pieces (drop a p) ≡ byte (getD p a 0) ∷ pieces (drop (a + 1) p)
   unfolding piecesFrom
   at-byte h s n = rw (drop-step p a h, ne-eqb (getD p a 0) 32 s, ne-eqb (getD p a 0) 91 n)
 
