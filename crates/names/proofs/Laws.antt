@@ -4,3 +4,4 @@ pub mod Known
 pub mod Apart
 pub mod Lengths
 pub mod Lasts
+pub mod Linking

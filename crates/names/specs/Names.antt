@@ -96,9 +96,9 @@ firstOf e (x ∷ xs) name =
 abbrev pub lookupIn : List Entry → Bytes → Found
 lookupIn entries name = firstOf 0 entries name
 
--- whether a pattern that begins with the bytes p and q may fit a name that begins with x and y, as the code asks before it looks closer
-unfoldable pub mayFit : ℕ → ℕ → ℕ → ℕ → Bool
-mayFit p q x y = eqb p x && (eqb q y || (eqb q OPEN || (eqb q SPACE || (eqb p OPEN || eqb p SPACE))))
+-- whether a pattern whose second byte is q may fit a name that begins with x and y, as the code asks before it looks closer
+unfoldable pub mayFit : ℕ → ℕ → ℕ → Bool
+mayFit q x y = eqb q y || (eqb q OPEN || (eqb q SPACE || (eqb x OPEN || eqb x SPACE)))
 
 -- whether a pattern may end before q in a row where the name's last byte is z, as the code asks too: a space stands at q, and before it z, or a place where z is `]`
 unfoldable pub mayEnd : Bytes → ℕ → ℕ → Bool

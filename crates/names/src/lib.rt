@@ -1,6 +1,10 @@
 // A name looked up in a table of rows.
+pub mod links;
+
+use crate::links::HEADS;
 use references::index::Index;
 use references::index::read_index;
+use references::index::wide;
 use text::bytes::SPACE;
 ghost use mathlib.Core.Path.{_≡_};
 ghost use mathlib.Core.List.{[]};
@@ -10,6 +14,7 @@ ghost use lib.ListN.{length, getD, drop};
 ghost use Rattle.text.specs.Bytes.{SPACE as space};
 ghost use Rattle.names.specs.Names.{pieces, fits as fitsIn, lookupIn, mayFit, mayEnd};
 ghost use Rattle.names.specs.Table.{entries};
+ghost use Rattle.names.specs.Links.{Linked};
 ghost use Rattle.names.specs.declared.Match.the-variants.{Differs};
 
 // The bytes of a row.
@@ -96,13 +101,10 @@ fn byte_of(name: &[u8], i: usize) -> u8
     if i < name.len() { name[i] } else { SPACE }
 }
 
-// Whether a pattern that begins with the bytes p and q may fit a name that begins with x and y: an index may stand at either, or the pattern may end there.
-fn may_fit(p: u8, q: u8, x: u8, y: u8) -> bool
-    ensures { λ r. ⌜ r ≡ mayFit p q x y ⌝ }
+// Whether a pattern whose second byte is q may fit a name that begins with x and y: an index may stand at either, or the pattern may end there.
+fn may_fit(q: u8, x: u8, y: u8) -> bool
+    ensures { λ r. ⌜ r ≡ mayFit q x y ⌝ }
 {
-    if p != x {
-        return false;
-    }
     if q == y {
         return true;
     }
@@ -112,10 +114,10 @@ fn may_fit(p: u8, q: u8, x: u8, y: u8) -> bool
     if q == SPACE {
         return true;
     }
-    if p == b'[' {
+    if x == b'[' {
         return true;
     }
-    p == SPACE
+    x == SPACE
 }
 
 // Whether a pattern may end before `end` in the row where the name's last byte is `last`: a space stands there, and before it that byte, or a place for the index that `]` ends.
@@ -170,18 +172,20 @@ fn fits_row(row: &[u8], name: &[u8]) -> Match
     fits(row, NAME, name)
 }
 
-// What the table says of the name: the first row whose pattern it fits. Rows whose pattern begins with other bytes are passed over at once.
-pub fn lookup(table: &[u8], name: &[u8]) -> Found
+// What the table says of the name: the first row whose pattern it fits. The links lead past the rows that begin with another byte.
+pub fn lookup(table: &[u8], links: &[u8], name: &[u8]) -> Found
+    requires { ⌜ Linked 0 (entries (now table)) (now links) ⌝ }
     ensures { λ r. ⌜ r ≡ lookupIn (entries (now (table .entry))) (now (name .entry)) ⌝ }
 {
     let x = byte_of(name, 0);
     let y = byte_of(name, 1);
-    let mut at = 0;
-    let mut entry = 0;
-    while WIDTH <= table.len() - at {
-        let next = at + WIDTH;
-        if may_fit(table[at + NAME], table[at + NAME + 1], x, y) {
-            if let Match::Fits(i, j) = fits_row(&table[at..next], name) {
+    let rows = table.len() / WIDTH;
+    let mut entry = wide(links[wide(x)]);
+    while entry < rows {
+        let at = entry * WIDTH;
+        if may_fit(table[at + NAME + 1], x, y) {
+            let end = at + WIDTH;
+            if let Match::Fits(i, j) = fits_row(&table[at..end], name) {
                 return Found::Known {
                     entry,
                     kind: table[at],
@@ -191,8 +195,7 @@ pub fn lookup(table: &[u8], name: &[u8]) -> Found
                 };
             }
         }
-        at = next;
-        entry += 1;
+        entry = wide(links[HEADS + entry]);
     }
     Found::Unknown
 }
