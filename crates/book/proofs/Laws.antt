@@ -1,4 +1,5 @@
 -- Laws over plain lists and positions, with no code in them: a file for each thing that they speak of.
 pub mod Columns
 pub mod Whole
+pub mod Held
 pub mod Apart

@@ -1,11 +1,15 @@
-// The rule book: the paper's tables of the names that are known, with their kinds and the ids that they name, lent to the look-ups as one text of rows.
+// The rule book: the paper's tables of the names that are known, with their kinds and the ids that they name, lent to the look-ups as one text of rows and links.
 use names::Found;
+use names::links::link;
 use names::lookup;
 use text::bytes::begins_with;
 ghost use mathlib.Core.Path.{_≡_};
+ghost use Prim.Native.Nat.{_≤_};
+ghost use lib.ListN.{length, take};
+ghost use Rattle.names.specs.Names.{lookupIn};
 ghost use Rattle.book.specs.Keys.{keyOf, isColunit};
-ghost use Rattle.book.specs.Columns.{isOpt, columnOf};
-ghost use Rattle.book.specs.Rows.{bookBytes, columnPart, IsBook};
+ghost use Rattle.book.specs.Columns.{isOpt, columnEntries, columnOf};
+ghost use Rattle.book.specs.Rows.{MOLECULE as ROWS, MOLECULE-LINKS as ALL, bookBytes, IsBook};
 
 // Where the tables end: the keys, and the columns of the four sections.
 const KEYS: usize = 3294;
@@ -17,6 +21,17 @@ const PEPTIDE: usize = 5562;
 const PSM: usize = 6642;
 
 const MOLECULE: usize = 7938;
+
+// Where the links of the tables end: they stand after the rows, in the same order, 256 and one for each row.
+const KEY_LINKS: usize = 8255;
+
+const PROTEIN_LINKS: usize = 8533;
+
+const PEPTIDE_LINKS: usize = 8809;
+
+const PSM_LINKS: usize = 9085;
+
+const MOLECULE_LINKS: usize = 9365;
 
 // The bytes of the shortest columns.
 const SHORTEST: usize = 3;
@@ -43,27 +58,31 @@ pub fn key(book: &[u8], name: &[u8]) -> Found
     requires { ⌜ IsBook (now book) ⌝ }
     ensures { λ r. ⌜ r ≡ keyOf (now (name .entry)) ⌝ }
 {
-    lookup(&book[..KEYS], name)
+    lookup(&book[..KEYS], &book[MOLECULE..KEY_LINKS], name)
 }
 
-// The rows of a section's columns, none where there is no such section.
-fn columns(book: &[u8], section: usize) -> &[u8]
+// The name in the table of a section's columns, unknown where there is no such section.
+fn find_column(book: &[u8], section: usize, name: &[u8]) -> Found
     requires { ⌜ IsBook (now book) ⌝ }
-    ensures { λ r. ⌜ now r ≡ columnPart section (now (book .entry)) ⌝ }
+    ensures { λ r. ⌜ r ≡ lookupIn (columnEntries section) (now (name .entry)) ⌝ }
 {
     if section == 1 {
-        return &book[KEYS..PROTEIN];
+        return lookup(&book[KEYS..PROTEIN], &book[KEY_LINKS..PROTEIN_LINKS], name);
     }
     if section == 2 {
-        return &book[PROTEIN..PEPTIDE];
+        return lookup(
+            &book[PROTEIN..PEPTIDE],
+            &book[PROTEIN_LINKS..PEPTIDE_LINKS],
+            name,
+        );
     }
     if section == 3 {
-        return &book[PEPTIDE..PSM];
+        return lookup(&book[PEPTIDE..PSM], &book[PEPTIDE_LINKS..PSM_LINKS], name);
     }
     if section == 4 {
-        return &book[PSM..MOLECULE];
+        return lookup(&book[PSM..MOLECULE], &book[PSM_LINKS..MOLECULE_LINKS], name);
     }
-    &book[..0]
+    Found::Unknown
 }
 
 // A column of a section. A name that begins `opt_` and has a byte more is text in every section; no column has fewer than three bytes, so that many short names cost little.
@@ -86,15 +105,54 @@ pub fn column(book: &[u8], section: usize, name: &[u8]) -> Found
             j: 0,
         };
     }
-    lookup(columns(book, section), name)
+    find_column(book, section, name)
 }
 
-// The whole book: a caller holds it and lends it to the look-ups.
-pub fn book() -> [u8; 7938]
+// The rows at the front of the book.
+fn lay(book: &mut [u8], rows: &[u8])
+    requires { ⌜ length (now rows) ≤ length (now book) ⌝ }
+    ensures { λ _. ⌜ length (now (book .exit)) ≡ length (now (book .entry)) ⌝ }
+    ensures { λ _. ⌜ take (length (now (rows .entry))) (now (book .exit)) ≡ now (rows .entry) ⌝ }
+{
+    let mut i = 0;
+    while i < rows.len() {
+        book[i] = rows[i];
+        i += 1;
+    }
+}
+
+// The links of each table, after the rows.
+fn link_tables(book: &mut [u8], rows: &[u8])
+    requires { ⌜ now rows ≡ bookBytes ⌝ }
+    requires { ⌜ length (now book) ≡ ALL ⌝ }
+    requires { ⌜ take ROWS (now book) ≡ bookBytes ⌝ }
+    ensures { λ _. ⌜ take ROWS (now (book .exit)) ≡ bookBytes ⌝ }
+    ensures { λ _. ⌜ IsBook (now (book .exit)) ⌝ }
+{
+    link(book, MOLECULE, &rows[..KEYS]);
+    link(book, KEY_LINKS, &rows[KEYS..PROTEIN]);
+    link(book, PROTEIN_LINKS, &rows[PROTEIN..PEPTIDE]);
+    link(book, PEPTIDE_LINKS, &rows[PEPTIDE..PSM]);
+    link(book, PSM_LINKS, &rows[PSM..MOLECULE]);
+}
+
+// The rows of all tables.
+fn rows() -> [u8; 7938]
     ensures { λ r. ⌜ r ≡ bookBytes ⌝ }
-    ensures { λ r. ⌜ IsBook r ⌝ }
 {
     BOOK
+}
+
+// The whole book: the rows, and the links of each table. A caller holds it and lends it to the look-ups.
+pub fn book() -> [u8; 9365]
+    ensures { λ r. ⌜ take ROWS r ≡ bookBytes ⌝ }
+    ensures { λ r. ⌜ IsBook r ⌝ }
+{
+    let rows = rows();
+    let mut book = [0u8; MOLECULE_LINKS];
+    lay(&mut book, &rows);
+    link_tables(&mut book, &rows);
+    book
 }
 
 // The 61 metadata keys, then the columns of the sections: 22, 20, 20 and 24.

@@ -3,3 +3,5 @@ pub mod Turns
 pub mod Known
 pub mod Apart
 pub mod Lengths
+pub mod Lasts
+pub mod Linking

@@ -1,2 +1,3 @@
 pub mod Names
 pub mod Table
+pub mod Links

@@ -1,5 +1,5 @@
 -- The names that a line of a table stands for, and the look-up of a name in a table. Assumes nothing.
-use Prim.Native.Nat.{ℕ, zero, suc, _+_, _*_}
+use Prim.Native.Nat.{ℕ, zero, suc, _+_, _*_, _-_}
 use mathlib.Core.Bool.{Bool, true, false, cond, _&&_, _||_}
 use mathlib.Core.List.{List, [], _∷_, _++_}
 use lib.Dec.{eqb}
@@ -16,6 +16,10 @@ use Rattle.names.specs.declared.Found.the-variants.{Unknown, Known}
 -- `[`
 abbrev pub OPEN : ℕ
 OPEN = 91
+
+-- `]`
+abbrev pub CLOSE : ℕ
+CLOSE = 93
 
 -- a pattern is made of bytes that stand for themselves and places for an index
 pub data Piece : Type 0 where
@@ -92,9 +96,13 @@ firstOf e (x ∷ xs) name =
 abbrev pub lookupIn : List Entry → Bytes → Found
 lookupIn entries name = firstOf 0 entries name
 
--- whether a pattern that begins with the bytes p and q may fit a name that begins with x and y, as the code asks before it looks closer
-unfoldable pub mayFit : ℕ → ℕ → ℕ → ℕ → Bool
-mayFit p q x y = eqb p x && (eqb q y || (eqb q OPEN || (eqb q SPACE || (eqb p OPEN || eqb p SPACE))))
+-- whether a pattern whose second byte is q may fit a name that begins with x and y, as the code asks before it looks closer
+unfoldable pub mayFit : ℕ → ℕ → ℕ → Bool
+mayFit q x y = eqb q y || (eqb q OPEN || (eqb q SPACE || (eqb x OPEN || eqb x SPACE)))
+
+-- whether a pattern may end before q in a row where the name's last byte is z, as the code asks too: a space stands at q, and before it z, or a place where z is `]`
+unfoldable pub mayEnd : Bytes → ℕ → ℕ → Bool
+mayEnd row q z = eqb (getD row q 0) SPACE && (eqb (getD row (q - 1) 0) z || (eqb z CLOSE && eqb (getD row (q - 3) 0) OPEN))
 
 -- a number for each known name of a table
 abbrev pub slotOf : ℕ → ℕ → ℕ → ℕ

@@ -1,15 +1,20 @@
 // A name looked up in a table of rows.
+pub mod links;
+
+use crate::links::HEADS;
 use references::index::Index;
 use references::index::read_index;
+use references::index::wide;
 use text::bytes::SPACE;
 ghost use mathlib.Core.Path.{_≡_};
 ghost use mathlib.Core.List.{[]};
 ghost use mathlib.Core.Bool.{true};
-ghost use Prim.Native.Nat.{_≤_};
+ghost use Prim.Native.Nat.{_≤_, _<_};
 ghost use lib.ListN.{length, getD, drop};
 ghost use Rattle.text.specs.Bytes.{SPACE as space};
-ghost use Rattle.names.specs.Names.{pieces, fits as fitsIn, lookupIn, mayFit};
+ghost use Rattle.names.specs.Names.{pieces, fits as fitsIn, lookupIn, mayFit, mayEnd};
 ghost use Rattle.names.specs.Table.{entries};
+ghost use Rattle.names.specs.Links.{Linked};
 ghost use Rattle.names.specs.declared.Match.the-variants.{Differs};
 
 // The bytes of a row.
@@ -17,6 +22,9 @@ pub const WIDTH: usize = 54;
 
 // Where the name begins in a row: after the letters of its kind and family, and a space.
 const NAME: usize = 3;
+
+// The bytes of a place for an index, `[n]`.
+const PLACE: usize = 3;
 
 // Whether a name fits a pattern, with the indices that it has there, 0 for none.
 pub enum Match {
@@ -63,7 +71,7 @@ fn fits(p: &[u8], from: usize, s: &[u8]) -> Match
             let Index::Is(v, w) = read_index(&s[b..]) else {
                 return Match::Differs;
             };
-            a += 3;
+            a += PLACE;
             b += w;
             if i == 0 {
                 i = v;
@@ -93,13 +101,10 @@ fn byte_of(name: &[u8], i: usize) -> u8
     if i < name.len() { name[i] } else { SPACE }
 }
 
-// Whether a pattern that begins with the bytes p and q may fit a name that begins with x and y: an index may stand at either, or the pattern may end there.
-fn may_fit(p: u8, q: u8, x: u8, y: u8) -> bool
-    ensures { λ r. ⌜ r ≡ mayFit p q x y ⌝ }
+// Whether a pattern whose second byte is q may fit a name that begins with x and y: an index may stand at either, or the pattern may end there.
+fn may_fit(q: u8, x: u8, y: u8) -> bool
+    ensures { λ r. ⌜ r ≡ mayFit q x y ⌝ }
 {
-    if p != x {
-        return false;
-    }
     if q == y {
         return true;
     }
@@ -109,54 +114,78 @@ fn may_fit(p: u8, q: u8, x: u8, y: u8) -> bool
     if q == SPACE {
         return true;
     }
-    if p == b'[' {
+    if x == b'[' {
         return true;
     }
-    p == SPACE
+    x == SPACE
 }
 
-// Whether the row's pattern is too long for the name: no space stands where the name would end, nor in the two bytes before, and an index has at most a byte more than its `[n]`.
-fn too_long(row: &[u8], name: &[u8]) -> bool
+// Whether a pattern may end before `end` in the row where the name's last byte is `last`: a space stands there, and before it that byte, or a place for the index that `]` ends.
+fn may_end(row: &[u8], end: usize, last: u8) -> bool
+    requires { ⌜ 3 ≤ end ⌝ }
+    requires { ⌜ end < length (now row) ⌝ }
+    ensures { λ r. ⌜ r ≡ mayEnd (now (row .entry)) end last ⌝ }
+{
+    if row[end] != SPACE {
+        return false;
+    }
+    if row[end - 1] == last {
+        return true;
+    }
+    if last != b']' {
+        return false;
+    }
+    row[end - PLACE] == b'['
+}
+
+// Whether the row's pattern cannot fit the name by where it ends and by its last byte: its text is as long as the name, or shorter by a byte for each of two indices.
+fn cannot_fit(row: &[u8], name: &[u8]) -> bool
     requires { ⌜ 54 ≤ length (now row) ⌝ }
     ensures { λ r. ⌜ (r ≡ true → fitsIn (pieces (drop 3 (now (row .entry)))) (now (name .entry)) 0 0 ≡ Differs) ⌝ }
 {
     let n = name.len();
+    if n < 2 {
+        return false;
+    }
     if WIDTH - NAME <= n {
         return false;
     }
     let end = NAME + n;
-    if row[end] == SPACE {
+    let last = name[n - 1];
+    if may_end(row, end, last) {
         return false;
     }
-    if row[end - 1] == SPACE {
+    if may_end(row, end - 1, last) {
         return false;
     }
-    row[end - 2] != SPACE
+    !may_end(row, end - 2, last)
 }
 
-// How the name fits the row's pattern. One that is too long is not read, so that many rows that begin like the name cost little.
+// How the name fits the row's pattern. One that cannot fit is not read, so that many rows that begin like the name cost little.
 fn fits_row(row: &[u8], name: &[u8]) -> Match
     requires { ⌜ 54 ≤ length (now row) ⌝ }
     ensures { λ r. ⌜ r ≡ fitsIn (pieces (drop 3 (now (row .entry)))) (now (name .entry)) 0 0 ⌝ }
 {
-    if too_long(row, name) {
+    if cannot_fit(row, name) {
         return Match::Differs;
     }
     fits(row, NAME, name)
 }
 
-// What the table says of the name: the first row whose pattern it fits. Rows whose pattern begins with other bytes are passed over at once.
-pub fn lookup(table: &[u8], name: &[u8]) -> Found
+// What the table says of the name: the first row whose pattern it fits. The links lead past the rows that begin with another byte.
+pub fn lookup(table: &[u8], links: &[u8], name: &[u8]) -> Found
+    requires { ⌜ Linked 0 (entries (now table)) (now links) ⌝ }
     ensures { λ r. ⌜ r ≡ lookupIn (entries (now (table .entry))) (now (name .entry)) ⌝ }
 {
     let x = byte_of(name, 0);
     let y = byte_of(name, 1);
-    let mut at = 0;
-    let mut entry = 0;
-    while WIDTH <= table.len() - at {
-        let next = at + WIDTH;
-        if may_fit(table[at + NAME], table[at + NAME + 1], x, y) {
-            if let Match::Fits(i, j) = fits_row(&table[at..next], name) {
+    let rows = table.len() / WIDTH;
+    let mut entry = wide(links[wide(x)]);
+    while entry < rows {
+        let at = entry * WIDTH;
+        if may_fit(table[at + NAME + 1], x, y) {
+            let end = at + WIDTH;
+            if let Match::Fits(i, j) = fits_row(&table[at..end], name) {
                 return Found::Known {
                     entry,
                     kind: table[at],
@@ -166,8 +195,7 @@ pub fn lookup(table: &[u8], name: &[u8]) -> Found
                 };
             }
         }
-        at = next;
-        entry += 1;
+        entry = wide(links[HEADS + entry]);
     }
     Found::Unknown
 }

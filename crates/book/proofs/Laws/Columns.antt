@@ -7,10 +7,10 @@ use mathlib.Core.List.{List, [], map}
 use native.Mathlib.Omega.{arith}
 use lib.Dec.{eqb}
 use lib.ListN.{length}
-use borrow.Author.Tests.{lt-ltb, le-ltb}
+use borrow.Author.Tests.{lt-ltb, le-ltb, ne-eqb}
 use Rattle.text.specs.Bytes.{bytes, all}
 use Rattle.text.proofs.Laws.Begins.{begins-short}
-use Rattle.names.specs.Names.{Entry, piecesFrom, entryOf, lookupIn}
+use Rattle.names.specs.Names.{Entry, piecesFrom, entryOf, firstOf, lookupIn}
 use Rattle.book.specs.Columns.{proteinColumns, peptideColumns, psmColumns, moleculeColumns, columns, columnEntries, isOpt, optOf, columnOf}
 use Rattle.names.specs.declared.Found.the-variants.{Unknown, Known}
 use Rattle.names.proofs.Laws.Lengths.{textOf, isLong, first-short}
@@ -55,3 +55,8 @@ pub column-short : (section : ℕ) (name : List ℕ) → length name < 3 → col
 unfolding isOpt bytes
 column-short section name h =
     column-table section name (begins-short (bytes "opt_") name (omega arith)) ∙ first-short 0 (columnEntries section) name (columns-long section) h
+
+-- NO SECTION has no columns
+pub columns-none : (s : ℕ) (name : List ℕ) → (s ≡ 1 → ⊥) → (s ≡ 2 → ⊥) → (s ≡ 3 → ⊥) → (s ≡ 4 → ⊥) → lookupIn (columnEntries s) name ≡ Unknown
+unfolding columns columnEntries firstOf
+columns-none s name n1 n2 n3 n4 = rw (ne-eqb s 1 n1, ne-eqb s 2 n2, ne-eqb s 3 n3, ne-eqb s 4 n4)

@@ -2,20 +2,20 @@
 use Prim.Native.Nat.{ℕ, zero, suc, _*_, _-_, _/_, _≤_}
 use Prim.Native.String.{String}
 use mathlib.Core.Path.{_≡_, refl, ap, sym, _∙_}
-use mathlib.Core.Bool.{Bool, true, false, cond, _&&_}
+use mathlib.Core.Bool.{Bool, true, _&&_}
 use mathlib.Core.List.{List, [], _∷_, _++_, map, append-assoc, append-nil}
 use native.Mathlib.Omega.{arith}
-use lib.Dec.{eqb, leb}
+use lib.Dec.{leb}
 use lib.ListN.{length, take, length-append}
 use lib.Seq.{take-at, drop-at}
-use borrow.Author.Tests.{leb-true, eq-eqb, ne-eqb}
+use borrow.Author.Tests.{leb-true}
 use Rattle.text.specs.Bytes.{Bytes, bytes, all}
 use Rattle.text.specs.Places.{part}
 use Rattle.names.specs.Names.{Entry, entry, entryOf, piecesFrom}
 use Rattle.book.specs.Keys.{keys, keyEntries}
 use Rattle.book.specs.Columns.{proteinColumns, peptideColumns, psmColumns, moleculeColumns, columns, columnEntries}
 use Rattle.names.specs.Table.{WIDTH, cut, rows, entries}
-use Rattle.book.specs.Rows.{KEYS, PROTEIN, PEPTIDE, PSM, MOLECULE, columnPart, padded, laid, bookBytes, IsBook}
+use Rattle.book.specs.Rows.{KEYS, PROTEIN, PEPTIDE, PSM, MOLECULE, padded, laid, bookBytes}
 use Rattle.text.proofs.Laws.Tests.{and-both}
 
 -- SPACES after a line change nothing
@@ -79,24 +79,6 @@ laid-entries (l ∷ ls) h =
 -- EACH TABLE lies in its part
 part-at : (a b c : Bytes) (n m : ℕ) → length a ≡ n → length b ≡ m - n → part n m (a ++ (b ++ c)) ≡ b
 part-at a b c n m ha hb = ap (take (m - n)) (drop-at a (b ++ c) n ha) ∙ take-at b c (m - n) hb
-
-module _ (b : Bytes)
-    (p : entries (part KEYS PROTEIN b) ≡ map entryOf (map bytes proteinColumns))
-    (e : entries (part PROTEIN PEPTIDE b) ≡ map entryOf (map bytes peptideColumns))
-    (q : entries (part PEPTIDE PSM b) ≡ map entryOf (map bytes psmColumns))
-    (m : entries (part PSM MOLECULE b) ≡ map entryOf (map bytes moleculeColumns)) where
-  by-section : (s : ℕ) → entries (columnPart s b) ≡ columnEntries s
-  unfolding columnPart columns columnEntries rows cut
-  by-section s = go (eqb s 1) (eqb s 2) (eqb s 3) (eqb s 4)
-    where
-      go : (t u v w : Bool)
-          → entries (cond t (part KEYS PROTEIN b) (cond u (part PROTEIN PEPTIDE b) (cond v (part PEPTIDE PSM b) (cond w (part PSM MOLECULE b) []))))
-          ≡ map entryOf (map bytes (cond t proteinColumns (cond u peptideColumns (cond v psmColumns (cond w moleculeColumns [])))))
-      go true u v w = p
-      go false true v w = e
-      go false false true w = q
-      go false false false true = m
-      go false false false false = refl
 
 -- five tables laid one after the other, by their numbers of lines
 module _ (a b c d e : List String) where
@@ -165,45 +147,30 @@ columns-count : (length proteinColumns ≡ 22) × (length peptideColumns ≡ 20)
 unfolding proteinColumns peptideColumns psmColumns moleculeColumns
 columns-count = (refl, refl, refl, refl)
 
-pub book-whole : IsBook bookBytes
+-- each table, by the numbers of lines
+counted : {A : Type 0} → ((length keys ≡ 61) → (length proteinColumns ≡ 22) → (length peptideColumns ≡ 20) → (length psmColumns ≡ 20) → (length moleculeColumns ≡ 24) → A) → A
+counted f = f (keys-fit .1) (columns-count .0) (columns-count .1) (columns-count .2) (columns-count .3)
+
+pub rows-size : length bookBytes ≡ MOLECULE
+unfolding bookBytes whole
+rows-size = counted (all-bytes keys proteinColumns peptideColumns psmColumns moleculeColumns)
+
+pub rows-keys : entries (part 0 KEYS bookBytes) ≡ keyEntries
 unfolding bookBytes keyEntries whole
-book-whole =
-    let k = keys-fit .1 in
-    let p = columns-count .0 in
-    let e = columns-count .1 in
-    let q = columns-count .2 in
-    let m = columns-count .3 in
-    record {
-      size = all-bytes keys proteinColumns peptideColumns psmColumns moleculeColumns k p e q m;
-      keys = table (take KEYS bookBytes) keys (at-a keys proteinColumns peptideColumns psmColumns moleculeColumns k) (keys-fit .0);
-      columns = by-section bookBytes
-          (table (part KEYS PROTEIN bookBytes) proteinColumns (at-b keys proteinColumns peptideColumns psmColumns moleculeColumns k p) (columns-fit .0))
-          (table (part PROTEIN PEPTIDE bookBytes) peptideColumns (at-c keys proteinColumns peptideColumns psmColumns moleculeColumns k p e) (columns-fit .1))
-          (table (part PEPTIDE PSM bookBytes) psmColumns (at-d keys proteinColumns peptideColumns psmColumns moleculeColumns k p e q) (columns-fit .2))
-          (table (part PSM MOLECULE bookBytes) moleculeColumns (at-e keys proteinColumns peptideColumns psmColumns moleculeColumns k p e q m) (columns-fit .3));
-    }
+rows-keys = table (take KEYS bookBytes) keys (counted (λ k p e q m. at-a keys proteinColumns peptideColumns psmColumns moleculeColumns k)) (keys-fit .0)
 
--- THE PART of a section
-module _ (s : ℕ) (b : Bytes) where
-  pub part-protein : s ≡ 1 → columnPart s b ≡ part KEYS PROTEIN b
-  unfolding columnPart
-  part-protein e = rw (eq-eqb s 1 e)
+pub rows-protein : entries (part KEYS PROTEIN bookBytes) ≡ columnEntries 1
+unfolding bookBytes columns columnEntries whole
+rows-protein = table (part KEYS PROTEIN bookBytes) proteinColumns (counted (λ k p e q m. at-b keys proteinColumns peptideColumns psmColumns moleculeColumns k p)) (columns-fit .0)
 
-  module _ (n1 : s ≡ 1 → ⊥) where
-    pub part-peptide : s ≡ 2 → columnPart s b ≡ part PROTEIN PEPTIDE b
-    unfolding columnPart
-    part-peptide e = rw (ne-eqb s 1 n1, eq-eqb s 2 e)
+pub rows-peptide : entries (part PROTEIN PEPTIDE bookBytes) ≡ columnEntries 2
+unfolding bookBytes columns columnEntries whole
+rows-peptide = table (part PROTEIN PEPTIDE bookBytes) peptideColumns (counted (λ k p e q m. at-c keys proteinColumns peptideColumns psmColumns moleculeColumns k p e)) (columns-fit .1)
 
-    module _ (n2 : s ≡ 2 → ⊥) where
-      pub part-psm : s ≡ 3 → columnPart s b ≡ part PEPTIDE PSM b
-      unfolding columnPart
-      part-psm e = rw (ne-eqb s 1 n1, ne-eqb s 2 n2, eq-eqb s 3 e)
+pub rows-psm : entries (part PEPTIDE PSM bookBytes) ≡ columnEntries 3
+unfolding bookBytes columns columnEntries whole
+rows-psm = table (part PEPTIDE PSM bookBytes) psmColumns (counted (λ k p e q m. at-d keys proteinColumns peptideColumns psmColumns moleculeColumns k p e q)) (columns-fit .2)
 
-      module _ (n3 : s ≡ 3 → ⊥) where
-        pub part-molecule : s ≡ 4 → columnPart s b ≡ part PSM MOLECULE b
-        unfolding columnPart
-        part-molecule e = rw (ne-eqb s 1 n1, ne-eqb s 2 n2, ne-eqb s 3 n3, eq-eqb s 4 e)
-
-        pub part-none : (s ≡ 4 → ⊥) → columnPart s b ≡ []
-        unfolding columnPart
-        part-none n4 = rw (ne-eqb s 1 n1, ne-eqb s 2 n2, ne-eqb s 3 n3, ne-eqb s 4 n4)
+pub rows-molecule : entries (part PSM MOLECULE bookBytes) ≡ columnEntries 4
+unfolding bookBytes columns columnEntries whole
+rows-molecule = table (part PSM MOLECULE bookBytes) moleculeColumns (counted (at-e keys proteinColumns peptideColumns psmColumns moleculeColumns)) (columns-fit .3)

@@ -1,20 +1,28 @@
--- `book::book`: the rows of the code are the lines of the paper's tables, computed. Assumes nothing.
-use mathlib.Core.Path.{_≡_, refl, subst⁻¹}
-use Rattle.text.specs.Bytes.{Bytes, bytes}
-use Rattle.book.specs.Keys.{keys}
-use Rattle.book.specs.Columns.{proteinColumns, peptideColumns, psmColumns, moleculeColumns}
-use Rattle.book.specs.Rows.{padded, laid, bookBytes, IsBook}
-use Rattle.book.proofs.Laws.Whole.{book-whole}
+-- `book::book`: the rows and the links of the code are the book. Assumes nothing.
+use borrow.Author.Needs.{needs}
+use mathlib.Core.Path.{_∙_}
+use Prim.Native.Nat.{ℕ}
+use lib.ListN.{length-replicate}
+use Rattle.book.specs.Rows.{MOLECULE-LINKS}
+use Rattle.book.proofs.Laws.Held.{rows-laid}
 use Rattle.book.proofs.book.Statement.{statement}
 use Rattle.book.proofs.book.Tie as tie
 
--- bytes that are the tables laid out hold them
-both : (b : Bytes) → b ≡ bookBytes → (b ≡ bookBytes) × IsBook b
-both b e = (e, subst⁻¹ IsBook e book-whole)
-
-returns : tie.Need-returns
-unfolding bytes keys proteinColumns peptideColumns psmColumns moleculeColumns padded laid bookBytes
-returns c = both _ refl
+link-tables-requires : tie.Need-link-tables-requires
+link-tables-requires c κs =
+    let l = c .before .before .before in
+    let r = l .before .before .before .rows in
+    (r .ensures, (l .lay .ensures .0 ∙ length-replicate {A = ℕ} MOLECULE-LINKS 0, rows-laid (r .result) (l .lay .last .0) (r .ensures) (l .lay .ensures .1)))
 
 pub book-spec : {M : Type 1} → statement M
-book-spec = tie.close (tie.spec returns)
+book-spec =
+    tie.close
+    (tie.spec
+    (λ c κs. search needs)
+    (λ c. search needs)
+    (λ c. search needs)
+    (λ c κs. search needs)
+    (λ c. search needs)
+    (λ c. search needs)
+    link-tables-requires
+    (λ c. search needs))

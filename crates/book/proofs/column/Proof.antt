@@ -1,10 +1,6 @@
--- `book::column`: a short name, an `opt_` name, or the section's part of the book. Assumes nothing.
+-- `book::column`: a short name, an `opt_` name, or the section's table of the book. Assumes nothing.
 use borrow.Author.Needs.{needs}
-use mathlib.Core.Path.{sym, _∙_, ap}
-use mathlib.Core.List.{List}
-use Prim.Native.Nat.{ℕ}
-use Rattle.names.specs.Names.{Entry, lookupIn}
-use Rattle.names.specs.Table.{entries}
+use mathlib.Core.Path.{sym, _∙_}
 use Rattle.book.proofs.Laws.Columns.{column-table, column-bare, column-opt, column-short}
 use Rattle.book.proofs.column.Statement.{statement}
 use Rattle.book.proofs.column.Tie as tie
@@ -26,13 +22,10 @@ returns-3 c =
 
 returns-4 : tie.Need-returns-4
 returns-4 c =
-    let k = c .before in
-    let o = k .before .before in
-    let st = o .before .before .before .before in
-    let a = st .args in
-    c .lookup .ensures ∙ ap (λ (t : List ℕ). lookupIn (entries t) (a .name .now)) (k .columns .ensures)
-    ∙ ap (λ (es : List Entry). lookupIn es (a .name .now)) (st .pre .columns (a .section))
-    ∙ sym (column-table (a .section) (a .name .now) (sym (o .is-opt .ensures) ∙ k .before .if2 .left))
+    let e = c .before in
+    let o = e .before in
+    let a = o .before .before .before .before .args in
+    c .find-column .ensures ∙ sym (column-table (a .section) (a .name .now) (sym (o .is-opt .ensures) ∙ e .if2 .left))
 
 pub column-spec : {M : Type 1} → statement M
 column-spec =
@@ -42,6 +35,5 @@ column-spec =
     (λ c κs. search needs)
     returns-2
     returns-3
-    (λ c κs. search needs)
     (λ c κs. search needs)
     returns-4)

@@ -1,20 +1,19 @@
 -- How long a name is that fits a pattern: as long as its text, or a byte longer for each of two indices. Assumes nothing.
-use Prim.Native.Nat.{ℕ, zero, suc, _+_, _-_, _≤_, _<_}
-use mathlib.Core.Path.{_≡_, refl, ap, sym, _∙_}
+use Prim.Native.Nat.{ℕ, zero, suc, _+_, _≤_, _<_}
+use mathlib.Core.Path.{_≡_, refl, ap, _∙_}
 use mathlib.Core.Bool.{Bool, true, false, cond}
 use mathlib.Core.List.{List, [], _∷_}
 use native.Mathlib.Omega.{arith}
 use lib.Dec.{eqb, leb, ltb}
-use lib.ListN.{length, getD, drop, length-drop}
-use lib.Seq.{getD-drop}
-use borrow.Author.Tests.{eqb-true, eqb-false, leb-true, ltb-true, ltb-false}
+use lib.ListN.{length, drop, length-drop}
+use borrow.Author.Tests.{eqb-true, leb-true, ltb-true, ltb-false}
 use Rattle.text.specs.Bytes.{all}
 use Rattle.text.proofs.Laws.Tests.{and-both}
 use Rattle.references.specs.Index.{indexAt}
 use Rattle.references.specs.declared.index.Index.{Index}
 use Rattle.references.specs.declared.index.Index.the-variants.{Not, Is}
 use Rattle.references.proofs.Laws.Indices.{Read, index-read, written-one, written-two}
-use Rattle.names.specs.Names.{Piece, byte, place, pieces, piecesFrom, Entry, formOf, onIndex, fits, firstOf}
+use Rattle.names.specs.Names.{Piece, byte, place, Entry, formOf, onIndex, fits, firstOf}
 use Rattle.names.specs.declared.Match.{Match}
 use Rattle.names.specs.declared.Match.the-variants.{Differs, Fits}
 use Rattle.names.specs.declared.Found.the-variants.{Unknown}
@@ -25,33 +24,15 @@ textOf [] = 0
 textOf (byte p ∷ ps) = suc (textOf ps)
 textOf (place ∷ ps) = suc (2 + textOf ps)
 
--- one byte further
-later : (x : ℕ) (t : List ℕ) (n m : ℕ) → n ≡ suc m → getD t m 32 ≡ 32 → getD (x ∷ t) n 32 ≡ 32
-later x t n m e h = rw e h
-
--- a space stands where the text ends, or the row ends before
-text-ends : (t : List ℕ) (k : ℕ) → getD t (k + textOf (piecesFrom k t)) 32 ≡ 32
-unfolding textOf piecesFrom
-text-ends [] zero = refl
-text-ends [] (suc k) = refl
-text-ends (x ∷ t) zero = go (eqb x 32) (eqb x 91) refl (text-ends t 2) (text-ends t 0)
-  where
-    go : (s o : Bool) → eqb x 32 ≡ s → getD t (2 + textOf (piecesFrom 2 t)) 32 ≡ 32 → getD t (0 + textOf (piecesFrom 0 t)) 32 ≡ 32
-        → getD (x ∷ t) (0 + textOf (cond s [] (cond o (place ∷ piecesFrom 2 t) (byte x ∷ piecesFrom 0 t)))) 32 ≡ 32
-    go true o e h k = eqb-true x 32 e
-    go false true e h k = later x t (0 + suc (2 + textOf (piecesFrom 2 t))) (2 + textOf (piecesFrom 2 t)) (omega arith) h
-    go false false e h k = later x t (0 + suc (textOf (piecesFrom 0 t))) (0 + textOf (piecesFrom 0 t)) (omega arith) k
-text-ends (x ∷ t) (suc k) = later x t (suc k + textOf (piecesFrom k t)) (k + textOf (piecesFrom k t)) (omega arith) (text-ends t k)
-
 -- how many bytes longer an index may still make the name: one where it is not yet read
-room : ℕ → ℕ
+unfoldable pub room : ℕ → ℕ
 room zero = 1
 room (suc n) = 0
 
 -- n is m, or more by at most r
-record Near (n m r : ℕ) : Type 0 where
-  low : m ≤ n
-  high : n ≤ m + r
+pub record Near (n m r : ℕ) : Type 0 where
+  pub low : m ≤ n
+  pub high : n ≤ m + r
 
 differs : {A : Type 0} {a b : ℕ} → Differs ≡ Fits a b → A
 differs h = absurd (let z : _≡_ {A = ℕ} 0 1 = cc in omega arith)
@@ -82,7 +63,7 @@ swap : {n m : ℕ} (a b : ℕ) → Near n m (a + b) → Near n m (b + a)
 swap a b n = record { low = n .low; high = omega (arith, n .high) }
 
 -- a name that fits is as long as the text, or longer by the room that its indices leave
-fits-near : (ps : List Piece) (s : List ℕ) (i j a b : ℕ) → fits ps s i j ≡ Fits a b → Near (length s) (textOf ps) (room i + room j)
+pub fits-near : (ps : List Piece) (s : List ℕ) (i j a b : ℕ) → fits ps s i j ≡ Fits a b → Near (length s) (textOf ps) (room i + room j)
 unfolding fits textOf room
 fits-near [] [] i j a b h = record { low = omega arith; high = omega arith }
 fits-near [] (x ∷ s) i j a b h = differs h
@@ -122,40 +103,3 @@ first-short e [] name h l = refl
 first-short e (x ∷ xs) name h l =
     let q = and-both (isLong x) (all isLong xs) h in
     rw (short-text (formOf x) name (omega (arith, leb-true 3 (textOf (formOf x)) (q .0)))) (first-short (e + 1) xs name (q .1) l)
-
--- A ROW that has no space where the text could end for the name
-within : (l : List ℕ) (i : ℕ) → i < length l → getD l i 0 ≡ getD l i 32
-within [] i h = absurd (omega arith)
-within (x ∷ l) zero h = refl
-within (x ∷ l) (suc i) h = within l i (omega arith)
-
-module _ (row name : List ℕ) (e : ℕ) (ends : e ≡ 3 + length name) (inside : e < length row)
-    (n0 : getD row e 0 ≡ 32 → ⊥) (n1 : getD row (e - 1) 0 ≡ 32 → ⊥) (n2 : getD row (e - 2) 0 ≡ 32 → ⊥) where
-  no-end : (q : ℕ) → q ≤ e → e ≤ q + 2 → getD row q 0 ≡ 32 → ⊥
-  no-end q h k s = go (eqb q e) (eqb q (e - 1)) refl refl
-    where
-      at : (r : ℕ) → q ≡ r → getD row r 0 ≡ 32
-      at r z = ap (λ (i : ℕ). getD row i 0) (sym z) ∙ s
-
-      go : (t u : Bool) → eqb q e ≡ t → eqb q (e - 1) ≡ u → ⊥
-      go true u et eu = n0 (at e (eqb-true q e et))
-      go false true et eu = n1 (at (e - 1) (eqb-true q (e - 1) eu))
-      go false false et eu = n2 (at (e - 2) (last (eqb-false q e et) (eqb-false q (e - 1) eu)))
-        where
-          last : (q ≡ e → ⊥) → (q ≡ e - 1 → ⊥) → q ≡ e - 2
-          last a b = omega arith
-
-  pub long-text : fits (pieces (drop 3 row)) name 0 0 ≡ Differs
-  unfolding room
-  long-text = go (fits (pieces (drop 3 row)) name 0 0) refl
-    where
-      m : ℕ
-      m = textOf (pieces (drop 3 row))
-
-      go : (x : Match) → fits (pieces (drop 3 row)) name 0 0 ≡ x → x ≡ Differs
-      go Differs f = refl
-      go (Fits a b) f =
-          let n = fits-near (pieces (drop 3 row)) name 0 0 a b f in
-          let z : m ≡ 0 + m = omega arith in
-          absurd (no-end (3 + m) (omega (arith, n .low)) (omega (arith, n .high))
-          (within row (3 + m) (omega (arith, n .low)) ∙ sym (getD-drop 3 row m 32) ∙ ap (λ (i : ℕ). getD (drop 3 row) i 32) z ∙ text-ends (drop 3 row) 0))

@@ -5,7 +5,7 @@ use Rattle.names.proofs.fits_row.Statement.{statement}
 use Rattle.names.proofs.fits_row.Tie as tie
 
 returns : tie.Need-returns
-returns c = sym (c .before .too-long .ensures (c .if1 .taken))
+returns c = sym (c .before .cannot-fit .ensures (c .if1 .taken))
 
 pub fits-row-spec : {M : Type 1} → statement M
 fits-row-spec =

@@ -6,37 +6,31 @@ use Rattle.names.proofs.may_fit.Tie as tie
 
 returns : tie.Need-returns
 unfolding mayFit
-returns c = rw (ne-eqb (c .before .args .p) (c .before .args .x) (c .if1 .taken))
+returns c = rw (eq-eqb (c .before .args .q) (c .before .args .y) (c .if1 .taken))
 
 returns-2 : tie.Need-returns-2
 unfolding mayFit
 returns-2 c =
     let a = c .before .before .args in
-    rw (eq-eqb (a .p) (a .x) (c .before .if1 .left), eq-eqb (a .q) (a .y) (c .if2 .taken))
+    rw (ne-eqb (a .q) (a .y) (c .before .if1 .left), eq-eqb (a .q) 91 (c .if2 .taken))
 
 returns-3 : tie.Need-returns-3
 unfolding mayFit
 returns-3 c =
     let a = c .before .before .before .args in
-    rw (eq-eqb (a .p) (a .x) (c .before .before .if1 .left), ne-eqb (a .q) (a .y) (c .before .if2 .left), eq-eqb (a .q) 91 (c .if3 .taken))
+    rw (ne-eqb (a .q) (a .y) (c .before .before .if1 .left), ne-eqb (a .q) 91 (c .before .if2 .left), eq-eqb (a .q) 32 (c .if3 .taken))
 
 returns-4 : tie.Need-returns-4
 unfolding mayFit
 returns-4 c =
     let a = c .before .before .before .before .args in
-    rw (eq-eqb (a .p) (a .x) (c .before .before .before .if1 .left), ne-eqb (a .q) (a .y) (c .before .before .if2 .left), ne-eqb (a .q) 91 (c .before .if3 .left), eq-eqb (a .q) 32 (c .if4 .taken))
+    rw (ne-eqb (a .q) (a .y) (c .before .before .before .if1 .left), ne-eqb (a .q) 91 (c .before .before .if2 .left), ne-eqb (a .q) 32 (c .before .if3 .left), eq-eqb (a .x) 91 (c .if4 .taken))
 
 returns-5 : tie.Need-returns-5
 unfolding mayFit
 returns-5 c =
-    let a = c .before .before .before .before .before .args in
-    rw (eq-eqb (a .p) (a .x) (c .before .before .before .before .if1 .left), ne-eqb (a .q) (a .y) (c .before .before .before .if2 .left), ne-eqb (a .q) 91 (c .before .before .if3 .left), ne-eqb (a .q) 32 (c .before .if4 .left), eq-eqb (a .p) 91 (c .if5 .taken))
-
-returns-6 : tie.Need-returns-6
-unfolding mayFit
-returns-6 c =
-    let a = c .before .before .before .before .before .args in
-    rw (eq-eqb (a .p) (a .x) (c .before .before .before .before .if1 .left), ne-eqb (a .q) (a .y) (c .before .before .before .if2 .left), ne-eqb (a .q) 91 (c .before .before .if3 .left), ne-eqb (a .q) 32 (c .before .if4 .left), ne-eqb (a .p) 91 (c .if5 .left))
+    let a = c .before .before .before .before .args in
+    rw (ne-eqb (a .q) (a .y) (c .before .before .before .if1 .left), ne-eqb (a .q) 91 (c .before .before .if2 .left), ne-eqb (a .q) 32 (c .before .if3 .left), ne-eqb (a .x) 91 (c .if4 .left))
 
 pub may-fit-spec : {M : Type 1} → statement M
-may-fit-spec = tie.close (tie.spec returns returns-2 returns-3 returns-4 returns-5 returns-6)
+may-fit-spec = tie.close (tie.spec returns returns-2 returns-3 returns-4 returns-5)

@@ -1,0 +1,15 @@
+-- `book::rows`: the rows of the code are the lines of the paper's tables, computed. Assumes nothing.
+use mathlib.Core.Path.{refl}
+use Rattle.text.specs.Bytes.{bytes}
+use Rattle.book.specs.Keys.{keys}
+use Rattle.book.specs.Columns.{proteinColumns, peptideColumns, psmColumns, moleculeColumns}
+use Rattle.book.specs.Rows.{padded, laid, bookBytes}
+use Rattle.book.proofs.rows.Statement.{statement}
+use Rattle.book.proofs.rows.Tie as tie
+
+returns : tie.Need-returns
+unfolding bytes keys proteinColumns peptideColumns psmColumns moleculeColumns padded laid bookBytes
+returns c = refl
+
+pub rows-spec : {M : Type 1} → statement M
+rows-spec = tie.close (tie.spec returns)
