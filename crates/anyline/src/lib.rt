@@ -1,10 +1,10 @@
 // Judging one line by its sort, from the state that stands for the lines above.
-use breaks::places::put_if;
-use breaks::sorts::Sort;
-use breaks::sorts::sort_of;
-use breaks::state::State;
-use breaks::state::after_header;
-use breaks::state::after_row;
+use scan::places::put_if;
+use rules::sorts::Sort;
+use rules::sorts::sort_of;
+use scan::state::State;
+use scan::state::after_header;
+use scan::state::after_row;
 use headline::judge_head;
 use metaline::judge_meta;
 use rowline::judge_row;
@@ -13,13 +13,13 @@ ghost use mathlib.Core.Path.{_≡_};
 ghost use Prim.Native.Nat.{_≤_};
 ghost use lib.ListN.{length};
 ghost use Rattle.text.specs.Lines.{LIMIT};
-ghost use Rattle.breaks.specs.Sorts.{controlCell};
-ghost use Rattle.breaks.specs.Places.{lent, Puts};
+ghost use Rattle.rules.specs.Sorts.{controlCell};
+ghost use Rattle.scan.specs.Places.{lent, Puts};
 ghost use Rattle.book.specs.Rows.{IsBook};
 ghost use Rattle.ids.specs.Ids.{Flags};
 ghost use Rattle.stamps.specs.Stamps.{ROOM};
-ghost use Rattle.breaks.specs.Machine.{SLOTS, idsOf, unknownBreaks};
-ghost use Rattle.breaks.specs.Carried.{lineBreaks, Follows};
+ghost use Rattle.scan.specs.Machine.{SLOTS, idsOf, unknownBreaks};
+ghost use Rattle.scan.specs.Carried.{lineBreaks, Follows};
 
 // The number of the first cell with a control byte, 0 where there is none.
 fn control_of(line: &[u8]) -> u32

@@ -1,10 +1,10 @@
 // Rule 21: required metadata, read off the slots of the keys that the file has.
-use breaks::places::put_if;
+use scan::places::put_if;
 ghost use mathlib.Core.Path.{_≡_};
 ghost use Prim.Native.Nat.{_≤_};
 ghost use lib.ListN.{length};
-ghost use Rattle.breaks.specs.Places.{lent, Puts};
-ghost use Rattle.breaks.specs.Machine.{SLOTS, hasRun, endBreaks, firstEnds};
+ghost use Rattle.scan.specs.Places.{lent, Puts};
+ghost use Rattle.scan.specs.Machine.{SLOTS, hasRun, endBreaks, firstEnds};
 
 // The slots of mzTab-version, mzTab-mode, mzTab-type, description: 4,225 for each key of the table.
 const VERSION: usize = 0;

@@ -8,8 +8,8 @@ use lib.Dec.{ltb}
 use Rattle.numbers.specs.Numbers.{TOO-LONG}
 use Rattle.text.specs.Bytes.{Bytes}
 use Rattle.text.specs.Lines.{LIMIT}
-use Rattle.breaks.specs.Breaks.{Break}
-use Rattle.breaks.specs.Rules.{breaks}
+use Rattle.rules.specs.Breaks.{Break}
+use Rattle.rules.specs.Rules.{breaks}
 use Rattle.faults.specs.declared.Fault.{Fault}
 
 -- the record of a break

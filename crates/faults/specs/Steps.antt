@@ -10,9 +10,9 @@ use Rattle.numbers.specs.Numbers.{TOO-LONG}
 use Rattle.text.specs.Bytes.{Bytes}
 use Rattle.text.specs.Lines.{LIMIT}
 use Rattle.ids.specs.Ids.{Declared}
-use Rattle.breaks.specs.Breaks.{Break}
-use Rattle.breaks.specs.Rules.{breaks}
-use Rattle.breaks.specs.Machine.{SLOTS}
+use Rattle.rules.specs.Breaks.{Break}
+use Rattle.rules.specs.Rules.{breaks}
+use Rattle.scan.specs.Machine.{SLOTS}
 use Rattle.judging.specs.Parts.{total, Midway}
 use Rattle.faults.specs.declared.Fault.{Fault}
 use Rattle.faults.specs.declared.steps.Progress.{Progress}

@@ -10,7 +10,7 @@ ghost use mathlib.Core.Path.{_≡_};
 ghost use mathlib.Core.Bool.{true, false};
 ghost use Prim.Native.Nat.{min};
 ghost use lib.ListN.{length, replicate};
-ghost use Rattle.breaks.specs.Machine.{SLOTS};
+ghost use Rattle.scan.specs.Machine.{SLOTS};
 ghost use Rattle.faults.specs.Steps.{ROOM, Good, Moves};
 
 // The breaks that a part holds before its last line: with that line's and those at the end they are at most 4,096.

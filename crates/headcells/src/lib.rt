@@ -1,9 +1,9 @@
 // The column names of a header, each judged by what the book says of it.
 use book::column;
 use book::is_opt;
-use breaks::places::both;
-use breaks::places::either;
-use breaks::places::put_if;
+use scan::places::both;
+use scan::places::either;
+use scan::places::put_if;
 use kinds::family_number;
 use names::Found;
 use stamps::came_before;
@@ -15,9 +15,9 @@ ghost use Rattle.text.specs.Lines.{LIMIT, cells};
 ghost use Rattle.book.specs.Rows.{IsBook};
 ghost use Rattle.names.specs.Names.{isKnown};
 ghost use Rattle.book.specs.Columns.{columnOf};
-ghost use Rattle.breaks.specs.Places.{lent, Puts};
-ghost use Rattle.breaks.specs.Rules.{lastIndex, kindIn};
-ghost use Rattle.breaks.specs.Machine.{idsOf, columnIn, eachCell, nameCell, headCell, KindsOf, Within, knownBreaks};
+ghost use Rattle.scan.specs.Places.{lent, Puts};
+ghost use Rattle.rules.specs.Rules.{lastIndex, kindIn};
+ghost use Rattle.scan.specs.Machine.{idsOf, columnIn, eachCell, nameCell, headCell, KindsOf, Within, knownBreaks};
 ghost use Rattle.stamps.specs.Stamps.{ROOM as room};
 
 // The letter of a column that names no id.

@@ -5,7 +5,7 @@ use mathlib.Core.List.{List}
 use lib.ListN.{length, drop}
 use Rattle.text.specs.Bytes.{Bytes}
 use Rattle.text.specs.Lines.{cells}
-use Rattle.breaks.specs.Machine.{KindsOf}
+use Rattle.scan.specs.Machine.{KindsOf}
 use Rattle.stamps.specs.Stamps.{ROOM}
 
 -- the names' kinds are kept, and the lists have their lengths

@@ -1,5 +1,5 @@
 // Judging a header: rules 1 and 9 to 16, put into the lent places.
-use breaks::places::put_if;
+use scan::places::put_if;
 use headcells::head_cells;
 use headnames::lacks;
 use text::cells::cell_end;
@@ -9,8 +9,8 @@ ghost use Prim.Native.Nat.{_≤_, _<_};
 ghost use lib.ListN.{length, drop};
 ghost use Rattle.text.specs.Lines.{LIMIT, cells};
 ghost use Rattle.book.specs.Rows.{IsBook};
-ghost use Rattle.breaks.specs.Places.{lent, Puts};
-ghost use Rattle.breaks.specs.Machine.{idsOf, headBreaks, headFirst, nameBreaks};
+ghost use Rattle.scan.specs.Places.{lent, Puts};
+ghost use Rattle.scan.specs.Machine.{idsOf, headBreaks, headFirst, nameBreaks};
 ghost use Rattle.stamps.specs.Stamps.{ROOM as room};
 ghost use Rattle.headline.specs.Heads.{Kept, Keeps};
 

@@ -7,7 +7,7 @@ ghost use Prim.Native.Nat.{_≤_, _<_};
 ghost use lib.ListN.{length, take, drop};
 ghost use Rattle.text.specs.Bytes.{any, all, same};
 ghost use Rattle.text.specs.Lines.{cells};
-ghost use Rattle.breaks.specs.Rules.{lacksColumn};
+ghost use Rattle.rules.specs.Rules.{lacksColumn};
 ghost use Rattle.headnames.specs.Wanted.{isIn};
 
 // A header of 256 cells has so many names.

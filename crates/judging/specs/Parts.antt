@@ -6,9 +6,9 @@ use mathlib.Core.List.{List, _++_}
 use lib.ListN.{length, take, drop}
 use Rattle.text.specs.Bytes.{Bytes}
 use Rattle.text.specs.Lines.{lines}
-use Rattle.breaks.specs.Places.{lent, putAll}
-use Rattle.breaks.specs.Rules.{breaks}
-use Rattle.breaks.specs.Carried.{initial, Scan, from, last}
+use Rattle.scan.specs.Places.{lent, putAll}
+use Rattle.rules.specs.Rules.{breaks}
+use Rattle.scan.specs.Carried.{initial, Scan, from, last}
 use Rattle.judging.specs.declared.parts.Stand.{Stand}
 
 -- how many breaks were put up to here

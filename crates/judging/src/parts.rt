@@ -1,7 +1,7 @@
 // Judging a file in parts, each of as many breaks as a lent list has room for, or in one.
 use anyline::judge_line;
-use breaks::state::State;
-use breaks::state::start;
+use scan::state::State;
+use scan::state::start;
 use ending::judge_end;
 use text::lines::line_at;
 ghost use mathlib.Core.Path.{_≡_};
@@ -11,7 +11,7 @@ ghost use lib.ListN.{length};
 ghost use Rattle.text.specs.Lines.{LIMIT};
 ghost use Rattle.book.specs.Rows.{IsBook};
 ghost use Rattle.ids.specs.Ids.{Declared};
-ghost use Rattle.breaks.specs.Machine.{SLOTS};
+ghost use Rattle.scan.specs.Machine.{SLOTS};
 ghost use Rattle.stamps.specs.Stamps.{ROOM};
 ghost use Rattle.judging.specs.Parts.{beginning as first, Midway, Parts};
 

@@ -8,8 +8,8 @@ use Rattle.text.specs.Bytes.{Bytes}
 use Rattle.names.specs.Names.{slotOf, isKnown}
 use Rattle.names.specs.declared.Found.{Found}
 use Rattle.names.specs.declared.Found.the-variants.{Unknown, Known}
-use Rattle.breaks.specs.Rules.{isWrong}
-use Rattle.breaks.specs.Machine.{Ids, againIn, undeclaredIn, SLOTS}
+use Rattle.rules.specs.Rules.{isWrong}
+use Rattle.scan.specs.Machine.{Ids, againIn, undeclaredIn, SLOTS}
 use Rattle.metakeys.specs.declared.Judgement.{Judgement}
 
 -- of a key and its value: rules 5 to 8

@@ -1,6 +1,6 @@
 // A metadata key, as the book finds it: what it and its value break, and its slot among the keys that came before.
 use book::is_colunit;
-use breaks::places::both;
+use scan::places::both;
 use metavalues::judge_value;
 use names::Found;
 ghost use mathlib.Core.Path.{_≡_};
@@ -8,7 +8,7 @@ ghost use Prim.Native.Nat.{_<_};
 ghost use lib.ListN.{length};
 ghost use Rattle.ids.specs.Ids.{Flags};
 ghost use Rattle.names.specs.Names.{slotOf};
-ghost use Rattle.breaks.specs.Machine.{idsOf, SLOTS};
+ghost use Rattle.scan.specs.Machine.{idsOf, SLOTS};
 ghost use Rattle.metakeys.specs.Keys.{Judged, InSlots, marked};
 
 // How many slots each entry of the book has, and each first index: one for each second index, 0 to 64.

@@ -5,7 +5,7 @@ use mathlib.Core.Bool.{Bool, false, _||_}
 use mathlib.Core.List.{List}
 use lib.ListN.{length, getD}
 use Rattle.text.specs.Bytes.{Bytes}
-use Rattle.breaks.specs.Machine.{SLOTS, hasSlot}
+use Rattle.scan.specs.Machine.{SLOTS, hasSlot}
 
 -- the slots after a line say which keys came before, the line's own too
 pub record Keeps (l : Bytes) (slots slots' : List Bool) : Type 0 where

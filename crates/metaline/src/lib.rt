@@ -1,6 +1,6 @@
 // Judging a metadata line: rules 1 and 3 to 8, put into the lent places.
 use book::key;
-use breaks::places::put_if;
+use scan::places::put_if;
 use metakeys::judge_key;
 use metakeys::mark;
 use text::cells::cell_end;
@@ -14,11 +14,11 @@ ghost use Rattle.text.specs.Lines.{cells};
 ghost use Rattle.book.specs.Keys.{keyOf};
 ghost use Rattle.ids.specs.Ids.{Flags};
 ghost use Rattle.book.specs.Rows.{IsBook};
-ghost use Rattle.breaks.specs.Sorts.{sortOf};
-ghost use Rattle.breaks.specs.Breaks.{breakAt, when};
-ghost use Rattle.breaks.specs.Places.{lent, Puts};
-ghost use Rattle.breaks.specs.Machine.{controlAt, eachCell, metaCell, metaBreaks, idsOf, SLOTS};
-ghost use Rattle.breaks.specs.declared.sorts.Sort.the-variants.{Meta};
+ghost use Rattle.rules.specs.Sorts.{sortOf};
+ghost use Rattle.rules.specs.Breaks.{breakAt, when};
+ghost use Rattle.scan.specs.Places.{lent, Puts};
+ghost use Rattle.scan.specs.Machine.{controlAt, eachCell, metaCell, metaBreaks, idsOf, SLOTS};
+ghost use Rattle.rules.specs.declared.sorts.Sort.the-variants.{Meta};
 ghost use Rattle.metakeys.specs.Keys.{marked};
 ghost use Rattle.metaline.specs.Metas.{Keeps};
 

@@ -4,8 +4,8 @@ use mathlib.Core.Path.{_≡_}
 use mathlib.Core.Bool.{not, _&&_}
 use Rattle.text.specs.Bytes.{Bytes, any}
 use Rattle.kinds.specs.Kinds.{ofKind, familyNumber}
-use Rattle.breaks.specs.Rules.{namedIn}
-use Rattle.breaks.specs.Machine.{Ids}
+use Rattle.rules.specs.Rules.{namedIn}
+use Rattle.scan.specs.Machine.{Ids}
 use Rattle.metavalues.specs.declared.Value.{Value}
 
 -- whether it is of its kind, and whether it then names an undeclared id

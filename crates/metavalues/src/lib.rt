@@ -1,5 +1,5 @@
 // A metadata value, by the letters of its key: whether it is of its kind, and whether it names an undeclared id.
-use breaks::places::both;
+use scan::places::both;
 use kinds::family_number;
 use kinds::of_kind;
 use kinds::reference_to;
@@ -9,7 +9,7 @@ ghost use mathlib.Core.Path.{_≡_};
 ghost use Prim.Native.Nat.{_≤_};
 ghost use Rattle.book.specs.Book.{REFERENCE as reference, REFERENCES as references};
 ghost use Rattle.ids.specs.Ids.{Flags};
-ghost use Rattle.breaks.specs.Machine.{idsOf};
+ghost use Rattle.scan.specs.Machine.{idsOf};
 ghost use Rattle.metavalues.specs.Values.{Valued};
 
 // How many families of ids there are.

@@ -7,8 +7,8 @@ use lib.Dec.{ltb}
 use Rattle.numbers.specs.Numbers.{TOO-LONG}
 use Rattle.text.specs.Bytes.{Bytes}
 use Rattle.text.specs.Lines.{LIMIT}
-use Rattle.breaks.specs.Places.{Lent, lent, putAll}
-use Rattle.breaks.specs.Rules.{breaks}
+use Rattle.scan.specs.Places.{Lent, lent, putAll}
+use Rattle.rules.specs.Rules.{breaks}
 
 -- the number, the count of all breaks, and the lent list afterwards
 pub record Outcome : Type 0 where

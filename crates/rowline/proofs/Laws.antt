@@ -10,10 +10,10 @@ use borrow.Author.Tests.{leb-true, eqb-true, not-true, not-false}
 use Rattle.text.specs.Bytes.{Bytes, isEmpty}
 use Rattle.text.proofs.Laws.Tests.{and-left, and-right}
 use Rattle.kinds.specs.Kinds.{cellOfKind}
-use Rattle.breaks.specs.Breaks.{breakAt, when}
-use Rattle.breaks.specs.Places.{Lent, Puts}
-use Rattle.breaks.specs.Machine.{eachCell, plainRest, kindCell, rowCell, rowBreaks, rowFirst}
-use Rattle.breaks.proofs.Laws.Putting.{puts2}
+use Rattle.rules.specs.Breaks.{breakAt, when}
+use Rattle.scan.specs.Places.{Lent, Puts}
+use Rattle.scan.specs.Machine.{eachCell, plainRest, kindCell, rowCell, rowBreaks, rowFirst}
+use Rattle.scan.proofs.Laws.Putting.{puts2}
 
 -- a cell that has not the first control byte, is not empty, and is of its kind
 pub cell-good : (kind first n c : ℕ) (x : Bytes) (o : Lent) → not (eqb first c || (isEmpty x || not (cellOfKind kind x))) ≡ true → Puts (kindCell kind first n c x) 3 o o

@@ -1,15 +1,15 @@
 // Judging a row: rules 1 and 17 to 20, put into the lent places.
-use breaks::places::both;
-use breaks::places::either;
-use breaks::places::put_if;
+use scan::places::both;
+use scan::places::either;
+use scan::places::put_if;
 use kinds::cell_of_kind;
 use text::cells::cell_end;
 use text::cells::count_cells;
 ghost use Prim.Native.Nat.{_+_, _≤_};
 ghost use lib.ListN.{length, drop};
 ghost use Rattle.text.specs.Lines.{cells};
-ghost use Rattle.breaks.specs.Places.{lent, Puts};
-ghost use Rattle.breaks.specs.Machine.{eachCell, kindCell, rowCell, rowBreaks, rowFirst};
+ghost use Rattle.scan.specs.Places.{lent, Puts};
+ghost use Rattle.scan.specs.Machine.{eachCell, kindCell, rowCell, rowBreaks, rowFirst};
 
 // A header of more cells has no kinds for its columns.
 const MOST_CELLS: usize = 256;

@@ -12,7 +12,7 @@ use Rattle.text.specs.Lines.{LIMIT, lines, coded}
 use Rattle.text.specs.Codes.{rowCode}
 use Rattle.references.specs.Index.{written}
 use Rattle.rows.specs.Rows.{headerOf, columnNamed, columnOf}
-use Rattle.breaks.specs.Rules.{isAccepted}
+use Rattle.rules.specs.Rules.{isAccepted}
 use Rattle.fee.specs.Sums.{listTo}
 
 -- protein is section 1

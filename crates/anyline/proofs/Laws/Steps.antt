@@ -8,15 +8,15 @@ use lib.ListN.{length, getD}
 use borrow.Author.Tests.{lt-ltb}
 use Rattle.text.specs.Bytes.{Bytes}
 use Rattle.text.specs.Lines.{cells}
-use Rattle.breaks.specs.Sorts.{sortOf, headerIn, metaIn, width, controlCell}
-use Rattle.breaks.specs.Places.{Lent, Puts}
-use Rattle.breaks.specs.Rules.{names}
-use Rattle.breaks.specs.Machine.{Ids, hasSlot, SLOTS, KindsOf}
-use Rattle.breaks.specs.Carried.{sortState, sortBreaks, lineBreaks, Follows}
-use Rattle.breaks.specs.declared.state.State.{State}
-use Rattle.breaks.specs.declared.sorts.Sort.{Sort}
-use Rattle.breaks.specs.declared.sorts.Sort.the-variants.{Meta, Header}
-use Rattle.breaks.proofs.Laws.Sorting.{header-section}
+use Rattle.rules.specs.Sorts.{sortOf, headerIn, metaIn, width, controlCell}
+use Rattle.scan.specs.Places.{Lent, Puts}
+use Rattle.rules.specs.Rules.{names}
+use Rattle.scan.specs.Machine.{Ids, hasSlot, SLOTS, KindsOf}
+use Rattle.scan.specs.Carried.{sortState, sortBreaks, lineBreaks, Follows}
+use Rattle.scan.specs.declared.state.State.{State}
+use Rattle.rules.specs.declared.sorts.Sort.{Sort}
+use Rattle.rules.specs.declared.sorts.Sort.the-variants.{Meta, Header}
+use Rattle.rules.proofs.Laws.Sorting.{header-section}
 
 module _ (ids : Ids) (s : State) (kinds : List ℕ) (slots : List Bool) (n : ℕ) (l : Bytes) (σ : Sort) (e : sortOf l ≡ σ) where
   pub line-puts : {m : ℕ} {o o' : Lent} → Puts (sortBreaks σ ids s kinds slots (controlCell l) n (cells l)) m o o' → m ≤ 1300 → Puts (lineBreaks ids s kinds slots n l) 1300 o o'

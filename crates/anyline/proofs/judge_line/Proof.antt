@@ -3,12 +3,12 @@ use mathlib.Core.Path.{_≡_, refl, sym, _∙_}
 use Prim.Native.Nat.{_<_}
 use native.Mathlib.Omega.{arith}
 use borrow.Author.Needs.{needs}
-use Rattle.breaks.specs.Sorts.{sortOf}
-use Rattle.breaks.specs.Machine.{idsOf}
-use Rattle.breaks.specs.declared.sorts.Sort.{Sort}
-use Rattle.breaks.specs.declared.sorts.Sort.the-variants.{Silent, Unknown, Meta, Header, Row}
-use Rattle.breaks.proofs.Laws.Putting.{puts-none}
-use Rattle.breaks.proofs.Laws.Sorting.{header-section}
+use Rattle.rules.specs.Sorts.{sortOf}
+use Rattle.scan.specs.Machine.{idsOf}
+use Rattle.rules.specs.declared.sorts.Sort.{Sort}
+use Rattle.rules.specs.declared.sorts.Sort.the-variants.{Silent, Unknown, Meta, Header, Row}
+use Rattle.scan.proofs.Laws.Putting.{puts-none}
+use Rattle.rules.proofs.Laws.Sorting.{header-section}
 use Rattle.anyline.proofs.Laws.Steps.{line-puts, follows-kept, follows-meta, follows-header}
 use Rattle.anyline.proofs.judge_line.Statement.{statement}
 use Rattle.anyline.proofs.judge_line.Tie as tie

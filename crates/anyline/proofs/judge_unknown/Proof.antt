@@ -1,7 +1,7 @@
 -- `anyline::judge_unknown` meets its contract: three puts, one after the other. Assumes nothing.
 use borrow.Author.Needs.{needs}
-use Rattle.breaks.specs.Machine.{unknownBreaks}
-use Rattle.breaks.proofs.Laws.Putting.{puts3}
+use Rattle.scan.specs.Machine.{unknownBreaks}
+use Rattle.scan.proofs.Laws.Putting.{puts3}
 use Rattle.anyline.proofs.judge_unknown.Statement.{statement}
 use Rattle.anyline.proofs.judge_unknown.Tie as tie
 

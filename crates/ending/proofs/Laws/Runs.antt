@@ -8,7 +8,7 @@ use native.Mathlib.Omega.{arith}
 use lib.ListN.{getD}
 use Rattle.text.specs.Bytes.{any}
 use Rattle.names.specs.Names.{slotOf}
-use Rattle.breaks.specs.Machine.{upFrom}
+use Rattle.scan.specs.Machine.{upFrom}
 
 -- the runs from index i on
 abbrev pub runsFrom : List Bool → ℕ → Bool

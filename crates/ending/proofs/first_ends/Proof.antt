@@ -1,6 +1,6 @@
 -- `ending::first_ends` meets its contract: three puts, one after the other. Assumes nothing.
 use borrow.Author.Needs.{needs}
-use Rattle.breaks.proofs.Laws.Putting.{puts3}
+use Rattle.scan.proofs.Laws.Putting.{puts3}
 use Rattle.ending.proofs.first_ends.Statement.{statement}
 use Rattle.ending.proofs.first_ends.Tie as tie
 

@@ -3,7 +3,7 @@ use mathlib.Core.Path.{_≡_, refl, sym, _∙_}
 use Prim.Native.Nat.{_-_, _≤_}
 use native.Mathlib.Omega.{arith}
 use borrow.Author.Needs.{needs}
-use Rattle.breaks.specs.Machine.{hasRun}
+use Rattle.scan.specs.Machine.{hasRun}
 use Rattle.ending.proofs.Laws.Runs.{runsFrom, run-here, run-next, run-none}
 use Rattle.ending.proofs.has_run.Statement.{statement}
 use Rattle.ending.proofs.has_run.Tie as tie

@@ -1,7 +1,7 @@
 -- `ending::judge_end` meets its contract: the first three, and two puts after them. Assumes nothing.
 use borrow.Author.Needs.{needs}
-use Rattle.breaks.specs.Machine.{endBreaks}
-use Rattle.breaks.proofs.Laws.Putting.{puts3}
+use Rattle.scan.specs.Machine.{endBreaks}
+use Rattle.scan.proofs.Laws.Putting.{puts3}
 use Rattle.ending.proofs.judge_end.Statement.{statement}
 use Rattle.ending.proofs.judge_end.Tie as tie
 

@@ -9,8 +9,8 @@ use lib.Seq.{sets}
 use lib.Dec.{ltb}
 use Rattle.text.specs.Bytes.{Bytes}
 use Rattle.text.specs.Lines.{LIMIT}
-use Rattle.breaks.specs.Breaks.{Break}
-use Rattle.breaks.specs.Rules.{breaks}
+use Rattle.rules.specs.Breaks.{Break}
+use Rattle.rules.specs.Rules.{breaks}
 use Rattle.faults.specs.declared.Fault.{Fault}
 use Rattle.faults.specs.declared.steps.Progress.{Progress}
 use Rattle.faults.specs.Records.{faultOf, outcome, judged}

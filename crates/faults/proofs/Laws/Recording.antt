@@ -6,7 +6,7 @@ use native.Mathlib.Nat.{not-suc-le-zero}
 use native.Mathlib.Omega.{arith}
 use lib.Seq.{sets, length-sets, getD-set-same, getD-set-other}
 use lib.ListN.{length, getD, set, length-set, length-map, List·getD-map}
-use Rattle.breaks.specs.Breaks.{Break, breakAt}
+use Rattle.rules.specs.Breaks.{Break, breakAt}
 use Rattle.faults.specs.declared.Fault.{Fault}
 use Rattle.faults.specs.Records.{faultOf}
 

@@ -11,10 +11,10 @@ use lib.ListN.{length, getD, set, take, drop, length-set, length-map, length-dro
 use borrow.Author.Tests.{le-ltb, lt-ltb, leb-true, leb-false}
 use Rattle.text.specs.Bytes.{Bytes}
 use Rattle.text.specs.Lines.{LIMIT}
-use Rattle.breaks.specs.Breaks.{Break, breakAt}
-use Rattle.breaks.specs.Rules.{breaks}
-use Rattle.breaks.specs.Places.{Lent, lent, putAll}
-use Rattle.breaks.proofs.Laws.Placing.{Holds, placed-at}
+use Rattle.rules.specs.Breaks.{Break, breakAt}
+use Rattle.rules.specs.Rules.{breaks}
+use Rattle.scan.specs.Places.{Lent, lent, putAll}
+use Rattle.scan.proofs.Laws.Placing.{Holds, placed-at}
 use Rattle.judging.specs.Parts.{total, Parts}
 use Rattle.judging.specs.declared.parts.Stand.{Stand}
 use Rattle.faults.specs.declared.Fault.{Fault}

@@ -9,8 +9,8 @@ use lib.Seq.{getD-set-same, getD-set-other}
 use lib.ListN.{length, drop, getD, set}
 use Rattle.text.specs.Bytes.{Bytes}
 use Rattle.book.specs.Columns.{columnOf}
-use Rattle.breaks.specs.Rules.{kindIn}
-use Rattle.breaks.proofs.Laws.Celling.{column-here}
+use Rattle.rules.specs.Rules.{kindIn}
+use Rattle.scan.proofs.Laws.Celling.{column-here}
 
 -- THE KINDS of the names before cell c are kept
 abbrev pub KindsTo : ℕ → ℕ → List Bytes → List ℕ → Type 0

@@ -1,7 +1,7 @@
 -- `headcells::head_cell` meets its contract: one look-up gives the breaks and the kind. Assumes nothing.
 use mathlib.Core.Path.{sym, subst}
-use Rattle.breaks.specs.Machine.{Within}
-use Rattle.breaks.proofs.Laws.Families.{column-within}
+use Rattle.scan.specs.Machine.{Within}
+use Rattle.scan.proofs.Laws.Families.{column-within}
 use borrow.Author.Needs.{needs}
 use Rattle.headcells.proofs.head_cell.Statement.{statement}
 use Rattle.headcells.proofs.head_cell.Tie as tie

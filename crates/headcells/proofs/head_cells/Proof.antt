@@ -10,11 +10,11 @@ use lib.ListN.{length, take, drop, length-set}
 use Rattle.text.specs.Bytes.{Bytes, any, same}
 use Rattle.text.specs.Lines.{cells}
 use Rattle.book.specs.Columns.{isOpt, columnOf}
-use Rattle.breaks.specs.Breaks.{Break}
-use Rattle.breaks.specs.Places.{lent, putAll}
-use Rattle.breaks.specs.Rules.{kindIn}
-use Rattle.breaks.specs.Machine.{idsOf, eachCell, headCell}
-use Rattle.breaks.proofs.Laws.Celling.{cell-here, cells-next, cells-last, turn-next, turn-last, column-next, column-count, any-more}
+use Rattle.rules.specs.Breaks.{Break}
+use Rattle.scan.specs.Places.{lent, putAll}
+use Rattle.rules.specs.Rules.{kindIn}
+use Rattle.scan.specs.Machine.{idsOf, eachCell, headCell}
+use Rattle.scan.proofs.Laws.Celling.{cell-here, cells-next, cells-last, turn-next, turn-last, column-next, column-count, any-more}
 use Rattle.stamps.specs.Ways.{isNamed, Noted}
 use Rattle.stamps.proofs.Laws.Noting.{noted-none}
 use Rattle.headcells.proofs.Laws.Kinds.{KindsTo, kinds-step}

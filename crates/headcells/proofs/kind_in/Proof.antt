@@ -1,6 +1,6 @@
 -- `headcells::kind_in`. Assumes nothing.
 use mathlib.Core.Path.{sym, ap}
-use Rattle.breaks.specs.Rules.{kindIn}
+use Rattle.rules.specs.Rules.{kindIn}
 use borrow.Author.Needs.{needs}
 use Rattle.headcells.proofs.kind_in.Statement.{statement}
 use Rattle.headcells.proofs.kind_in.Tie as tie

@@ -1,5 +1,5 @@
 -- `headcells::name_cell` meets its contract: the puts of name_known and two more. Assumes nothing.
-use Rattle.breaks.proofs.Laws.Putting.{puts3}
+use Rattle.scan.proofs.Laws.Putting.{puts3}
 use borrow.Author.Needs.{needs}
 use Rattle.headcells.proofs.name_cell.Statement.{statement}
 use Rattle.headcells.proofs.name_cell.Tie as tie

@@ -1,5 +1,5 @@
 -- `headcells::name_known` meets its contract: three puts, one after the other. Assumes nothing.
-use Rattle.breaks.proofs.Laws.Putting.{puts3}
+use Rattle.scan.proofs.Laws.Putting.{puts3}
 use borrow.Author.Needs.{needs}
 use Rattle.headcells.proofs.name_known.Statement.{statement}
 use Rattle.headcells.proofs.name_known.Tie as tie

@@ -2,8 +2,8 @@
 use mathlib.Core.Path.{sym}
 use native.Mathlib.Omega.{arith}
 use Prim.Native.Nat.{_≤_, _<_}
-use Rattle.breaks.specs.Machine.{idsOf}
-use Rattle.breaks.proofs.Laws.Families.{within-named, column-none, column-named}
+use Rattle.scan.specs.Machine.{idsOf}
+use Rattle.scan.proofs.Laws.Families.{within-named, column-none, column-named}
 use borrow.Author.Needs.{needs}
 use Rattle.headcells.proofs.undeclared.Statement.{statement}
 use Rattle.headcells.proofs.undeclared.Tie as tie

@@ -7,10 +7,10 @@ use native.Mathlib.Omega.{arith}
 use lib.Dec.{ltb}
 use lib.ListN.{length, drop}
 use Rattle.text.specs.Bytes.{Bytes}
-use Rattle.breaks.specs.Breaks.{breakAt, when}
-use Rattle.breaks.specs.Places.{Lent, Puts}
-use Rattle.breaks.specs.Machine.{Ids, eachCell, plainRest, headBreaks, headFirst, nameBreaks}
-use Rattle.breaks.proofs.Laws.Putting.{puts2}
+use Rattle.rules.specs.Breaks.{breakAt, when}
+use Rattle.scan.specs.Places.{Lent, Puts}
+use Rattle.scan.specs.Machine.{Ids, eachCell, plainRest, headBreaks, headFirst, nameBreaks}
+use Rattle.scan.proofs.Laws.Putting.{puts2}
 use Rattle.headnames.proofs.Laws.Wanting.{lacks-none}
 
 -- A HEADER: cell 1, and what comes after it

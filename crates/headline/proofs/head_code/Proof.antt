@@ -1,5 +1,5 @@
 -- `headline::head_code` meets its contract: four puts, one after the other. Assumes nothing.
-use Rattle.breaks.proofs.Laws.Putting.{puts2, puts3}
+use Rattle.scan.proofs.Laws.Putting.{puts2, puts3}
 use borrow.Author.Needs.{needs}
 use Rattle.headline.proofs.head_code.Statement.{statement}
 use Rattle.headline.proofs.head_code.Tie as tie

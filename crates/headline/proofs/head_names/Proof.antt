@@ -1,6 +1,6 @@
 -- `headline::head_names` meets its contract: rule 16, then each name. Assumes nothing.
 use native.Mathlib.Omega.{arith}
-use Rattle.breaks.proofs.Laws.Putting.{puts2}
+use Rattle.scan.proofs.Laws.Putting.{puts2}
 use borrow.Author.Needs.{needs}
 use Rattle.headline.proofs.head_names.Statement.{statement}
 use Rattle.headline.proofs.head_names.Tie as tie

@@ -6,8 +6,8 @@ use native.Mathlib.Omega.{arith}
 use borrow.Author.Tests.{ltb-true, ltb-false}
 use lib.ListN.{length, drop}
 use Rattle.text.specs.Lines.{cells}
-use Rattle.breaks.specs.Machine.{idsOf}
-use Rattle.breaks.proofs.Laws.Celling.{cell-here, cells-next, cells-last}
+use Rattle.scan.specs.Machine.{idsOf}
+use Rattle.scan.proofs.Laws.Celling.{cell-here, cells-next, cells-last}
 use Rattle.headline.proofs.Laws.Heading.{head-wide, head-named, names-none}
 use borrow.Author.Needs.{needs}
 use Rattle.headline.proofs.judge_head.Statement.{statement}

@@ -11,8 +11,8 @@ use Rattle.text.specs.Bytes.{Bytes, bytes, any, all, onFirst, splitOn}
 use Rattle.text.specs.Lines.{cells}
 use Rattle.text.specs.Places.{Ends}
 use Rattle.book.specs.Columns.{required}
-use Rattle.breaks.specs.Rules.{among, lacksColumn}
-use Rattle.breaks.proofs.Laws.Celling.{cell-here, cells-next, cells-last}
+use Rattle.rules.specs.Rules.{among, lacksColumn}
+use Rattle.scan.proofs.Laws.Celling.{cell-here, cells-next, cells-last}
 use Rattle.headnames.specs.Wanted.{isIn}
 
 -- the first of the cells, by positions

@@ -4,7 +4,7 @@ use Prim.Native.Nat.{ℕ}
 use lib.ListN.{drop}
 use Rattle.text.specs.Bytes.{bytes}
 use Rattle.text.specs.Lines.{cells}
-use Rattle.breaks.specs.Rules.{lacksColumn}
+use Rattle.rules.specs.Rules.{lacksColumn}
 use Rattle.headnames.proofs.Laws.Wanting.{section-four, lacks-protein, lacks-peptide, lacks-psm, lacks-molecule}
 use borrow.Author.Needs.{needs}
 use Rattle.headnames.proofs.lacks.Statement.{statement}

@@ -6,7 +6,7 @@ use borrow.Author.Needs.{needs}
 use lib.ListN.{length, take, drop}
 use Rattle.text.specs.Bytes.{any, same}
 use Rattle.text.specs.Lines.{cells}
-use Rattle.breaks.proofs.Laws.Celling.{any-hit, any-next, any-last}
+use Rattle.scan.proofs.Laws.Celling.{any-hit, any-next, any-last}
 use Rattle.headnames.proofs.named_before.Statement.{statement}
 use Rattle.headnames.proofs.named_before.Tie as tie
 

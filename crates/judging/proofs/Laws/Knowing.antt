@@ -9,13 +9,13 @@ use lib.ListN.{length}
 use Rattle.text.specs.Bytes.{Bytes}
 use Rattle.text.specs.Lines.{lines}
 use Rattle.ids.specs.Ids.{Declared}
-use Rattle.breaks.specs.Machine.{Slots, idsOf, endBreaks}
-use Rattle.breaks.specs.Carried.{Scan, from, last}
-use Rattle.breaks.specs.declared.state.State.{State}
-use Rattle.breaks.proofs.Laws.Lining.{Knows}
-use Rattle.breaks.proofs.Laws.Ending.{end-means}
-use Rattle.breaks.proofs.Laws.Scanning.{scan-all, scan-last}
-use Rattle.breaks.proofs.Laws.Families.{column-ids}
+use Rattle.scan.specs.Machine.{Slots, idsOf, endBreaks}
+use Rattle.scan.specs.Carried.{Scan, from, last}
+use Rattle.scan.specs.declared.state.State.{State}
+use Rattle.scan.proofs.Laws.Lining.{Knows}
+use Rattle.scan.proofs.Laws.Ending.{end-means}
+use Rattle.scan.proofs.Laws.Scanning.{scan-all, scan-last}
+use Rattle.scan.proofs.Laws.Families.{column-ids}
 use Rattle.metavalues.proofs.Laws.Ids.{value-ids, declares-flags}
 
 -- the flags say which ids the file declares

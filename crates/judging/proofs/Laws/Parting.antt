@@ -8,12 +8,12 @@ use lib.Seq.{drop-drop, take-all, take-add, take-append-seam, drop-append-seam}
 use lib.ListN.{length, getD, replicate, take, drop, length-append, length-drop}
 use Rattle.text.specs.Bytes.{Bytes}
 use Rattle.text.specs.Lines.{LIMIT}
-use Rattle.breaks.specs.Breaks.{Break}
-use Rattle.breaks.specs.Rules.{breaks}
-use Rattle.breaks.specs.Places.{Lent, lent, putAll, Puts}
-use Rattle.breaks.proofs.Laws.Putting.{put-append, put-count}
-use Rattle.breaks.proofs.Laws.Following.{stands-start}
-use Rattle.breaks.proofs.Laws.Scanning.{scan-start, breaks-left, breaks-bound}
+use Rattle.rules.specs.Breaks.{Break}
+use Rattle.rules.specs.Rules.{breaks}
+use Rattle.scan.specs.Places.{Lent, lent, putAll, Puts}
+use Rattle.scan.proofs.Laws.Putting.{put-append, put-count}
+use Rattle.scan.proofs.Laws.Following.{stands-start}
+use Rattle.scan.proofs.Laws.Scanning.{scan-start, breaks-left, breaks-bound}
 use Rattle.judging.specs.Parts.{total, beginning, Midway, Parts}
 use Rattle.judging.specs.declared.parts.Stand.{Stand}
 

@@ -15,7 +15,7 @@ use Rattle.book.proofs.Laws.Apart.{keys-count}
 use Rattle.names.specs.declared.Found.{Found}
 use Rattle.names.specs.declared.Found.the-variants.{Unknown, Known}
 use Rattle.names.proofs.Laws.Known.{slot-below}
-use Rattle.breaks.specs.Machine.{SLOTS, isSlot}
+use Rattle.scan.specs.Machine.{SLOTS, isSlot}
 use Rattle.metakeys.specs.Keys.{InSlots, marked}
 
 -- a known key has one of the slots

@@ -7,9 +7,9 @@ use borrow.Author.Tests.{eq-eqb, ne-eqb}
 use Rattle.text.specs.Bytes.{Bytes}
 use Rattle.text.specs.Lines.{cells}
 use Rattle.book.specs.Keys.{keyOf}
-use Rattle.breaks.specs.Sorts.{cell, sortOf, isMeta}
-use Rattle.breaks.specs.Machine.{SLOTS, hasSlot}
-use Rattle.breaks.specs.declared.sorts.Sort.the-variants.{Meta}
+use Rattle.rules.specs.Sorts.{cell, sortOf, isMeta}
+use Rattle.scan.specs.Machine.{SLOTS, hasSlot}
+use Rattle.rules.specs.declared.sorts.Sort.the-variants.{Meta}
 use Rattle.metakeys.specs.Keys.{marked}
 use Rattle.metakeys.proofs.Laws.Slotting.{marked-length, marked-slot}
 use Rattle.metaline.specs.Metas.{Keeps}

@@ -13,11 +13,11 @@ use Rattle.text.specs.Bytes.{Bytes}
 use Rattle.text.specs.Lines.{cells}
 use Rattle.text.specs.Places.{Ends}
 use Rattle.book.specs.Keys.{keyOf}
-use Rattle.breaks.specs.Breaks.{breakAt, when}
-use Rattle.breaks.specs.Places.{Lent, Puts}
-use Rattle.breaks.specs.Machine.{Ids, eachCell, controlAt, plainRest, metaCell, metaBreaks}
-use Rattle.breaks.proofs.Laws.Putting.{puts2, puts3}
-use Rattle.breaks.proofs.Laws.Celling.{cell-here, cells-last}
+use Rattle.rules.specs.Breaks.{breakAt, when}
+use Rattle.scan.specs.Places.{Lent, Puts}
+use Rattle.scan.specs.Machine.{Ids, eachCell, controlAt, plainRest, metaCell, metaBreaks}
+use Rattle.scan.proofs.Laws.Putting.{puts2, puts3}
+use Rattle.scan.proofs.Laws.Celling.{cell-here, cells-last}
 use Rattle.metakeys.specs.Keys.{Judged}
 use Rattle.metakeys.specs.declared.Judgement.{Judgement}
 

@@ -5,7 +5,7 @@ use lib.ListN.{length}
 use native.Mathlib.Omega.{arith}
 use borrow.Author.Needs.{needs}
 use Rattle.text.specs.Lines.{cells}
-use Rattle.breaks.specs.Machine.{idsOf}
+use Rattle.scan.specs.Machine.{idsOf}
 use Rattle.metaline.proofs.Laws.Keeping.{keeps-three, keeps-other}
 use Rattle.metaline.proofs.Laws.Lining.{meta-three, meta-other}
 use Rattle.metaline.proofs.judge_meta.Statement.{statement}

@@ -5,7 +5,7 @@ use lib.ListN.{length}
 use native.Mathlib.Omega.{arith}
 use borrow.Author.Needs.{needs}
 use Rattle.text.specs.Lines.{cells}
-use Rattle.breaks.proofs.Laws.Celling.{three-second, three-cells, three-key}
+use Rattle.scan.proofs.Laws.Celling.{three-second, three-cells, three-key}
 use Rattle.metakeys.proofs.Laws.Slotting.{in-slots}
 use Rattle.metaline.proofs.Laws.Lining.{first-tab, three-puts}
 use Rattle.metaline.proofs.judge_three.Statement.{statement}

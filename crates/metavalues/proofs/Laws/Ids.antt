@@ -18,9 +18,9 @@ use Rattle.kinds.specs.Kinds.{familyNumber, wordOf, ofKind}
 use Rattle.names.specs.declared.Found.{Found}
 use Rattle.names.specs.declared.Found.the-variants.{Unknown, Known}
 use Rattle.names.proofs.Laws.Known.{known}
-use Rattle.breaks.specs.Rules.{namedIn, isUndeclared, namesUndeclared}
-use Rattle.breaks.specs.Machine.{Ids, idsOf, undeclaredIn, Declares}
-use Rattle.breaks.proofs.Laws.Families.{undeclared-is}
+use Rattle.rules.specs.Rules.{namedIn, isUndeclared, namesUndeclared}
+use Rattle.scan.specs.Machine.{Ids, idsOf, undeclaredIn, Declares}
+use Rattle.scan.proofs.Laws.Families.{undeclared-is}
 use Rattle.metavalues.proofs.Laws.Naming.{one-good, one-named, list-good, list-named, none-named, isHigh, ref-high, refs-high, any-high}
 
 -- KEYS: one whose values name ids is of one of the four families

@@ -12,7 +12,7 @@ use Rattle.references.proofs.Laws.Names.{ref-le}
 use Rattle.book.specs.Book.{REFERENCE, REFERENCES}
 use Rattle.kinds.specs.Kinds.{wordOf, ofKind}
 use Rattle.text.proofs.Laws.Tests.{absurd-bool, and-left, and-right}
-use Rattle.breaks.specs.Rules.{namedIn}
+use Rattle.rules.specs.Rules.{namedIn}
 
 -- BY KINDS
 module _ (k f : ℕ) (v : Bytes) where

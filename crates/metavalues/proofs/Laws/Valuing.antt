@@ -11,9 +11,9 @@ use Rattle.references.specs.References.{refTo}
 use Rattle.text.proofs.Laws.Tests.{and-left, and-right}
 use Rattle.book.specs.Book.{REFERENCE, REFERENCES}
 use Rattle.kinds.specs.Kinds.{familyNumber, wordOf, ofKind}
-use Rattle.breaks.specs.Rules.{namedIn}
-use Rattle.breaks.specs.Machine.{Ids}
-use Rattle.breaks.proofs.Laws.Rowing.{test-eq}
+use Rattle.rules.specs.Rules.{namedIn}
+use Rattle.scan.specs.Machine.{Ids}
+use Rattle.scan.proofs.Laws.Rowing.{test-eq}
 use Rattle.metavalues.specs.Values.{Valued}
 use Rattle.metavalues.proofs.Laws.Naming.{one-named, none-named, isHigh, high-most, any-high}
 

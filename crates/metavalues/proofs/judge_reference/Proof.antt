@@ -8,7 +8,7 @@ use borrow.Author.Tests.{ne-eqb}
 use Rattle.references.specs.References.{isIndex}
 use Rattle.references.proofs.Laws.Names.{ref-le}
 use Rattle.kinds.specs.Kinds.{familyNumber, wordOf}
-use Rattle.breaks.specs.Machine.{idsOf}
+use Rattle.scan.specs.Machine.{idsOf}
 use Rattle.metavalues.proofs.Laws.Naming.{one-good}
 use Rattle.metavalues.proofs.Laws.Valuing.{valued-wrong, valued-good, one-any}
 use Rattle.metavalues.proofs.judge_reference.Statement.{statement}

@@ -10,7 +10,7 @@ use lib.Dec.{eqb}
 use Rattle.text.specs.Bytes.{any, all}
 use Rattle.references.specs.References.{refsTo, isReferences}
 use Rattle.kinds.specs.Kinds.{familyNumber, wordOf}
-use Rattle.breaks.specs.Machine.{idsOf}
+use Rattle.scan.specs.Machine.{idsOf}
 use Rattle.metavalues.proofs.Laws.Naming.{list-good, list-named, isHigh, refs-high}
 use Rattle.metavalues.proofs.Laws.Valuing.{valued-wrong, valued-good, Left, left-start, left-next, left-hit, left-end}
 use Rattle.metavalues.proofs.judge_references.Statement.{statement}

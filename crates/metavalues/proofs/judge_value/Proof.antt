@@ -2,7 +2,7 @@
 use mathlib.Core.Path.{subst⁻¹}
 use Prim.Native.Nat.{ℕ}
 use borrow.Author.Needs.{needs}
-use Rattle.breaks.specs.Machine.{idsOf}
+use Rattle.scan.specs.Machine.{idsOf}
 use Rattle.metavalues.specs.Values.{Valued}
 use Rattle.metavalues.proofs.Laws.Valuing.{valued-plain}
 use Rattle.metavalues.proofs.judge_value.Statement.{statement}

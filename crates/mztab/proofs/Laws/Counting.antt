@@ -15,9 +15,9 @@ use Rattle.text.specs.Codes.{isSection}
 use Rattle.rows.specs.Rows.{Line, rowOf, rowCount, columnOf}
 use Rattle.rows.specs.Counted.{Counted, counted, rowsIn}
 use Rattle.rows.proofs.Laws.Rowing.{row-beyond, row-within}
-use Rattle.breaks.specs.Places.{lent}
-use Rattle.breaks.specs.Rules.{breaks}
-use Rattle.breaks.proofs.Laws.Putting.{put-count}
+use Rattle.scan.specs.Places.{lent}
+use Rattle.rules.specs.Rules.{breaks}
+use Rattle.scan.proofs.Laws.Putting.{put-count}
 use Rattle.mztab.specs.Judged.{Outcome, outcome, judged}
 use Rattle.mztab.specs.Shown.{Shown, refused, startOf, soughtCell, soughtRow, sought, given, shown}
 

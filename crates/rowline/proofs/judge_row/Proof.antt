@@ -5,8 +5,8 @@ use native.Mathlib.Omega.{arith}
 use lib.ListN.{length, drop}
 use lib.Dec.{eqb}
 use Rattle.text.specs.Lines.{cells}
-use Rattle.breaks.specs.Machine.{rowCell}
-use Rattle.breaks.proofs.Laws.Celling.{each-none, cell-here, cells-next, cells-last}
+use Rattle.scan.specs.Machine.{rowCell}
+use Rattle.scan.proofs.Laws.Celling.{each-none, cell-here, cells-next, cells-last}
 use Rattle.rowline.proofs.Laws.{row-narrow, row-under, row-other}
 use borrow.Author.Needs.{needs}
 use Rattle.rowline.proofs.judge_row.Statement.{statement}

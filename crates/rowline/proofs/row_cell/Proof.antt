@@ -1,6 +1,6 @@
 -- `rowline::row_cell` meets its contract: a cell that breaks nothing is left at once, and else its three puts make kindCell. Assumes nothing.
-use Rattle.breaks.proofs.Laws.Putting.{puts3}
-use Rattle.breaks.proofs.Laws.Sorting.{empty-test}
+use Rattle.scan.proofs.Laws.Putting.{puts3}
+use Rattle.rules.proofs.Laws.Sorting.{empty-test}
 use Rattle.rowline.proofs.Laws.{cell-good}
 use borrow.Author.Needs.{needs}
 use Rattle.rowline.proofs.row_cell.Statement.{statement}

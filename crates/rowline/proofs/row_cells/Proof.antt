@@ -7,10 +7,10 @@ use native.Mathlib.Omega.{arith}
 use borrow.Author.Needs.{needs}
 use lib.ListN.{length, drop}
 use Rattle.text.specs.Lines.{cells}
-use Rattle.breaks.specs.Breaks.{Break}
-use Rattle.breaks.specs.Places.{lent, putAll}
-use Rattle.breaks.specs.Machine.{eachCell, rowCell}
-use Rattle.breaks.proofs.Laws.Celling.{cell-here, cells-next, turn-next, turn-last}
+use Rattle.rules.specs.Breaks.{Break}
+use Rattle.scan.specs.Places.{lent, putAll}
+use Rattle.scan.specs.Machine.{eachCell, rowCell}
+use Rattle.scan.proofs.Laws.Celling.{cell-here, cells-next, turn-next, turn-last}
 use Rattle.rowline.proofs.row_cells.Statement.{statement}
 use Rattle.rowline.proofs.row_cells.Tie as tie
 

@@ -1,5 +1,5 @@
 -- `rowline::row_code` meets its contract: three puts, one after the other. Assumes nothing.
-use Rattle.breaks.proofs.Laws.Putting.{puts3}
+use Rattle.scan.proofs.Laws.Putting.{puts3}
 use borrow.Author.Needs.{needs}
 use Rattle.rowline.proofs.row_code.Statement.{statement}
 use Rattle.rowline.proofs.row_code.Tie as tie

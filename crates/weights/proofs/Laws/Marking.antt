@@ -14,7 +14,7 @@ use Rattle.text.specs.Places.{part, Ends}
 use Rattle.text.proofs.Laws.Pieces.{piece-cut, piece-last}
 use Rattle.references.specs.References.{refTo}
 use Rattle.references.proofs.Laws.Names.{ref-le}
-use Rattle.breaks.proofs.Laws.Celling.{cell-here}
+use Rattle.scan.proofs.Laws.Celling.{cell-here}
 use Rattle.judging.proofs.Laws.Parting.{same-everywhere}
 use Rattle.weights.specs.Weights.{WORD}
 use Rattle.weights.specs.Marks.{variableOf, Marked}

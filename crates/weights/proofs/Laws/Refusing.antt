@@ -12,8 +12,8 @@ use Rattle.numbers.specs.Numbers.{TOO-LONG, NOT-ACCEPTED, NOT-AS-MANY}
 use Rattle.text.specs.Bytes.{Bytes}
 use Rattle.text.specs.Lines.{LIMIT, lines}
 use Rattle.rows.specs.Rows.{headerOf}
-use Rattle.breaks.specs.Rules.{breaks, isAccepted}
-use Rattle.breaks.proofs.Laws.Accepted.{accepted-none}
+use Rattle.rules.specs.Rules.{breaks, isAccepted}
+use Rattle.rules.proofs.Laws.Accepted.{accepted-none}
 use Rattle.mztab.specs.Judged.{outcome as judgedAs, judged}
 use Rattle.mztab.proofs.Laws.Counting.{judged-count}
 use Rattle.fee.proofs.Laws.Theorems.{list-length, list-at}

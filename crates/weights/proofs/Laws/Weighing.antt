@@ -18,9 +18,9 @@ use Rattle.references.specs.References.{refTo}
 use Rattle.references.proofs.Laws.Names.{ref-read, ref-written}
 use Rattle.rows.specs.Rows.{Line, rowOf, textOf, headerOf, placeOf, columnNamed, columnOf}
 use Rattle.rows.proofs.Laws.Rowing.{header-line}
-use Rattle.breaks.specs.Sorts.{isHeader}
-use Rattle.breaks.specs.Rules.{breaks}
-use Rattle.breaks.proofs.Laws.Accepted.{accepted-width, accepted-apart, header-coded}
+use Rattle.rules.specs.Sorts.{isHeader}
+use Rattle.rules.specs.Rules.{breaks}
+use Rattle.rules.proofs.Laws.Accepted.{accepted-width, accepted-apart, header-coded}
 use Rattle.fee.specs.Sums.{bit}
 use Rattle.weights.specs.Weights.{PROTEIN, WORD, abundance, isGiven, hasIn, weightOf}
 use Rattle.weights.specs.Marks.{variableOf, Marked, adds, marks, linesAdd}

@@ -5,7 +5,7 @@ use Prim.Native.Nat.{_≤_}
 use borrow.Author.Needs.{needs}
 use lib.ListN.{length}
 use Rattle.text.specs.Lines.{LIMIT}
-use Rattle.breaks.specs.Rules.{breaks}
+use Rattle.rules.specs.Rules.{breaks}
 use Rattle.weights.proofs.Laws.Refusing.{granted, list-kept, list-given, weights-room, weights-all}
 use Rattle.weights.proofs.weights.Statement.{statement}
 use Rattle.weights.proofs.weights.Tie as tie

@@ -4,10 +4,10 @@ use Prim.Native.Nat.{ℕ}
 use native.Mathlib.Omega.{arith}
 use borrow.Author.Needs.{needs}
 use lib.ListN.{length, take, drop, length-replicate}
-use Rattle.breaks.specs.Rules.{breaks}
-use Rattle.breaks.specs.Places.{Lent}
-use Rattle.breaks.proofs.Laws.Placing.{placed-length}
-use Rattle.breaks.proofs.Laws.Scanning.{breaks-bound}
+use Rattle.rules.specs.Rules.{breaks}
+use Rattle.scan.specs.Places.{Lent}
+use Rattle.scan.proofs.Laws.Placing.{placed-length}
+use Rattle.scan.proofs.Laws.Scanning.{breaks-bound}
 use Rattle.stamps.specs.Stamps.{ROOM}
 use Rattle.judging.specs.Parts.{total}
 use Rattle.faults.proofs.Laws.Stepping.{found-all, step-moves, step-less}

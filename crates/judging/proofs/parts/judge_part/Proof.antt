@@ -8,10 +8,10 @@ use borrow.Author.Needs.{needs}
 use lib.ListN.{length, drop, length-take, length-drop}
 use Rattle.text.specs.Lines.{lines}
 use Rattle.text.proofs.Laws.Tests.{absurd-bool}
-use Rattle.breaks.specs.Machine.{SLOTS}
-use Rattle.breaks.specs.Rules.{breaks}
-use Rattle.breaks.specs.Carried.{Scan, from, last}
-use Rattle.breaks.proofs.Laws.Scanning.{scan-step, scan-left, breaks-bound}
+use Rattle.scan.specs.Machine.{SLOTS}
+use Rattle.rules.specs.Rules.{breaks}
+use Rattle.scan.specs.Carried.{Scan, from, last}
+use Rattle.scan.proofs.Laws.Scanning.{scan-step, scan-left, breaks-bound}
 use Rattle.stamps.specs.Stamps.{ROOM}
 use Rattle.judging.proofs.Laws.Parting.{Parted, parted-start, parted-next, parted-all}
 use Rattle.judging.proofs.Laws.Knowing.{flags-know, end-left}

@@ -1,0 +1,49 @@
+-- Promise 3 of the definition: each break of a file is listed once, in order of line, then cell, then rule, and nothing else is. And the first half of promise
+-- 2: the list is empty exactly when no rule is broken. Assumes nothing.
+use mathlib.Core.Path.{_≡_, refl, subst}
+use mathlib.Core.List.{List, [], _∷_}
+use mathlib.Core.Logic.{_⊎_, inl}
+use Prim.Native.Nat.{ℕ}
+use borrow.Author.Needs.{needs}
+use Rattle.text.specs.Bytes.{Bytes}
+use Rattle.text.specs.Lines.{lines}
+use Rattle.rules.specs.Breaks.{Break, breakAt, Breaks, Lacks, In, Sorted, Rising}
+use Rattle.rules.specs.Rules.{rules, endRules, ENDS, breaks}
+use Rattle.rules.proofs.Laws.Listing.{all-sorted, all-broken, broken-all}
+
+-- the numbers of the rules rise
+rising : Rising 0 rules
+unfolding rules
+rising = search needs
+
+end-rising : Rising 0 endRules
+unfolding endRules
+end-rising = search needs
+
+-- each comes before all that stand after it, so none stands twice
+pub breaks-sorted : (file : Bytes) → Sorted (breaks file)
+unfolding breaks
+breaks-sorted file = all-sorted rules endRules ENDS (lines file) 0 0 rising end-rising
+
+-- a break is listed exactly where that rule is broken at that cell of that line
+pub listed-broken : (file : Bytes) (n c k : ℕ) → In (breakAt n c k) (breaks file) → Breaks rules (lines file) n c k ⊎ Lacks endRules ENDS (lines file) n c k
+unfolding breaks
+listed-broken file n c k h = all-broken rules endRules ENDS (lines file) n c k h
+
+pub broken-listed : (file : Bytes) {n c k : ℕ} → Breaks rules (lines file) n c k ⊎ Lacks endRules ENDS (lines file) n c k → In (breakAt n c k) (breaks file)
+unfolding breaks
+broken-listed file h = broken-all rules endRules ENDS (lines file) h
+
+-- so a file is accepted exactly when no rule is broken
+abbrev pub Broken : Bytes → ℕ → ℕ → ℕ → Type 0
+Broken file n c k = Breaks rules (lines file) n c k ⊎ Lacks endRules ENDS (lines file) n c k
+
+pub accepted-whole : (file : Bytes) {n c k : ℕ} → breaks file ≡ [] → Broken file n c k → ⊥
+accepted-whole file {n} {c} {k} e h = subst (In (breakAt n c k)) e (broken-listed file h)
+
+pub whole-accepted : (file : Bytes) → ((n c k : ℕ) → Broken file n c k → ⊥) → breaks file ≡ []
+whole-accepted file h = none (breaks file) (λ b i. h (b .line) (b .cell) (b .rule) (listed-broken file (b .line) (b .cell) (b .rule) i))
+  where
+    none : (bs : List Break) → ((b : Break) → In b bs → ⊥) → bs ≡ []
+    none [] f = refl
+    none (b ∷ bs) f = absurd (f b (inl refl))

@@ -1,0 +1,2 @@
+-- The laws that promise, and those that proofs cite.
+pub mod Laws

@@ -1,0 +1,52 @@
+-- The paper's cases marked P as one statement over one list, those of the kinds and those of whole files; and its example, computed. Assumes nothing.
+use mathlib.Core.Path.{_≡_, refl}
+use mathlib.Core.Bool.{Bool, true, false, _&&_}
+use mathlib.Core.List.{List, [], _∷_, _++_}
+use Prim.Native.Nat.{ℕ}
+use lib.Dec.{eqb}
+use Rattle.kinds.specs.Cases.{Case, isA, agrees, cases}
+use Rattle.text.specs.Bytes.{Bytes, bytes, same, begins, isEmpty, any, all, onFirst, splitOn, isSpace}
+use Rattle.text.specs.Lines.{lines, startsLf, coded, control, firstControl}
+use Rattle.text.specs.Codes.{headerCode, rowCode}
+use Rattle.references.specs.Index.{written, digits, number, bracketed, indexAt}
+use Rattle.values.specs.Values.{areDigits, unsigned, dotted, isText, isWhole, isNumeral, isDecimal, isDecimals, isWindow, isNull}
+use Rattle.parameters.specs.Parameters.{quotedAfter, cut, hasFields, isParameter, isParameters}
+use Rattle.names.specs.Names.{piecesFrom, entryOf, fits, firstOf}
+use Rattle.book.specs.Keys.{keys, demanded, keyEntries, keyOf, isColunit}
+use Rattle.book.specs.Columns.{proteinColumns, peptideColumns, psmColumns, moleculeColumns, columns, required, columnEntries, isOpt, optOf, columnOf}
+use Rattle.ids.specs.Ids.{isMeta, declares}
+use Rattle.references.specs.References.{refTo, trimmed, refsTo, isReferences}
+use Rattle.kinds.specs.Kinds.{familyNumber, isKept, isFixed, ofKind, cellOfKind}
+use Rattle.rules.specs.Sorts.{cell, rowSection, headerSection, codeSort, sortOf}
+use Rattle.rules.specs.Breaks.{Break, breakAt, each, atCell, atLine, inLines, atEnd}
+use Rattle.rules.specs.Rules.{sameKey, namedIn, isUndeclared, lacksColumn, nearestIn, rules, hasKey, endRules, breaks}
+
+pub example : breaks (bytes "MTD\tmzTab-version\t1.0.0\nMTD\tmzTab-mode\tSummary\nMTD\tmzTab-type\tIdentification\nMTD\tdescription\tYeast check\nMTD\tms_run[1]-location\tfile:///a.mzML\n\nPRH\taccession\tdescription\tdatabase\tsearch_engine\tnum_psms_ms_run[2]\nPRT\tY1\tnull\tdb\tnull\t\nPRT\tnull\tx\tdb\tnull\t4\n")
+    ≡ breakAt 7 6 15 ∷ breakAt 8 6 19 ∷ breakAt 9 2 20 ∷ []
+unfolding bytes same begins isEmpty any all onFirst splitOn lines startsLf coded control firstControl headerCode rowCode written digits number bracketed indexAt areDigits unsigned dotted isText isWhole isNumeral isDecimal isDecimals isWindow isNull quotedAfter cut isSpace hasFields isParameter isParameters piecesFrom entryOf fits firstOf keys demanded keyEntries keyOf isColunit proteinColumns peptideColumns psmColumns moleculeColumns columns required columnEntries isOpt optOf columnOf isMeta declares refTo trimmed refsTo isReferences familyNumber isKept isFixed namedIn ofKind cellOfKind cell rowSection headerSection codeSort sortOf each atCell atLine inLines atEnd sameKey isUndeclared lacksColumn nearestIn rules hasKey endRules breaks
+example = refl
+
+-- the same breaks, one by one
+unfoldable pub sameBreaks : List Break → List Break → Bool
+sameBreaks [] [] = true
+sameBreaks [] (d ∷ ds) = false
+sameBreaks (b ∷ bs) [] = false
+sameBreaks (b ∷ bs) (d ∷ ds) = eqb (b .line) (d .line) && (eqb (b .cell) (d .cell) && (eqb (b .rule) (d .rule) && sameBreaks bs ds))
+
+-- a file has just these breaks
+abbrev hasBreaks : List Break → Bytes → Bool
+hasBreaks bs file = sameBreaks (breaks file) bs
+
+-- five breaks of rule 21 at a line
+abbrev allAbsent : ℕ → List Break
+allAbsent n = breakAt n 1 21 ∷ breakAt n 2 21 ∷ breakAt n 3 21 ∷ breakAt n 4 21 ∷ breakAt n 5 21 ∷ []
+
+unfoldable pub files : List Case
+files =
+    isA (hasBreaks (allAbsent 1)) (bytes "")
+    ∷ isA (hasBreaks (allAbsent 2)) (bytes "COM")
+    ∷ []
+
+pub all-hold : all agrees (cases ++ files) ≡ true
+unfolding cases files sameBreaks bytes same begins isEmpty any all onFirst splitOn lines startsLf coded control firstControl headerCode rowCode written digits number bracketed indexAt areDigits unsigned dotted isText isWhole isNumeral isDecimal isDecimals isWindow isNull quotedAfter cut isSpace hasFields isParameter isParameters piecesFrom entryOf fits firstOf keys demanded keyEntries keyOf isColunit proteinColumns peptideColumns psmColumns moleculeColumns columns required columnEntries isOpt optOf columnOf isMeta declares refTo trimmed refsTo isReferences familyNumber isKept isFixed namedIn ofKind cellOfKind cell rowSection headerSection codeSort sortOf each atCell atLine inLines atEnd sameKey isUndeclared lacksColumn nearestIn rules hasKey endRules breaks
+all-hold = refl

@@ -1,0 +1,4 @@
+pub mod Sorts
+pub mod Breaks
+pub mod Rules
+pub mod Cases

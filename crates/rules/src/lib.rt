@@ -1,0 +1,2 @@
+// What a line is: its sort.
+pub mod sorts;

@@ -1,0 +1,170 @@
+-- The scan over the lines of a file: how many breaks there can be, and where it stands after each line. Assumes nothing.
+use mathlib.Core.Path.{_≡_, refl, sym, ap, _∙_}
+use mathlib.Core.Bool.{Bool, true, false, cond, _&&_}
+use mathlib.Core.List.{List, [], _∷_, _++_, append-assoc, append-nil}
+use Prim.Native.Nat.{ℕ, zero, suc, _+_, _-_, _*_, _≤_}
+use native.Mathlib.Nat.{mul-suc}
+use native.Mathlib.Numerals.{add-one}
+use native.Mathlib.Omega.{arith}
+use lib.Dec.{eqb}
+use lib.Seq.{getD-drop, drop-drop, take-suc}
+use lib.ListN.{length, take, drop, getD, length-append, length-drop}
+use Rattle.text.specs.Bytes.{Bytes, onFirst, splitOn}
+use Rattle.text.specs.Lines.{LIMIT, lines, startsLf}
+use Rattle.text.specs.Places.{part, LineAt}
+use Rattle.text.proofs.Laws.Lines.{lines-done}
+use Rattle.text.proofs.Laws.Pieces.{onFirst-length}
+use Rattle.rules.specs.Sorts.{isSilent, width}
+use Rattle.rules.specs.Breaks.{Break, breakAt, when, Spot, spot, spotAt, Rule, each, atCell, atLine, inLines, atEnd}
+use Rattle.rules.specs.Rules.{rules, endRules, breaks}
+use Rattle.scan.specs.Machine.{Ids}
+use Rattle.scan.specs.Carried.{lineBreaks, Stands, Follows, from, last, Scan}
+use Rattle.scan.specs.declared.state.State.{State}
+use Rattle.scan.proofs.Laws.Following.{stands-next}
+use Rattle.scan.proofs.Laws.Lining.{Knows, means}
+
+-- HOW MANY BREAKS THERE CAN BE: at most one of each rule at a cell, and at most two cells a byte
+
+at-bound : (rs : List Rule) (p : Spot) (n c : ℕ) → length (atCell rs p n c) ≤ length rs
+unfolding atCell
+at-bound [] p n c = omega arith
+at-bound (r ∷ rs) p n c = go (r .broken p c) (at-bound rs p n c)
+  where
+    go : (t : Bool) → length (atCell rs p n c) ≤ length rs → length (when t (breakAt n c (r .number)) (atCell rs p n c)) ≤ suc (length rs)
+    go true h = omega arith
+    go false h = omega arith
+
+-- the number of the rules of a line
+RULES : ℕ
+RULES = 20
+
+each-bound : (m left c : ℕ) (f : ℕ → List Break) → ((i : ℕ) → length (f i) ≤ m) → length (each left c f) ≤ m * left
+unfolding each
+each-bound m zero c f h = omega arith
+each-bound m (suc left) c f h =
+    let s : m * suc left ≡ m + m * left = omega (arith, mul-suc m left) in
+    omega (arith, length-append (f c) (each left (suc c) f), h c, each-bound m left (suc c) f h, s)
+
+line-bound : (p : Spot) (n : ℕ) → length (atLine rules p n) ≤ RULES * width (p .here)
+unfolding atLine rules RULES
+line-bound p n = go (isSilent (p .here))
+  where
+    all : length (each (width (p .here)) 1 (atCell rules p n)) ≤ 20 * width (p .here)
+    all = each-bound 20 (width (p .here)) 1 (atCell rules p n) (at-bound rules p n)
+
+    go : (t : Bool) → length (cond t [] (each (width (p .here)) 1 (atCell rules p n))) ≤ 20 * width (p .here)
+    go true = omega arith
+    go false = all
+
+widths : List Bytes → ℕ
+widths [] = 0
+widths (l ∷ ls) = width l + widths ls
+
+cells-front : (x : ℕ) (l : Bytes) → width (x ∷ l) ≤ width l + 1
+unfolding splitOn
+cells-front x l = go (eqb x 9)
+  where
+    go : (t : Bool) → length (cond t ([] ∷ splitOn 9 l) (onFirst x (splitOn 9 l))) ≤ length (splitOn 9 l) + 1
+    go true = omega arith
+    go false = onFirst-length x (splitOn 9 l)
+
+front-widths : (x : ℕ) (ls : List Bytes) → widths (onFirst x ls) ≤ widths ls + 2
+unfolding widths onFirst splitOn
+front-widths x [] = omega (arith, cells-front x [])
+front-widths x (l ∷ ls) = omega (arith, cells-front x l)
+
+widths-bound : (b : Bytes) → widths (lines b) ≤ 2 * length b
+unfolding lines widths splitOn
+widths-bound [] = omega arith
+widths-bound (x ∷ xs) = go (eqb x 10) (eqb x 13 && startsLf xs) (widths-bound xs)
+  where
+    go : (t u : Bool) → widths (lines xs) ≤ 2 * length xs → widths (cond t ([] ∷ lines xs) (cond u (lines xs) (onFirst x (lines xs)))) ≤ 2 * suc (length xs)
+    go true u h = omega arith
+    go false true h = omega arith
+    go false false h = omega (arith, front-widths x (lines xs))
+
+module _ (F : List Bytes) (n : ℕ) {l : Bytes} {ls : List Bytes} (e : drop n F ≡ l ∷ ls) where
+  line-here : getD F n [] ≡ l
+  line-here =
+      let z : n ≡ n + 0 = omega arith in
+      ap (λ (k : ℕ). getD F k []) z ∙ sym (getD-drop n F 0 []) ∙ ap (λ (q : List Bytes). getD q 0 []) e
+
+  lines-left : drop (suc n) F ≡ ls
+  lines-left =
+      let w : suc n ≡ n + 1 = omega arith in
+      ap (λ (k : ℕ). drop k F) w ∙ sym (drop-drop 1 n F) ∙ ap (λ (q : List Bytes). drop 1 q) e
+
+  lines-more : length F - n ≡ suc (length F - suc n)
+  lines-more = omega (arith, length-drop n F, ap length e)
+
+  lines-above : take (suc n) F ≡ take n F ++ (l ∷ [])
+  lines-above = take-suc F n [] (omega (arith, length-drop n F, ap length e)) ∙ rw line-here
+
+  -- the breaks of line n + 1, and those of the lines after it
+  from-next : from F n ≡ atLine rules (spot (take n F) l F) (suc n) ++ from F (suc n)
+  unfolding each
+  from-next =
+      let z : suc n - 1 ≡ n = omega arith in
+      rw (lines-more, z, line-here)
+
+from-bound : (F : List Bytes) (ls : List Bytes) (n : ℕ) → drop n F ≡ ls → length (from F n) ≤ 20 * widths ls
+unfolding widths each RULES
+from-bound F [] n e = let z : length F - n ≡ 0 = omega (arith, length-drop n F, ap length e) in rw z (omega arith)
+from-bound F (l ∷ ls) n e =
+    rw (from-next F n e)
+    (omega (arith, length-append (atLine rules (spot (take n F) l F) (suc n)) (from F (suc n)), line-bound (spot (take n F) l F) (suc n), from-bound F ls (suc n) (lines-left F n e)))
+
+-- so their count fits 32 bits with room
+pub breaks-bound : (b : Bytes) → length b ≤ LIMIT → length (breaks b) ≤ 671088645
+unfolding breaks inLines atEnd endRules
+breaks-bound b h =
+    let F = lines b in
+    let z : length F ≡ length F - 0 = omega arith in
+    omega (arith, length-append (inLines rules F) (last F), from-bound F F 0 refl, widths-bound b, each-bound 1 5 1 (atCell endRules (spotAt F (length F + 1)) (length F + 1)) (at-bound endRules (spotAt F (length F + 1)) (length F + 1)), ap (λ (k : ℕ). length (each k 1 (λ i. atLine rules (spotAt F i) i))) z)
+
+-- THE SCAN: where it stands, by the place and the number of lines passed
+pub scan-start : (file : Bytes) {s : State} {kinds : List ℕ} {slots : List Bool} → Stands [] s kinds slots → Scan file 0 0 s kinds slots
+scan-start file st = record { within = omega arith; counted = omega arith; passed = omega arith; left = refl; stands = st }
+
+-- all breaks are those of the lines and those at the end
+pub breaks-left : (file : Bytes) → breaks file ≡ from (lines file) 0 ++ last (lines file)
+unfolding breaks inLines
+breaks-left file = let z : length (lines file) - 0 ≡ length (lines file) = omega arith in rw z
+
+module _ {file : Bytes} {at n : ℕ} {s : State} {kinds : List ℕ} {slots : List Bool} (h : Scan file at n s kinds slots) where
+  module _ {end next : ℕ} (line : LineAt file at end next) where
+    ahead : drop n (lines file) ≡ part at end file ∷ lines (drop next file)
+    ahead = sym (h .left) ∙ line .cut
+
+    -- a line further
+    pub scan-step : {s' : State} {kinds' : List ℕ} {slots' : List Bool} → Follows s kinds slots (part at end file) s' kinds' slots' → Scan file next (n + 1) s' kinds' slots'
+    scan-step af =
+        let F = lines file in
+        record {
+          within = line .within;
+          counted = omega (arith, line .on, h .counted);
+          passed = omega (arith, length-drop n F, ap length ahead);
+          left = rw (add-one n) (sym (lines-left F n ahead));
+          stands = rw (add-one n, lines-above F n ahead) (stands-next (h .stands) af);
+        }
+
+    -- the breaks of the line, in front of those of the lines after it and those at the end
+    pub scan-left : {ids : Ids} → Knows (lines file) ids
+        → from (lines file) n ++ last (lines file) ≡ lineBreaks ids s kinds slots (n + 1) (part at end file) [] ++ (from (lines file) (n + 1) ++ last (lines file))
+    scan-left k =
+        let F = lines file in
+        let l = part at end file in
+        let bs = atLine rules (spot (take n F) l F) (suc n) in
+        ap (λ (xs : List Break). xs ++ last F) (from-next F n ahead) ∙ append-assoc bs (from F (suc n)) (last F)
+        ∙ rw (add-one n) (ap (λ (xs : List Break). xs ++ (from F (suc n) ++ last F)) (sym (rw (add-one n) at (means k (h .stands) l (n + 1) []) ∙ append-nil bs)))
+
+  -- all lines are passed
+  pub scan-all : length file ≤ at → n ≡ length (lines file)
+  scan-all e =
+      let none : drop n (lines file) ≡ [] = sym (h .left) ∙ lines-done file at e in
+      omega (arith, h .passed, length-drop n (lines file), ap length none)
+
+  -- and what is left are the breaks at the end
+  pub scan-last : length file ≤ at → from (lines file) n ++ last (lines file) ≡ last (lines file)
+  unfolding each
+  scan-last e = let z : length (lines file) - n ≡ 0 = omega (arith, scan-all e) in rw z

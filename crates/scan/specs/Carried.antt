@@ -1,0 +1,79 @@
+-- What the scan carries from line to line, and what it means of the lines above. No public contract cites this file. Assumes nothing.
+use Prim.Native.Nat.{ℕ, suc, _-_, _≤_, _<_}
+use mathlib.Core.Path.{_≡_}
+use mathlib.Core.Bool.{Bool, true, false, cond, _||_}
+use mathlib.Core.List.{List, [], _∷_}
+use lib.ListN.{length, getD, set, take, drop}
+use lib.Dec.{ltb}
+use Rattle.text.specs.Bytes.{Bytes, any}
+use Rattle.text.specs.Lines.{cells, lines}
+use Rattle.rules.specs.Sorts.{sortOf, header, isTable, width, controlCell}
+use Rattle.rules.specs.Breaks.{Break, spotAt, each, atLine, atEnd}
+use Rattle.rules.specs.Rules.{ofSection, ofLater, nearer, nearest, rules, endRules, ENDS}
+use Rattle.scan.specs.Machine.{Ids, metaBreaks, headBreaks, rowBreaks, unknownBreaks, SLOTS, hasSlot, Slots, Kinds}
+use Rattle.scan.specs.declared.state.State.{State}
+use Rattle.rules.specs.declared.sorts.Sort.{Sort}
+use Rattle.rules.specs.declared.sorts.Sort.the-variants.{Silent, Unknown, Meta, Header, Row}
+
+-- no line is above
+abbrev pub initial : State
+initial = record { seen = false ∷ false ∷ false ∷ false ∷ false ∷ []; highest = 0; section = 0; width = 1; table = false }
+
+abbrev pub afterHeader : ℕ → ℕ → State → State
+afterHeader h w s = record { seen = set (s .seen) h true; highest = cond (ltb (s .highest) h) h (s .highest); section = h; width = w; table = true }
+
+abbrev pub afterRow : State → State
+afterRow s = record { seen = s .seen; highest = s .highest; section = s .section; width = s .width; table = true }
+
+-- the state after a line of w cells, by its sort
+abbrev pub sortState : Sort → State → ℕ → State
+sortState Silent s w = s
+sortState Meta s w = s
+sortState Unknown s w = s
+sortState (Header h) s w = afterHeader h w s
+sortState (Row r) s w = afterRow s
+
+-- the breaks of a line, by its sort
+abbrev pub sortBreaks : Sort → Ids → State → List ℕ → List Bool → ℕ → ℕ → List Bytes → List Break → List Break
+sortBreaks Silent ids s kinds slots cc n xs rest = rest
+sortBreaks Unknown ids s kinds slots cc n xs rest = unknownBreaks cc n rest
+sortBreaks Meta ids s kinds slots cc n xs rest = metaBreaks (s .table) slots ids cc n xs rest
+sortBreaks (Header h) ids s kinds slots cc n xs rest = headBreaks h (getD (s .seen) h false) (ltb h (s .highest)) ids cc n xs rest
+sortBreaks (Row r) ids s kinds slots cc n xs rest = rowBreaks (s .section) (s .width) kinds r cc n xs rest
+
+abbrev pub lineBreaks : Ids → State → List ℕ → List Bool → ℕ → Bytes → List Break → List Break
+lineBreaks ids s kinds slots n l rest = sortBreaks (sortOf l) ids s kinds slots (controlCell l) n (cells l) rest
+
+-- what the state, the kinds of the nearest header's columns and the slots mean of the lines above
+pub record Stands (above : List Bytes) (s : State) (kinds : List ℕ) (slots : List Bool) : Type 0 where
+  pub seen : (i : ℕ) → 0 < i → i < 5 → getD (s .seen) i false ≡ any (ofSection i) above
+  pub sections : length (s .seen) ≡ 5
+  pub highest : (h : ℕ) → ltb h (s .highest) ≡ any (ofLater h) above
+  pub section : s .section ≡ header (nearest above)
+  pub width : s .width ≡ length (cells (nearest above))
+  pub table : s .table ≡ any isTable above
+  pub columns : Kinds (nearest above) kinds
+  pub keys : Slots above slots
+
+-- how they change by one line
+pub record Follows (s : State) (kinds : List ℕ) (slots : List Bool) (l : Bytes) (s' : State) (kinds' : List ℕ) (slots' : List Bool) : Type 0 where
+  pub state : s' ≡ sortState (sortOf l) s (width l)
+  pub columns : (l₀ : Bytes) → Kinds l₀ kinds → Kinds (nearer l l₀) kinds'
+  pub keys : (i : ℕ) → i < SLOTS → getD slots' i false ≡ (getD slots i false || hasSlot i l)
+  pub kind-places : length kinds' ≡ 256
+  pub key-places : length slots' ≡ SLOTS
+
+-- the breaks of the lines after the first n, and those at the end
+abbrev pub from : List Bytes → ℕ → List Break
+from F n = each (length F - n) (suc n) (λ i. atLine rules (spotAt F i) i)
+
+abbrev pub last : List Bytes → List Break
+last F = atEnd endRules ENDS F
+
+-- where a scan stands that has passed n lines: its place in the file, and what it carries
+pub record Scan (file : Bytes) (at n : ℕ) (s : State) (kinds : List ℕ) (slots : List Bool) : Type 0 where
+  pub within : at ≤ length file
+  pub counted : n ≤ at
+  pub passed : n ≤ length (lines file)
+  pub left : lines (drop at file) ≡ drop n (lines file)
+  pub stands : Stands (take n (lines file)) s kinds slots

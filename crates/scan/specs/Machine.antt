@@ -1,0 +1,194 @@
+-- The same breaks from what a scan carries along: each of these sets the breaks of a cell or a line in front of `rest`, what comes after. No public
+-- contract cites this file: that it says what the rules say is the law `means` of proofs/. Assumes nothing.
+use Prim.Native.Nat.{ℕ, zero, suc, _+_, _-_, _≤_, _<_}
+use mathlib.Core.Path.{_≡_}
+use mathlib.Core.Bool.{Bool, true, false, cond, not, _&&_}
+use mathlib.Core.List.{List, [], _∷_}
+use lib.ListN.{length, getD, take, drop}
+use lib.Dec.{eqb, leb, ltb}
+use Rattle.text.specs.Bytes.{Bytes, same, isEmpty, any}
+use Rattle.book.specs.Book.{NONE}
+use Rattle.names.specs.Names.{slotOf, isKnown}
+use Rattle.book.specs.Keys.{keyOf, isColunit}
+use Rattle.book.specs.Columns.{columnOf, isOpt}
+use Rattle.ids.specs.Ids.{declares}
+use Rattle.kinds.specs.Kinds.{ofKind, cellOfKind, familyNumber}
+use Rattle.names.specs.declared.Found.{Found}
+use Rattle.names.specs.declared.Found.the-variants.{Unknown, Known}
+use Rattle.rules.specs.Sorts.{header, isMeta, width}
+use Rattle.rules.specs.Breaks.{Break, breakAt, when}
+use Rattle.rules.specs.Rules.{isThree, keyFound, isWrong, lastIndex, lacksColumn, names, kindIn, namedIn}
+
+-- CELLS
+
+-- f of each cell, the first of which has the number c
+unfoldable pub eachCell : (ℕ → Bytes → List Break → List Break) → ℕ → List Bytes → List Break → List Break
+eachCell f c [] rest = rest
+eachCell f c (x ∷ xs) rest = f c x (eachCell f (suc c) xs rest)
+
+-- rule 1 at cell c, where cc is the cell of the first control byte
+abbrev pub controlAt : ℕ → ℕ → ℕ → List Break → List Break
+controlAt cc n c rest = when (eqb cc c) (breakAt n c 1) rest
+
+-- the cells after the first, where only rule 1 judges them
+abbrev pub plainRest : ℕ → ℕ → List Break → List Break
+plainRest cc n rest = when (ltb 1 cc) (breakAt n cc 1) rest
+
+-- WHAT IS CARRIED
+
+-- the ids that are declared, by family and index
+abbrev pub Ids : Type 0
+Ids = ℕ → ℕ → Bool
+
+-- the flags say it: index i stands at place i - 1
+abbrev pub idsOf : List (List Bool) → Ids
+idsOf flags f i = getD (getD flags f []) (i - 1) false
+
+-- METADATA LINES, by the slots of the keys that came before
+
+abbrev pub againIn : List Bool → Bytes → Found → Bool
+againIn slots key Unknown = false
+againIn slots key (Known e k f i j) = not (isColunit key) && getD slots (slotOf e i j) false
+
+abbrev pub undeclaredIn : Ids → Found → Bytes → Bool
+undeclaredIn ids Unknown v = false
+undeclaredIn ids (Known e k f i j) v = ofKind k f v && any (λ i. not (ids (familyNumber f) i)) (namedIn k f v)
+
+-- the key and the value, cells 2 and 3
+abbrev pub metaCell : List Bool → Ids → Bytes → Bytes → ℕ → ℕ → ℕ → Bytes → List Break → List Break
+metaCell slots ids key value cc n c x rest =
+    controlAt cc n c
+    (when (eqb c 2 && not (isKnown (keyOf key))) (breakAt n c 5)
+    (when (eqb c 2 && againIn slots key (keyOf key)) (breakAt n c 6)
+    (when (eqb c 3 && isWrong (keyOf key) value) (breakAt n c 7)
+    (when (eqb c 3 && undeclaredIn ids (keyOf key) value) (breakAt n c 8) rest))))
+
+-- an MTD line of the cells xs; `table` says whether a header or row stands above
+unfoldable pub metaBreaks : Bool → List Bool → Ids → ℕ → ℕ → List Bytes → List Break → List Break
+metaBreaks table slots ids cc n xs rest =
+    controlAt cc n 1
+    (when (not (eqb (length xs) 3)) (breakAt n 1 3)
+    (when table (breakAt n 1 4)
+    (cond (eqb (length xs) 3) (eachCell (metaCell slots ids (getD xs 1 []) (getD xs 2 []) cc n) 2 (drop 1 xs) rest) (plainRest cc n rest))))
+
+-- HEADERS
+
+abbrev pub columnIn : Ids → Found → Bool
+columnIn ids Unknown = false
+columnIn ids (Known e k f i j) = not (eqb f NONE) && not (ids (familyNumber f) (lastIndex i j))
+
+-- a column that names an id names one of the four families, by an index of 1 to 64
+abbrev pub Within : Found → Type 0
+Within Unknown = Unit
+Within (Known e k f i j) = eqb f NONE ≡ false → (familyNumber f < 4) × (1 ≤ lastIndex i j) × (lastIndex i j ≤ 64)
+
+-- a column name that the book answers so, by whether it came before: what its bytes and the ids do not decide
+abbrev pub knownBreaks : Bool → Found → ℕ → ℕ → ℕ → List Break → List Break
+knownBreaks again found cc n c rest = controlAt cc n c (when (not (isKnown found)) (breakAt n c 12) (when again (breakAt n c 13) rest))
+
+-- and by whether an optional one came before
+abbrev pub nameCell : Bool → Bool → Ids → Found → ℕ → ℕ → ℕ → Bytes → List Break → List Break
+nameCell again opt ids found cc n c x rest =
+    knownBreaks again found cc n c
+    (when (not (isOpt x) && opt) (breakAt n c 14)
+    (when (columnIn ids found) (breakAt n c 15) rest))
+
+abbrev pub headCell : ℕ → List Bytes → Ids → ℕ → ℕ → ℕ → Bytes → List Break → List Break
+headCell section ns ids cc n c x rest = nameCell (any (same x) (take (c - 2) ns)) (any isOpt (take (c - 2) ns)) ids (columnOf section x) cc n c x rest
+
+-- cell 1, where the names do not decide; `again` and `later` say whether a header of its section, of a later one stands above
+abbrev pub headFirst : Bool → Bool → Bool → ℕ → ℕ → List Break → List Break
+headFirst again later wide cc n rest = controlAt cc n 1 (when again (breakAt n 1 9) (when later (breakAt n 1 10) (when wide (breakAt n 1 11) rest)))
+
+-- the names: one rule at cell 1, and those at each
+abbrev pub nameBreaks : ℕ → Ids → ℕ → ℕ → List Bytes → List Break → List Break
+nameBreaks section ids cc n ns rest = when (lacksColumn section ns) (breakAt n 1 16) (eachCell (headCell section ns ids cc n) 2 ns rest)
+
+-- a header of the cells xs
+unfoldable pub headBreaks : ℕ → Bool → Bool → Ids → ℕ → ℕ → List Bytes → List Break → List Break
+headBreaks section again later ids cc n xs rest =
+    let wide = ltb 256 (length xs) in
+    headFirst again later wide cc n (cond wide (plainRest cc n rest) (nameBreaks section ids cc n (drop 1 xs) rest))
+
+-- the kinds of a header's columns, cell c's at place c - 1
+abbrev pub KindsOf : ℕ → List Bytes → List ℕ → Type 0
+KindsOf section ns kinds = (i : ℕ) → i < length ns → getD kinds (i + 1) 0 ≡ kindIn (columnOf section (getD ns i []))
+
+abbrev pub Kinds : Bytes → List ℕ → Type 0
+Kinds l kinds = width l ≤ 256 → KindsOf (header l) (names l) kinds
+
+-- ROWS
+
+-- a cell whose column has the kind
+abbrev pub kindCell : ℕ → ℕ → ℕ → ℕ → Bytes → List Break → List Break
+kindCell kind cc n c x rest =
+    controlAt cc n c
+    (when (isEmpty x) (breakAt n c 19)
+    (when (not (isEmpty x) && not (cellOfKind kind x)) (breakAt n c 20) rest))
+
+abbrev pub rowCell : List ℕ → ℕ → ℕ → ℕ → Bytes → List Break → List Break
+rowCell kinds cc n c x rest = kindCell (getD kinds (c - 1) 0) cc n c x rest
+
+-- cell 1; `headed` says whether the nearest header above is of the row's section, `uneven` whether it has another number of cells and not over 256
+abbrev pub rowFirst : Bool → Bool → ℕ → ℕ → List Break → List Break
+rowFirst headed uneven cc n rest = controlAt cc n 1 (when (not headed) (breakAt n 1 17) (when uneven (breakAt n 1 18) rest))
+
+-- a row of the cells xs; the nearest header is of the section h and has w cells
+unfoldable pub rowBreaks : ℕ → ℕ → List ℕ → ℕ → ℕ → ℕ → List Bytes → List Break → List Break
+rowBreaks h w kinds section cc n xs rest =
+    let headed = eqb h section in
+    let under = headed && leb w 256 in
+    let even = eqb (length xs) w in
+    rowFirst headed (under && not even) cc n (cond (under && even) (eachCell (rowCell kinds cc n) 2 (drop 1 xs) rest) (plainRest cc n rest))
+
+-- OTHER LINES
+
+unfoldable pub unknownBreaks : ℕ → ℕ → List Break → List Break
+unknownBreaks cc n rest = controlAt cc n 1 (when true (breakAt n 1 2) (plainRest cc n rest))
+
+-- WHAT IS CARRIED MEANS
+
+-- the number of slots: one for each entry of the keys and each two indices, 0 to 64
+abbrev pub SLOTS : ℕ
+SLOTS = 257725
+
+abbrev pub isSlot : ℕ → Found → Bool
+isSlot s Unknown = false
+isSlot s (Known e k f i j) = eqb (slotOf e i j) s
+
+-- an MTD line of three cells whose key has this slot
+unfoldable pub hasSlot : ℕ → Bytes → Bool
+hasSlot s m = isMeta m && (isThree m && isSlot s (keyFound m))
+
+-- the slots say which keys came before
+abbrev pub Slots : List Bytes → List Bool → Type 0
+Slots above slots = (s : ℕ) → s < SLOTS → getD slots s false ≡ any (hasSlot s) above
+
+-- the ids say what the file declares
+abbrev pub Declares : List Bytes → Ids → Type 0
+Declares file ids = (f i : ℕ) → f < 4 → 1 ≤ i → i ≤ 64 → ids f i ≡ any (declares f i) file
+
+-- REQUIRED METADATA, by the slots of all lines
+
+-- k, k + 1, .., n of them
+unfoldable pub upFrom : ℕ → ℕ → List ℕ
+upFrom zero k = []
+upFrom (suc n) k = k ∷ upFrom n (suc k)
+
+-- the entries of mzTab-version, mzTab-mode, mzTab-type, description and ms_run[n]-location in the table of keys
+abbrev pub hasEntry : List Bool → ℕ → Bool
+hasEntry slots e = getD slots (slotOf e 0 0) false
+
+abbrev pub hasRun : List Bool → Bool
+hasRun slots = any (λ i. getD slots (slotOf 16 i 0) false) (upFrom 64 1)
+
+-- rule 21, at line n: the first three of the five
+abbrev pub firstEnds : List Bool → ℕ → List Break → List Break
+firstEnds slots n rest =
+    when (not (hasEntry slots 0)) (breakAt n 1 21)
+    (when (not (hasEntry slots 1)) (breakAt n 2 21)
+    (when (not (hasEntry slots 2)) (breakAt n 3 21) rest))
+
+-- and all
+unfoldable pub endBreaks : List Bool → ℕ → List Break → List Break
+endBreaks slots n rest = firstEnds slots n (when (not (hasEntry slots 5)) (breakAt n 4 21) (when (not (hasRun slots)) (breakAt n 5 21) rest))

@@ -1,0 +1,37 @@
+// The lent places that breaks are put into, three for each: rule, line, cell.
+ghost use mathlib.Core.Path.{_≡_};
+ghost use mathlib.Core.Bool.{_&&_, _||_};
+ghost use Prim.Native.Nat.{_<_};
+ghost use Rattle.rules.specs.Breaks.{breakAt, when};
+ghost use Rattle.scan.specs.Places.{lent, Puts};
+
+// Tests are computed and not branched on, so that a judgement is a row of puts.
+pub fn both(a: bool, b: bool) -> bool
+    ensures { λ r. ⌜ r ≡ (a && b) ⌝ }
+{
+    if a { b } else { false }
+}
+
+pub fn either(a: bool, b: bool) -> bool
+    ensures { λ r. ⌜ r ≡ (a || b) ⌝ }
+{
+    if a { true } else { b }
+}
+
+// One break more, where `yes` says so: counted in any case, and written where its three places are there.
+pub fn put_if(places: &mut [u32], count: u32, yes: bool, rule: u32, line: u32, cell: u32) -> u32
+    requires { ⌜ count < 4294967295 ⌝ }
+    ensures { λ r. ⌜ Puts (when yes (breakAt line cell rule)) 1 (lent (now (places .entry)) count) (lent (now (places .exit)) r) ⌝ }
+{
+    if !yes {
+        return count;
+    }
+    let at = 3 * (count as usize);
+    if at + 3 <= places.len() {
+        places[at] = rule;
+        places[at + 1] = line;
+        places[at + 2] = cell;
+        return count + 1;
+    }
+    count + 1
+}
