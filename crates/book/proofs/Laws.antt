@@ -1,5 +1,5 @@
--- Laws over plain lists and positions, with no code in them: a file for each thing that they speak of.
+-- Laws of the book, with no code in them.
 pub mod Columns
-pub mod Whole
-pub mod Held
 pub mod Apart
+pub mod Sized
+pub mod Laying

@@ -1,86 +1,122 @@
--- The letters of the book: the kinds of value, and the families of ids. Assumes nothing.
-use Prim.Native.Nat.{ℕ}
+-- A rule book: what a version of the format says of sections and their line codes, of keys and of columns. Every definition that asks a table takes the
+-- book. Then the one book that there is. Assumes nothing.
+use Prim.Native.Nat.{ℕ, _+_, _-_}
+use Prim.Native.String.{String}
+use mathlib.Core.Bool.{Bool, true, false, cond, _&&_}
+use mathlib.Core.List.{List, [], _∷_, map}
+use lib.ListN.{length, getD}
+use lib.Dec.{eqb, leb, ltb}
+use Rattle.text.specs.Bytes.{Bytes, bytes, is, begins}
+use Rattle.names.specs.Names.{Entry, entryOf, lookupIn}
+use Rattle.names.specs.declared.Found.{Found}
+use Rattle.names.specs.declared.Found.the-variants.{Unknown, Known}
+use Rattle.book.specs.Letters.{TEXT, NONE, OPT}
+use Rattle.book.specs.Keys.{keys, demanded}
+use Rattle.book.specs.Columns.{proteinColumns, peptideColumns, psmColumns, moleculeColumns, proteinRequired, peptideRequired, psmRequired, moleculeRequired}
 
--- T text
-abbrev pub TEXT : ℕ
-TEXT = 84
+-- a section: the line codes of its headers and of its rows, its columns, a line each, and those that its header must have
+pub record Section : Type 0 where
+  pub header : String
+  pub row : String
+  pub columns : List String
+  pub required : List String
 
--- K text that is never `null`
-abbrev pub KEPT : ℕ
-KEPT = 75
+abbrev pub section : String → String → List String → List String → Section
+section header row columns required = record { header = header; row = row; columns = columns; required = required }
 
--- W whole
-abbrev pub WHOLE : ℕ
-WHOLE = 87
+-- a book: the number of its first section, its sections in their order, its keys, a line each, and those that a file must have
+pub record Book : Type 0 where
+  pub first : ℕ
+  pub sections : List Section
+  pub keys : List String
+  pub demanded : List String
 
--- D decimal
-abbrev pub DECIMAL : ℕ
-DECIMAL = 68
+-- SECTIONS
 
--- L decimal list
-abbrev pub DECIMALS : ℕ
-DECIMALS = 76
+-- their numbers are below this, in every book
+abbrev pub SECTIONS : ℕ
+SECTIONS = 5
 
--- N window
-abbrev pub WINDOW : ℕ
-WINDOW = 78
+-- whether a number is that of a section
+unfoldable pub isSection : Book → ℕ → Bool
+isSection b s = leb (b .first) s && ltb s (b .first + length (b .sections))
 
--- P parameter
-abbrev pub PARAMETER : ℕ
-PARAMETER = 80
+abbrev pub noSection : Section
+noSection = section "" "" [] []
 
--- Q parameter list
-abbrev pub PARAMETERS : ℕ
-PARAMETERS = 81
+-- the section of a number; without a code or a column where there is none
+unfoldable pub sectionOf : Book → ℕ → Section
+sectionOf b s = cond (isSection b s) (getD (b .sections) (s - b .first) noSection) noSection
 
--- R reliability of sections 1 to 3
-abbrev pub RELIABILITY : ℕ
-RELIABILITY = 82
+-- the line codes of a section's headers and rows
+abbrev pub headerCode : Book → ℕ → Bytes
+headerCode b s = bytes ((sectionOf b s) .header)
 
--- U unique
-abbrev pub UNIQUE : ℕ
-UNIQUE = 85
+abbrev pub rowCode : Book → ℕ → Bytes
+rowCode b s = bytes ((sectionOf b s) .row)
 
--- v the value of mzTab-version
-abbrev pub VERSION : ℕ
-VERSION = 118
+-- row 0 is a header, the others are rows
+unfoldable pub codeFor : Book → ℕ → ℕ → Bytes
+codeFor b s row = cond (eqb row 0) (headerCode b s) (rowCode b s)
 
--- m the value of mzTab-mode
-abbrev pub MODE : ℕ
-MODE = 109
+-- the line code of a section's rows, or of its headers
+abbrev pub codeIn : Bool → Section → String
+codeIn true s = s .row
+codeIn false s = s .header
 
--- t the value of mzTab-type
-abbrev pub TYPE : ℕ
-TYPE = 116
+-- the first of these sections that has the line code, of which the first has the number n; 0 where there is none
+unfoldable pub codedFrom : Bool → ℕ → List Section → Bytes → ℕ
+codedFrom row n [] code = 0
+codedFrom row n (s ∷ ss) code =
+    let later = codedFrom row (n + 1) ss code in
+    cond (is code (codeIn row s)) n later
 
--- r reference
-abbrev pub REFERENCE : ℕ
-REFERENCE = 114
+-- the section whose rows, or whose headers, have this line code; 0 for none
+abbrev pub sectionBy : Book → Bool → Bytes → ℕ
+sectionBy b row code = codedFrom row (b .first) (b .sections) code
 
--- l reference list
-abbrev pub REFERENCES : ℕ
-REFERENCES = 108
+-- NAMES
 
--- - no family
-abbrev pub NONE : ℕ
-NONE = 45
+abbrev pub entriesOf : List String → List Entry
+entriesOf lines = map entryOf (map bytes lines)
 
--- S sample
-abbrev pub SAMPLE : ℕ
-SAMPLE = 83
+-- what the book says of a key
+abbrev pub keyEntries : Book → List Entry
+keyEntries b = entriesOf (b .keys)
 
--- A assay
-abbrev pub ASSAY : ℕ
-ASSAY = 65
+unfoldable pub keyOf : Book → Bytes → Found
+keyOf b name = lookupIn (keyEntries b) name
 
--- V study variable
-abbrev pub VARIABLE : ℕ
-VARIABLE = 86
+-- whether a name begins `opt_`
+unfoldable pub isOpt : Bytes → Bool
+isOpt name = begins (bytes "opt_") name
 
--- R run
-abbrev pub RUN : ℕ
-RUN = 82
+-- an `opt_` column: text, and names no id; it has a byte more than `opt_`
+unfoldable pub optOf : Bytes → Found
+optOf name = cond (ltb 4 (length name)) (Known OPT TEXT NONE 0 0) Unknown
 
--- the entry number of an `opt_` column, which stands in no table
-abbrev pub OPT : ℕ
-OPT = 255
+abbrev pub columnEntries : Book → ℕ → List Entry
+columnEntries b s = entriesOf ((sectionOf b s) .columns)
+
+-- what the book says of a column's name
+unfoldable pub columnOf : Book → ℕ → Bytes → Found
+columnOf b s name = cond (isOpt name) (optOf name) (lookupIn (columnEntries b s) name)
+
+-- THE BOOK of mzTab 1.0: sections 1 protein, 2 peptide, 3 PSM, 4 small molecule
+unfoldable pub mzTab : Book
+mzTab =
+    record {
+      first = 1;
+      sections =
+      section "PRH" "PRT" proteinColumns proteinRequired
+      ∷ section "PEH" "PEP" peptideColumns peptideRequired
+      ∷ section "PSH" "PSM" psmColumns psmRequired
+      ∷ section "SMH" "SML" moleculeColumns moleculeRequired
+      ∷ [];
+      keys = keys;
+      demanded = demanded;
+    }
+
+-- the book that a file goes by, of its lines: the one there is
+unfoldable pub bookOf : List Bytes → Book
+bookOf file = mzTab

@@ -6,16 +6,17 @@ use mathlib.Core.List.{[], _∷_, map}
 use Rattle.text.specs.Bytes.{bytes, begins}
 use Rattle.references.specs.Index.{digits, number, bracketed, indexAt}
 use Rattle.names.specs.Names.{piecesFrom, entryOf, fits, firstOf}
-use Rattle.book.specs.Keys.{keys, keyEntries, keyOf}
-use Rattle.book.specs.Columns.{proteinColumns, peptideColumns, psmColumns, moleculeColumns, columns, required, columnEntries, isOpt, optOf, columnOf}
+use Rattle.book.specs.Keys.{keys}
+use Rattle.book.specs.Columns.{proteinColumns, peptideColumns, psmColumns, moleculeColumns, proteinRequired, peptideRequired, psmRequired, moleculeRequired}
+use Rattle.book.specs.Book.{isSection, sectionOf, keyOf, isOpt, optOf, columnOf, mzTab}
 use Rattle.names.specs.declared.Found.{Found}
 use Rattle.names.specs.declared.Found.the-variants.{Unknown, Known}
 
 abbrev key : String → Found
-key name = keyOf (bytes name)
+key name = keyOf mzTab (bytes name)
 
 abbrev column : ℕ → String → Found
-column s name = columnOf s (bytes name)
+column s name = columnOf mzTab s (bytes name)
 
 abbrev entryNumber : Found → ℕ
 entryNumber Unknown = 999
@@ -23,31 +24,31 @@ entryNumber (Known e k f i j) = e
 
 -- a key with no index, one and two; its kind is text, its value names no id (84 is `T`, 45 `-`)
 keys-known : (key "mzTab-ID" ≡ Known 3 84 45 0 0) × (key "contact[3]-email" ≡ Known 10 84 45 3 0) × (key "assay[1]-quantification_mod[64]-position" ≡ Known 19 84 45 1 64)
-unfolding keyOf keyEntries keys bytes entryOf piecesFrom firstOf fits indexAt bracketed digits number
+unfolding mzTab keyOf keys bytes entryOf piecesFrom firstOf fits indexAt bracketed digits number
 keys-known = (refl, refl, refl)
 
 -- a reference, whose value names a sample (114 is `r`, 83 `S`)
 reference-key : key "assay[2]-sample_ref" ≡ Known 57 114 83 2 0
-unfolding keyOf keyEntries keys bytes entryOf piecesFrom firstOf fits indexAt bracketed digits number
+unfolding mzTab keyOf keys bytes entryOf piecesFrom firstOf fits indexAt bracketed digits number
 reference-key = refl
 
 -- a wrong index, a missing one, no name and a name that goes on are unknown
 keys-unknown : (key "study_variable[65]-sample_refs" ≡ Unknown) × (key "uri[01]" ≡ Unknown) × (key "uri" ≡ Unknown) × (key "" ≡ Unknown) × (key "title " ≡ Unknown)
-unfolding keyOf keyEntries keys bytes entryOf piecesFrom firstOf fits indexAt bracketed digits number
+unfolding mzTab keyOf keys bytes entryOf piecesFrom firstOf fits indexAt bracketed digits number
 keys-unknown = (refl, refl, refl, refl, refl)
 
 -- a column that names run 7, its last index (68 is `D`, 82 `R`); reliability is text in section 4 (84 is `T`) and not in section 2 (82 is `R`)
 columns-known : (column 1 "search_engine_score[2]_ms_run[7]" ≡ Known 16 68 82 2 7) × (column 4 "reliability" ≡ Known 11 84 45 0 0) × (column 2 "reliability" ≡ Known 8 82 45 0 0)
-unfolding columnOf columnEntries columns proteinColumns peptideColumns psmColumns moleculeColumns isOpt begins bytes entryOf piecesFrom firstOf fits indexAt bracketed digits number
+unfolding mzTab isSection sectionOf columnOf proteinColumns peptideColumns psmColumns moleculeColumns isOpt begins bytes entryOf piecesFrom firstOf fits indexAt bracketed digits number
 columns-known = (refl, refl, refl)
 
 -- another section's column is unknown, `opt_` alone too; with a byte more it is known everywhere
 columns-other : (column 3 "taxid" ≡ Unknown) × (column 3 "opt_" ≡ Unknown) × (column 3 "opt_x" ≡ Known 255 84 45 0 0) × (column 5 "charge" ≡ Unknown)
-unfolding columnOf columnEntries columns proteinColumns peptideColumns psmColumns moleculeColumns isOpt optOf begins bytes entryOf piecesFrom firstOf fits indexAt bracketed digits number
+unfolding mzTab isSection sectionOf columnOf proteinColumns peptideColumns psmColumns moleculeColumns isOpt optOf begins bytes entryOf piecesFrom firstOf fits indexAt bracketed digits number
 columns-other = (refl, refl, refl, refl)
 
 -- every required column is known in its section, at these entries
-required-known : (map (λ r. entryNumber (column 1 r)) (required 1) ≡ 0 ∷ 1 ∷ 3 ∷ 21 ∷ []) × (map (λ r. entryNumber (column 2 r)) (required 2) ≡ 5 ∷ 0 ∷ 7 ∷ 10 ∷ [])
-    × (map (λ r. entryNumber (column 3 r)) (required 3) ≡ 5 ∷ 6 ∷ 0 ∷ 12 ∷ 7 ∷ []) × (map (λ r. entryNumber (column 4 r)) (required 4) ≡ 7 ∷ 13 ∷ [])
-unfolding required columnOf columnEntries columns proteinColumns peptideColumns psmColumns moleculeColumns isOpt begins bytes entryOf piecesFrom firstOf fits indexAt bracketed digits number
+required-known : (map (λ r. entryNumber (column 1 r)) proteinRequired ≡ 0 ∷ 1 ∷ 3 ∷ 21 ∷ []) × (map (λ r. entryNumber (column 2 r)) peptideRequired ≡ 5 ∷ 0 ∷ 7 ∷ 10 ∷ [])
+    × (map (λ r. entryNumber (column 3 r)) psmRequired ≡ 5 ∷ 6 ∷ 0 ∷ 12 ∷ 7 ∷ []) × (map (λ r. entryNumber (column 4 r)) moleculeRequired ≡ 7 ∷ 13 ∷ [])
+unfolding proteinRequired peptideRequired psmRequired moleculeRequired mzTab isSection sectionOf columnOf proteinColumns peptideColumns psmColumns moleculeColumns isOpt begins bytes entryOf piecesFrom firstOf fits indexAt bracketed digits number
 required-known = (refl, refl, refl, refl)

@@ -1,16 +1,7 @@
--- The columns of the four sections, a line for each: the letter of its kind, the letter of the family that its name names (`-` none), a space, and
--- the column's name, with [n] where an index stands. In the paper's order. The letters are in Book. Assumes nothing.
-use Prim.Native.Nat.{ℕ}
+-- The columns of the four sections of mzTab 1.0, a line for each: the letter of its kind, the letter of the family that its name names (`-` none), a space, and
+-- the column's name, with [n] where an index stands. In the paper's order. The letters are in Letters. Assumes nothing.
 use Prim.Native.String.{String}
-use mathlib.Core.Bool.{Bool, cond}
-use mathlib.Core.List.{List, [], _∷_, map}
-use lib.ListN.{length}
-use lib.Dec.{eqb, ltb}
-use Rattle.text.specs.Bytes.{Bytes, bytes, begins}
-use Rattle.book.specs.Book.{TEXT, NONE, OPT}
-use Rattle.names.specs.Names.{Entry, entryOf, lookupIn}
-use Rattle.names.specs.declared.Found.{Found}
-use Rattle.names.specs.declared.Found.the-variants.{Unknown, Known}
+use mathlib.Core.List.{List, [], _∷_}
 
 -- section 1
 unfoldable pub proteinColumns : List String
@@ -118,35 +109,15 @@ moleculeColumns =
     ∷ "Q- search_engine"
     ∷ []
 
--- one of four by the section, another where there is none such
-abbrev pub bySection : {A : Type 0} → ℕ → A → A → A → A → A → A
-bySection s p e m x none = cond (eqb s 1) p (cond (eqb s 2) e (cond (eqb s 3) m (cond (eqb s 4) x none)))
+-- the columns that a header of each section must have: rule 16
+unfoldable pub proteinRequired : List String
+proteinRequired = "accession" ∷ "description" ∷ "database" ∷ "search_engine" ∷ []
 
--- the columns of a section
-unfoldable pub columns : ℕ → List String
-columns s = bySection s proteinColumns peptideColumns psmColumns moleculeColumns []
+unfoldable pub peptideRequired : List String
+peptideRequired = "sequence" ∷ "accession" ∷ "charge" ∷ "mass_to_charge" ∷ []
 
--- the columns that a section's header must have: rule 16
-unfoldable pub required : ℕ → List String
-required s =
-    bySection s
-    ("accession" ∷ "description" ∷ "database" ∷ "search_engine" ∷ [])
-    ("sequence" ∷ "accession" ∷ "charge" ∷ "mass_to_charge" ∷ [])
-    ("sequence" ∷ "PSM_ID" ∷ "accession" ∷ "charge" ∷ "spectra_ref" ∷ [])
-    ("identifier" ∷ "charge" ∷ [])
-    []
+unfoldable pub psmRequired : List String
+psmRequired = "sequence" ∷ "PSM_ID" ∷ "accession" ∷ "charge" ∷ "spectra_ref" ∷ []
 
-unfoldable pub columnEntries : ℕ → List Entry
-columnEntries s = map entryOf (map bytes (columns s))
-
--- whether a name begins `opt_`
-unfoldable pub isOpt : Bytes → Bool
-isOpt name = begins (bytes "opt_") name
-
--- an `opt_` column: text, and names no id; it has a byte more than `opt_`
-unfoldable pub optOf : Bytes → Found
-optOf name = cond (ltb 4 (length name)) (Known OPT TEXT NONE 0 0) Unknown
-
--- what the book says of a column's name
-unfoldable pub columnOf : ℕ → Bytes → Found
-columnOf s name = cond (isOpt name) (optOf name) (lookupIn (columnEntries s) name)
+unfoldable pub moleculeRequired : List String
+moleculeRequired = "identifier" ∷ "charge" ∷ []

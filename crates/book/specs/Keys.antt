@@ -1,11 +1,9 @@
--- The metadata keys, a line for each: the letter of its kind, the letter of the family that its value names (`-` none), a space, and the key,
--- with [n] where an index stands. In the paper's order. The letters are in Book. Assumes nothing.
+-- The metadata keys of mzTab 1.0, a line for each: the letter of its kind, the letter of the family that its value names (`-` none), a space, and the key,
+-- with [n] where an index stands. In the paper's order. The letters are in Letters. Assumes nothing.
 use Prim.Native.String.{String}
-use mathlib.Core.List.{List, [], _∷_, map}
-use Rattle.text.specs.Bytes.{Bytes, bytes, begins}
 use mathlib.Core.Bool.{Bool}
-use Rattle.names.specs.Names.{Entry, entryOf, lookupIn}
-use Rattle.names.specs.declared.Found.{Found}
+use mathlib.Core.List.{List, [], _∷_}
+use Rattle.text.specs.Bytes.{Bytes, bytes, begins}
 
 -- the known keys
 unfoldable pub keys : List String
@@ -76,13 +74,6 @@ keys =
 -- the keys that a file must have: rule 21
 unfoldable pub demanded : List String
 demanded = "mzTab-version" ∷ "mzTab-mode" ∷ "mzTab-type" ∷ "description" ∷ "ms_run[n]-location" ∷ []
-
-unfoldable pub keyEntries : List Entry
-keyEntries = map entryOf (map bytes keys)
-
--- what the book says of a key
-unfoldable pub keyOf : Bytes → Found
-keyOf name = lookupIn keyEntries name
 
 -- whether a key is one of the `colunit` ones, which may come twice
 unfoldable pub isColunit : Bytes → Bool

@@ -1,5 +1,6 @@
-pub mod Book
+pub mod Letters
 pub mod Keys
 pub mod Columns
-pub mod Rows
+pub mod Book
+pub mod Text
 pub mod Cases

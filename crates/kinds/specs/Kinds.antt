@@ -6,7 +6,7 @@ use Rattle.text.specs.Bytes.{Bytes, is}
 use Rattle.values.specs.Values.{isText, isWhole, isDecimal, isDecimals, isWindow, isNull}
 use Rattle.parameters.specs.Parameters.{isParameter, isParameters}
 use Rattle.references.specs.References.{family, refTo, isIndex, isReferences}
-use Rattle.book.specs.Book.{KEPT, WHOLE, DECIMAL, DECIMALS, WINDOW, PARAMETER, PARAMETERS, RELIABILITY, UNIQUE, VERSION, MODE, TYPE, REFERENCE, REFERENCES, SAMPLE, ASSAY, VARIABLE, RUN, NONE}
+use Rattle.book.specs.Letters.{KEPT, WHOLE, DECIMAL, DECIMALS, WINDOW, PARAMETER, PARAMETERS, RELIABILITY, UNIQUE, VERSION, MODE, TYPE, REFERENCE, REFERENCES, SAMPLE, ASSAY, VARIABLE, RUN, NONE}
 
 -- the number of the family that a letter stands for, 4 for none
 unfoldable pub familyNumber : ℕ → ℕ

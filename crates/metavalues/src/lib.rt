@@ -7,7 +7,7 @@ use kinds::references_to;
 use references::INDICES;
 ghost use mathlib.Core.Path.{_≡_};
 ghost use Prim.Native.Nat.{_≤_};
-ghost use Rattle.book.specs.Book.{REFERENCE as reference, REFERENCES as references};
+ghost use Rattle.book.specs.Letters.{REFERENCE as reference, REFERENCES as references};
 ghost use Rattle.ids.specs.Ids.{Flags};
 ghost use Rattle.scan.specs.Machine.{idsOf};
 ghost use Rattle.metavalues.specs.Values.{Valued};

@@ -7,7 +7,7 @@ use lib.ListN.{length, getD, take, drop}
 use lib.Dec.{eqb, leb, ltb}
 use Rattle.text.specs.Bytes.{Bytes, bytes, same, isEmpty, any, all}
 use Rattle.text.specs.Lines.{lines, cells}
-use Rattle.book.specs.Book.{TEXT, REFERENCE, REFERENCES, NONE}
+use Rattle.book.specs.Letters.{TEXT, REFERENCE, REFERENCES, NONE}
 use Rattle.book.specs.Keys.{keys, keyOf, demanded, isColunit}
 use Rattle.book.specs.Columns.{columnOf, required, isOpt}
 use Rattle.names.specs.Names.{isKnown}

@@ -7,7 +7,7 @@ use mathlib.Core.List.{List, [], _∷_}
 use lib.ListN.{length, getD, take, drop}
 use lib.Dec.{eqb, leb, ltb}
 use Rattle.text.specs.Bytes.{Bytes, same, isEmpty, any}
-use Rattle.book.specs.Book.{NONE}
+use Rattle.book.specs.Letters.{NONE}
 use Rattle.names.specs.Names.{slotOf, isKnown}
 use Rattle.book.specs.Keys.{keyOf, isColunit}
 use Rattle.book.specs.Columns.{columnOf, isOpt}

@@ -10,7 +10,7 @@ use Rattle.text.specs.Bytes.{Bytes, bytes, any, all}
 use Rattle.text.specs.Lines.{lines}
 use Rattle.text.proofs.Laws.Each.{all-at}
 use Rattle.references.specs.References.{refTo, refsTo}
-use Rattle.book.specs.Book.{REFERENCE, REFERENCES}
+use Rattle.book.specs.Letters.{REFERENCE, REFERENCES}
 use Rattle.names.specs.Names.{Entry, entry, piecesFrom, entryOf, kindOf, familyOf}
 use Rattle.book.specs.Keys.{keys, keyEntries, keyOf}
 use Rattle.ids.specs.Ids.{declares, declared, Declared}

@@ -9,7 +9,7 @@ use borrow.Author.Tests.{le-leb, lt-leb, leb-true, eqb-true, eqb-false}
 use Rattle.text.specs.Bytes.{Bytes, any, all}
 use Rattle.references.specs.References.{refTo}
 use Rattle.text.proofs.Laws.Tests.{and-left, and-right}
-use Rattle.book.specs.Book.{REFERENCE, REFERENCES}
+use Rattle.book.specs.Letters.{REFERENCE, REFERENCES}
 use Rattle.kinds.specs.Kinds.{familyNumber, wordOf, ofKind}
 use Rattle.rules.specs.Rules.{namedIn}
 use Rattle.scan.specs.Machine.{Ids}

@@ -10,7 +10,7 @@ use borrow.Author.Tests.{ltb-true, eqb-false, ne-eqb}
 use Rattle.text.specs.Bytes.{Bytes, bytes, all}
 use Rattle.text.proofs.Laws.Tests.{and-both}
 use Rattle.text.proofs.Laws.Each.{all-at}
-use Rattle.book.specs.Book.{NONE}
+use Rattle.book.specs.Letters.{NONE}
 use Rattle.names.specs.Names.{Entry, entry, entryOf, familyOf, formOf, piecesFrom, lookupIn}
 use Rattle.book.specs.Columns.{proteinColumns, peptideColumns, psmColumns, moleculeColumns, columns, columnEntries, isOpt, optOf, columnOf}
 use Rattle.kinds.specs.Kinds.{familyNumber}

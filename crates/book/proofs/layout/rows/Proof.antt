@@ -4,8 +4,8 @@ use Rattle.text.specs.Bytes.{bytes}
 use Rattle.book.specs.Keys.{keys}
 use Rattle.book.specs.Columns.{proteinColumns, peptideColumns, psmColumns, moleculeColumns}
 use Rattle.book.specs.Rows.{padded, laid, bookBytes}
-use Rattle.book.proofs.rows.Statement.{statement}
-use Rattle.book.proofs.rows.Tie as tie
+use Rattle.book.proofs.layout.rows.Statement.{statement}
+use Rattle.book.proofs.layout.rows.Tie as tie
 
 returns : tie.Need-returns
 unfolding bytes keys proteinColumns peptideColumns psmColumns moleculeColumns padded laid bookBytes

@@ -6,8 +6,8 @@ use Prim.Native.Nat.{ℕ, _-_, _≤_}
 use lib.ListN.{length, take}
 use lib.Seq.{take-all}
 use Rattle.book.proofs.Laws.Held.{copied}
-use Rattle.book.proofs.lay.Statement.{statement}
-use Rattle.book.proofs.lay.Tie as tie
+use Rattle.book.proofs.layout.lay.Statement.{statement}
+use Rattle.book.proofs.layout.lay.Tie as tie
 
 abbrev Inv-loop : tie.InvT-loop
 Inv-loop book₀ rows i₀ book i = (i ≤ length rows) × (length book ≡ length book₀) × (take i book ≡ take i rows)

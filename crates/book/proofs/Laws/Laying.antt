@@ -1,0 +1,2 @@
+-- The text of the book, computed. Assumes nothing.
+use mathlib.Core.Path.{_≡_, refl}

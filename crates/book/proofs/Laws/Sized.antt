@@ -1,0 +1,19 @@
+-- How many sections and keys a book has: what a scan sets room aside for. Assumes nothing.
+use Prim.Native.Nat.{ℕ, _+_, _≤_}
+use mathlib.Core.Path.{_≡_, refl}
+use native.Mathlib.Omega.{arith}
+use lib.ListN.{length}
+use Rattle.text.specs.Bytes.{Bytes, bytes}
+use Rattle.book.specs.Keys.{keys}
+use Rattle.book.specs.Book.{SECTIONS, Book, keyEntries, mzTab}
+use Rattle.book.specs.Text.{bookIn}
+
+-- sections are numbered from 1 and below SECTIONS; there are at most 61 keys
+pub record Sized (b : Book) : Type 0 where
+  pub low : 1 ≤ b .first
+  pub high : b .first + length (b .sections) ≤ SECTIONS
+  pub few : length (keyEntries b) ≤ 61
+
+pub book-sized : (t : Bytes) → Sized (bookIn t)
+unfolding bookIn mzTab keys bytes
+book-sized t = record { low = omega arith; high = omega arith; few = omega arith }

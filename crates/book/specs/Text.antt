@@ -1,0 +1,163 @@
+-- A book as the code holds it, in one text: a directory, the lines of all tables as rows of one width, the required columns, and the links of each table.
+-- No public contract cites this file. Assumes nothing.
+use Prim.Native.Nat.{ℕ, zero, suc, _+_, _*_, _/_, _%_, _≤_, _<_}
+use Prim.Native.String.{String}
+use mathlib.Core.Path.{_≡_}
+use mathlib.Core.Bool.{Bool, true, false}
+use mathlib.Core.List.{List, [], _∷_, _++_, map}
+use lib.ListN.{length, getD, drop}
+use Rattle.text.specs.Bytes.{Bytes, bytes, SPACE}
+use Rattle.text.specs.Lines.{TAB, cells}
+use Rattle.text.specs.Places.{part}
+use Rattle.names.specs.Names.{Entry}
+use Rattle.names.specs.Table.{WIDTH, entries}
+use Rattle.names.specs.Links.{HEADS, Linked}
+use Rattle.book.specs.Book.{Section, section, Book, noSection, codeIn, entriesOf, mzTab}
+
+-- THE DIRECTORY: the number of the first section, how many there are, and an entry for each table, of which table 0 has the keys and table j + 1 the
+-- columns of section j from the first: the codes of its headers and its rows, and where its rows, its required columns and its links begin. One entry more
+-- says where the last ones end
+abbrev pub CODES : ℕ
+CODES = 14
+
+abbrev pub STEP : ℕ
+STEP = 12
+
+-- a number that stands in two bytes, the lower first
+abbrev pub numberAt : Bytes → ℕ → ℕ
+numberAt t i = getD t i 0 + 256 * getD t (i + 1) 0
+
+abbrev pub rowsAt : Bytes → ℕ → ℕ
+rowsAt t k = numberAt t (8 + STEP * k)
+
+abbrev pub wantedAt : Bytes → ℕ → ℕ
+wantedAt t k = numberAt t (10 + STEP * k)
+
+abbrev pub linksAt : Bytes → ℕ → ℕ
+linksAt t k = numberAt t (12 + STEP * k)
+
+-- the rows, the required columns and the links of table k
+abbrev pub rowsOf : Bytes → ℕ → Bytes
+rowsOf t k = part (rowsAt t k) (rowsAt t (k + 1)) t
+
+abbrev pub wantedOf : Bytes → ℕ → Bytes
+wantedOf t k = part (wantedAt t k) (wantedAt t (k + 1)) t
+
+abbrev pub linksOf : Bytes → ℕ → Bytes
+linksOf t k = part (linksAt t k) (linksAt t (k + 1)) t
+
+-- where the line code of its rows, or of its headers, stands in the entry of section j
+abbrev pub codeAt : Bool → ℕ → ℕ
+codeAt true j = CODES + STEP * j + 3
+codeAt false j = CODES + STEP * j
+
+-- a text that begins with the directory of a book
+pub record IsDirectory (b : Book) (t : Bytes) : Type 0 where
+  pub first : getD t 0 0 ≡ b .first
+  pub count : getD t 1 0 ≡ length (b .sections)
+  pub size : CODES + STEP * (length (b .sections) + 1) ≤ length t
+  pub codes : (row : Bool) (j : ℕ) → j < length (b .sections) → part (codeAt row j) (codeAt row j + 3) t ≡ bytes (codeIn row (getD (b .sections) j noSection))
+
+-- THE TABLES
+
+-- table k lies in the text, and its links lead to its rows
+pub record IsTable (t : Bytes) (k : ℕ) : Type 0 where
+  pub rows-start : rowsAt t k ≤ rowsAt t (k + 1)
+  pub rows-end : rowsAt t (k + 1) ≤ length t
+  pub links-start : linksAt t k ≤ linksAt t (k + 1)
+  pub links-end : linksAt t (k + 1) ≤ length t
+  pub linked : Linked 0 (entries (rowsOf t k)) (linksOf t k)
+
+-- it has these lines
+pub record Holds (t : Bytes) (k : ℕ) (lines : List String) : Type 0 where
+  pub table : IsTable t k
+  pub rows : entries (rowsOf t k) ≡ entriesOf lines
+
+-- the required columns of table k are these
+pub record Wants (t : Bytes) (k : ℕ) (names : List String) : Type 0 where
+  pub starts : wantedAt t k ≤ wantedAt t (k + 1)
+  pub ends : wantedAt t (k + 1) ≤ length t
+  pub wanted : cells (wantedOf t k) ≡ map bytes names
+
+-- a text holds a book
+pub record IsText (b : Book) (t : Bytes) : Type 0 where
+  pub directory : IsDirectory b t
+  pub keys : Holds t 0 (b .keys)
+  pub columns : (j : ℕ) → j < length (b .sections) → Holds t (j + 1) ((getD (b .sections) j noSection) .columns)
+  pub wanted : (j : ℕ) → j < length (b .sections) → Wants t (j + 1) ((getD (b .sections) j noSection) .required)
+
+-- the book that a text says it holds, and that it does
+unfoldable pub bookIn : Bytes → Book
+bookIn t = mzTab
+
+abbrev pub HasDirectory : Bytes → Type 0
+HasDirectory t = IsDirectory (bookIn t) t
+
+abbrev pub IsBook : Bytes → Type 0
+IsBook t = IsText (bookIn t) t
+
+-- HOW A BOOK IS LAID OUT
+
+-- a line with spaces after it, n bytes in all
+unfoldable pub padded : ℕ → Bytes → Bytes
+padded zero line = []
+padded (suc n) [] = SPACE ∷ padded n []
+padded (suc n) (x ∷ line) = x ∷ padded n line
+
+-- lines laid out as rows, one after the other
+unfoldable pub laid : List String → Bytes
+laid [] = []
+laid (line ∷ lines) = padded WIDTH (bytes line) ++ laid lines
+
+-- names with tabs between them
+unfoldable pub tabbed : List String → Bytes
+tabbed [] = []
+tabbed (n ∷ []) = bytes n
+tabbed (n ∷ m ∷ ns) = bytes n ++ (TAB ∷ tabbed (m ∷ ns))
+
+-- the tables in their order: the keys, with the code of metadata lines, and the sections
+abbrev pub tablesOf : Book → List Section
+tablesOf b = section "MTD" "MTD" (b .keys) [] ∷ b .sections
+
+unfoldable pub allRows : List Section → Bytes
+allRows [] = []
+allRows (s ∷ ss) = laid (s .columns) ++ allRows ss
+
+unfoldable pub allWanted : List Section → Bytes
+allWanted [] = []
+allWanted (s ∷ ss) = tabbed (s .required) ++ allWanted ss
+
+-- a number in two bytes
+abbrev pub two : ℕ → Bytes
+two n = n % 256 ∷ n / 256 ∷ []
+
+-- the entries of these tables, whose rows, required columns and links begin at these places, and the places where they end
+unfoldable pub entriesFrom : ℕ → ℕ → ℕ → List Section → Bytes
+entriesFrom r w l [] = bytes "      " ++ (two r ++ (two w ++ two l))
+entriesFrom r w l (s ∷ ss) =
+    bytes (s .header) ++ (bytes (s .row) ++ (two r ++ (two w ++ (two l ++
+    entriesFrom (r + WIDTH * length (s .columns)) (w + length (tabbed (s .required))) (l + (HEADS + length (s .columns))) ss))))
+
+-- the directory of a book whose text has so many bytes before the rows, the required columns and the links
+unfoldable pub directoryOf : Book → ℕ → ℕ → ℕ → Bytes
+directoryOf b r w l = b .first ∷ length (b .sections) ∷ entriesFrom r w l (tablesOf b)
+
+-- THE TEXT of the one book: where its directory, its rows, its required columns and its links end
+abbrev pub DIRECTORY : ℕ
+DIRECTORY = 74
+
+abbrev pub ROWS : ℕ
+ROWS = 8012
+
+abbrev pub WANTED : ℕ
+WANTED = 8157
+
+abbrev pub LINKS : ℕ
+LINKS = 9584
+
+unfoldable pub directoryText : Bytes
+directoryText = directoryOf mzTab DIRECTORY ROWS WANTED
+
+-- all that stands in front of the links
+unfoldable pub laidOut : Bytes
+laidOut = directoryText ++ (allRows (tablesOf mzTab) ++ allWanted (tablesOf mzTab))

@@ -1,0 +1,237 @@
+// A book laid out in one text: a directory, the rows of all tables, the required columns, and the links of each table.
+use crate::directory::directory;
+use crate::directory::links_at;
+use crate::directory::rows_at;
+use names::links::link;
+ghost use mathlib.Core.Path.{_≡_};
+ghost use mathlib.Core.List.{_++_};
+ghost use Prim.Native.Nat.{_+_, _≤_};
+ghost use lib.ListN.{length, take};
+ghost use Rattle.book.specs.Book.{mzTab};
+ghost use Rattle.book.specs.Text.{WANTED as front-end, LINKS as all-end, tablesOf, allRows, allWanted, IsBook, laidOut};
+
+// Where the directory, the rows, the required columns and the links end.
+const DIRECTORY: usize = 74;
+
+const ROWS: usize = 8012;
+
+const WANTED: usize = 8157;
+
+const LINKS: usize = 9584;
+
+// How many tables there are: the keys, and the columns of each section.
+const TABLES: usize = 5;
+
+// Copies bytes into a text, from `at` on.
+fn lay(text: &mut [u8], at: usize, bytes: &[u8])
+    requires { ⌜ at + length (now bytes) ≤ length (now text) ⌝ }
+    ensures { λ _. ⌜ length (now (text .exit)) ≡ length (now (text .entry)) ⌝ }
+    ensures { λ _. ⌜ take (at + length (now (bytes .entry))) (now (text .exit)) ≡ take at (now (text .entry)) ++ now (bytes .entry) ⌝ }
+{
+    let mut i = 0;
+    while i < bytes.len() {
+        text[at + i] = bytes[i];
+        i += 1;
+    }
+}
+
+// The links of each table, by what stands in front of them.
+fn link_tables(text: &mut [u8], front: &[u8])
+    requires { ⌜ length (now text) ≡ all-end ⌝ }
+    requires { ⌜ take front-end (now text) ≡ laidOut ⌝ }
+    requires { ⌜ now front ≡ now text ⌝ }
+    ensures { λ _. ⌜ IsBook (now (text .exit)) ⌝ }
+{
+    let mut k = 0;
+    while k < TABLES {
+        let from = rows_at(front, k);
+        let to = rows_at(front, k + 1);
+        let at = links_at(front, k);
+        link(text, at, &front[from..to]);
+        k += 1;
+    }
+}
+
+// The whole book. A caller holds it and lends it to the look-ups.
+pub fn book() -> [u8; 9584]
+    ensures { λ r. ⌜ IsBook r ⌝ }
+{
+    let mut text = [0u8; LINKS];
+    let head = directory();
+    lay(&mut text, 0, &head);
+    let rows = rows();
+    lay(&mut text, DIRECTORY, &rows);
+    let wanted = wanted();
+    lay(&mut text, ROWS, &wanted);
+    let front = text;
+    link_tables(&mut text, &front);
+    text
+}
+
+// The rows of all tables.
+fn rows() -> [u8; 7938]
+    ensures { λ r. ⌜ r ≡ allRows (tablesOf mzTab) ⌝ }
+{
+    BOOK
+}
+
+// The required columns of the sections, with tabs between them.
+fn wanted() -> [u8; 145]
+    ensures { λ r. ⌜ r ≡ allWanted (tablesOf mzTab) ⌝ }
+{
+    *b"\
+    accession\tdescription\tdatabase\tsearch_engine\
+    sequence\taccession\tcharge\tmass_to_charge\
+    sequence\tPSM_ID\taccession\tcharge\tspectra_ref\
+    identifier\tcharge"
+}
+
+// The 61 metadata keys, then the columns of the sections: 22, 20, 20 and 24.
+const BOOK: [u8; 7938] = *b"\
+    v- mzTab-version                                      \
+    m- mzTab-mode                                         \
+    t- mzTab-type                                         \
+    T- mzTab-ID                                           \
+    T- title                                              \
+    T- description                                        \
+    T- software[n]-setting[n]                             \
+    T- publication[n]                                     \
+    T- contact[n]-name                                    \
+    T- contact[n]-affiliation                             \
+    T- contact[n]-email                                   \
+    T- uri[n]                                             \
+    T- fixed_mod[n]-site                                  \
+    T- fixed_mod[n]-position                              \
+    T- variable_mod[n]-site                               \
+    T- variable_mod[n]-position                           \
+    T- ms_run[n]-location                                 \
+    T- sample[n]-description                              \
+    T- assay[n]-quantification_mod[n]-site                \
+    T- assay[n]-quantification_mod[n]-position            \
+    T- study_variable[n]-description                      \
+    T- cv[n]-label                                        \
+    T- cv[n]-full_name                                    \
+    T- cv[n]-version                                      \
+    T- cv[n]-url                                          \
+    T- colunit-protein                                    \
+    T- colunit-peptide                                    \
+    T- colunit-psm                                        \
+    T- colunit-small_molecule                             \
+    P- instrument[n]-name                                 \
+    P- instrument[n]-source                               \
+    P- instrument[n]-analyzer[n]                          \
+    P- instrument[n]-detector                             \
+    P- software[n]                                        \
+    P- protein_search_engine_score[n]                     \
+    P- peptide_search_engine_score[n]                     \
+    P- psm_search_engine_score[n]                         \
+    P- smallmolecule_search_engine_score[n]               \
+    P- fixed_mod[n]                                       \
+    P- variable_mod[n]                                    \
+    P- quantification_method                              \
+    P- protein-quantification_unit                        \
+    P- peptide-quantification_unit                        \
+    P- small_molecule-quantification_unit                 \
+    P- ms_run[n]-format                                   \
+    P- ms_run[n]-id_format                                \
+    P- ms_run[n]-fragmentation_method                     \
+    P- custom[n]                                          \
+    P- sample[n]-species[n]                               \
+    P- sample[n]-tissue[n]                                \
+    P- sample[n]-cell_type[n]                             \
+    P- sample[n]-disease[n]                               \
+    P- sample[n]-custom[n]                                \
+    P- assay[n]-quantification_reagent                    \
+    P- assay[n]-quantification_mod[n]                     \
+    Q- sample_processing[n]                               \
+    Q- false_discovery_rate                               \
+    rS assay[n]-sample_ref                                \
+    rR assay[n]-ms_run_ref                                \
+    lA study_variable[n]-assay_refs                       \
+    lS study_variable[n]-sample_refs                      \
+    K- accession                                          \
+    T- description                                        \
+    T- species                                            \
+    T- database                                           \
+    T- database_version                                   \
+    T- ambiguity_members                                  \
+    T- modifications                                      \
+    T- uri                                                \
+    T- go_terms                                           \
+    W- taxid                                              \
+    WR num_psms_ms_run[n]                                 \
+    WR num_peptides_distinct_ms_run[n]                    \
+    WR num_peptides_unique_ms_run[n]                      \
+    R- reliability                                        \
+    D- protein_coverage                                   \
+    D- best_search_engine_score[n]                        \
+    DR search_engine_score[n]_ms_run[n]                   \
+    DA protein_abundance_assay[n]                         \
+    DV protein_abundance_study_variable[n]                \
+    DV protein_abundance_stdev_study_variable[n]          \
+    DV protein_abundance_std_error_study_variable[n]      \
+    Q- search_engine                                      \
+    T- accession                                          \
+    T- database                                           \
+    T- database_version                                   \
+    T- modifications                                      \
+    T- uri                                                \
+    K- sequence                                           \
+    T- spectra_ref                                        \
+    W- charge                                             \
+    R- reliability                                        \
+    U- unique                                             \
+    D- mass_to_charge                                     \
+    D- best_search_engine_score[n]                        \
+    DR search_engine_score[n]_ms_run[n]                   \
+    DA peptide_abundance_assay[n]                         \
+    DV peptide_abundance_study_variable[n]                \
+    DV peptide_abundance_stdev_study_variable[n]          \
+    DV peptide_abundance_std_error_study_variable[n]      \
+    L- retention_time                                     \
+    N- retention_time_window                              \
+    Q- search_engine                                      \
+    T- accession                                          \
+    T- database                                           \
+    T- database_version                                   \
+    T- modifications                                      \
+    T- uri                                                \
+    K- sequence                                           \
+    K- PSM_ID                                             \
+    T- spectra_ref                                        \
+    T- pre                                                \
+    T- post                                               \
+    T- start                                              \
+    T- end                                                \
+    W- charge                                             \
+    R- reliability                                        \
+    U- unique                                             \
+    D- exp_mass_to_charge                                 \
+    D- calc_mass_to_charge                                \
+    D- search_engine_score[n]                             \
+    L- retention_time                                     \
+    Q- search_engine                                      \
+    T- description                                        \
+    T- species                                            \
+    T- database                                           \
+    T- database_version                                   \
+    T- modifications                                      \
+    T- uri                                                \
+    T- spectra_ref                                        \
+    T- identifier                                         \
+    T- chemical_formula                                   \
+    T- smiles                                             \
+    T- inchi_key                                          \
+    T- reliability                                        \
+    W- taxid                                              \
+    W- charge                                             \
+    D- exp_mass_to_charge                                 \
+    D- calc_mass_to_charge                                \
+    D- best_search_engine_score[n]                        \
+    DR search_engine_score[n]_ms_run[n]                   \
+    DA smallmolecule_abundance_assay[n]                   \
+    DV smallmolecule_abundance_study_variable[n]          \
+    DV smallmolecule_abundance_stdev_study_variable[n]    \
+    DV smallmolecule_abundance_std_error_study_variable[n]\
+    L- retention_time                                     \
+    Q- search_engine                                      ";
