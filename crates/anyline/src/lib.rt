@@ -1,13 +1,13 @@
 // Judging one line by its sort, from the state that stands for the lines above.
-use scan::places::put_if;
-use rules::sorts::Sort;
-use rules::sorts::sort_of;
-use scan::state::State;
-use scan::state::after_header;
-use scan::state::after_row;
 use headline::judge_head;
 use metaline::judge_meta;
 use rowline::judge_row;
+use rules::sorts::Sort;
+use rules::sorts::sort_of;
+use scan::places::put_if;
+use scan::state::State;
+use scan::state::after_header;
+use scan::state::after_row;
 use text::cells::count_cells;
 ghost use mathlib.Core.Path.{_≡_};
 ghost use Prim.Native.Nat.{_≤_};
@@ -15,7 +15,7 @@ ghost use lib.ListN.{length};
 ghost use Rattle.text.specs.Lines.{LIMIT};
 ghost use Rattle.rules.specs.Sorts.{controlCell};
 ghost use Rattle.scan.specs.Places.{lent, Puts};
-ghost use Rattle.book.specs.Rows.{IsBook};
+ghost use Rattle.book.specs.Text.{IsBook};
 ghost use Rattle.ids.specs.Ids.{Flags};
 ghost use Rattle.stamps.specs.Stamps.{ROOM};
 ghost use Rattle.scan.specs.Machine.{SLOTS, idsOf, unknownBreaks};

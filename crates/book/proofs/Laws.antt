@@ -2,4 +2,5 @@
 pub mod Columns
 pub mod Apart
 pub mod Sized
+pub mod Directing
 pub mod Laying

@@ -108,11 +108,11 @@ mzTab =
     record {
       first = 1;
       sections =
-      section "PRH" "PRT" proteinColumns proteinRequired
-      ∷ section "PEH" "PEP" peptideColumns peptideRequired
-      ∷ section "PSH" "PSM" psmColumns psmRequired
-      ∷ section "SMH" "SML" moleculeColumns moleculeRequired
-      ∷ [];
+          section "PRH" "PRT" proteinColumns proteinRequired
+          ∷ section "PEH" "PEP" peptideColumns peptideRequired
+          ∷ section "PSH" "PSM" psmColumns psmRequired
+          ∷ section "SMH" "SML" moleculeColumns moleculeRequired
+          ∷ [];
       keys = keys;
       demanded = demanded;
     }

@@ -9,7 +9,7 @@ use text::bytes::seek;
 use text::lines::LF;
 ghost use Prim.Native.Nat.{_≤_};
 ghost use lib.ListN.{length};
-ghost use Rattle.book.specs.Rows.{IsBook};
+ghost use Rattle.book.specs.Text.{IsBook};
 
 // One byte more, where there is room.
 fn push(out: &mut [u8], at: usize, b: u8) -> usize

@@ -1,20 +1,20 @@
 // The column names of a header, each judged by what the book says of it.
 use book::column;
 use book::is_opt;
+use kinds::family_number;
+use names::Found;
 use scan::places::both;
 use scan::places::either;
 use scan::places::put_if;
-use kinds::family_number;
-use names::Found;
 use stamps::came_before;
 use text::cells::cell_end;
 ghost use mathlib.Core.Path.{_≡_};
 ghost use Prim.Native.Nat.{_+_, _-_, _≤_, _<_};
 ghost use lib.ListN.{length, drop, set};
 ghost use Rattle.text.specs.Lines.{LIMIT, cells};
-ghost use Rattle.book.specs.Rows.{IsBook};
+ghost use Rattle.book.specs.Text.{IsBook};
 ghost use Rattle.names.specs.Names.{isKnown};
-ghost use Rattle.book.specs.Columns.{columnOf};
+ghost use Rattle.book.specs.Book.{columnOf};
 ghost use Rattle.scan.specs.Places.{lent, Puts};
 ghost use Rattle.rules.specs.Rules.{lastIndex, kindIn};
 ghost use Rattle.scan.specs.Machine.{idsOf, columnIn, eachCell, nameCell, headCell, KindsOf, Within, knownBreaks};

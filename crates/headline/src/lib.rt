@@ -1,14 +1,14 @@
 // Judging a header: rules 1 and 9 to 16, put into the lent places.
-use scan::places::put_if;
 use headcells::head_cells;
 use headnames::lacks;
+use scan::places::put_if;
 use text::cells::cell_end;
 use text::cells::count_cells;
 ghost use mathlib.Core.Path.{_≡_};
 ghost use Prim.Native.Nat.{_≤_, _<_};
 ghost use lib.ListN.{length, drop};
 ghost use Rattle.text.specs.Lines.{LIMIT, cells};
-ghost use Rattle.book.specs.Rows.{IsBook};
+ghost use Rattle.book.specs.Text.{IsBook};
 ghost use Rattle.scan.specs.Places.{lent, Puts};
 ghost use Rattle.scan.specs.Machine.{idsOf, headBreaks, headFirst, nameBreaks};
 ghost use Rattle.stamps.specs.Stamps.{ROOM as room};

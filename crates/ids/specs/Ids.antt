@@ -6,31 +6,23 @@ use mathlib.Core.List.{List, [], _∷_, _++_, map}
 use lib.Dec.{eqb}
 use lib.ListN.{length, getD, drop, set}
 use Rattle.text.specs.Bytes.{Bytes, bytes, begins, any}
-use Rattle.text.specs.Lines.{lines, cells, coded}
+use Rattle.text.specs.Lines.{lines, isField, keyCell}
 use Rattle.references.specs.Index.{written, indexAt}
 use Rattle.references.specs.References.{families, family}
 use Rattle.references.specs.declared.index.Index.{Index}
 use Rattle.references.specs.declared.index.Index.the-variants.{Not, Is}
 use Rattle.names.specs.Names.{isKnown}
-use Rattle.book.specs.Keys.{keyOf}
+use Rattle.book.specs.Book.{Book, keyOf}
 use Rattle.ids.specs.declared.Id.{Id}
 use Rattle.ids.specs.declared.Id.the-variants.{Nothing, Of}
 
--- cell 2 of an MTD line
-abbrev pub keyCell : Bytes → Bytes
-keyCell line = getD (cells line) 1 []
-
--- an MTD line that has three cells
-unfoldable pub isMeta : Bytes → Bool
-isMeta line = coded (bytes "MTD") line && eqb (length (cells line)) 3
-
 -- whether a line declares id i of family f: an MTD line that has three cells and a known key beginning with it
-unfoldable pub declares : ℕ → ℕ → Bytes → Bool
-declares f i line = isMeta line && isKnown (keyOf (keyCell line)) && begins (family f ++ written i) (keyCell line)
+unfoldable pub declares : Book → ℕ → ℕ → Bytes → Bool
+declares b f i line = isField line && isKnown (keyOf b (keyCell line)) && begins (family f ++ written i) (keyCell line)
 
 -- whether any line of the file declares it
-unfoldable pub declared : Bytes → ℕ → ℕ → Bool
-declared file f i = any (declares f i) (lines file)
+unfoldable pub declared : Book → Bytes → ℕ → ℕ → Bool
+declared b file f i = any (declares b f i) (lines file)
 
 -- THE FLAGS
 
@@ -44,9 +36,9 @@ pub record Flags (t : List (List Bool)) : Type 0 where
   pub indices : (f : ℕ) → f < 4 → length (getD t f []) ≡ 64
 
 -- they say of every id whether the file declares it
-pub record Declared (t : List (List Bool)) (file : Bytes) : Type 0 where
+pub record Declared (b : Book) (t : List (List Bool)) (file : Bytes) : Type 0 where
   pub shape : Flags t
-  pub flags : (f i : ℕ) → f < 4 → i < 64 → flag t f i ≡ declared file f (i + 1)
+  pub flags : (f i : ℕ) → f < 4 → i < 64 → flag t f i ≡ declared b file f (i + 1)
 
 -- WHAT THE CODE FINDS
 
@@ -69,12 +61,12 @@ unfoldable pub idOf : Bytes → Id
 idOf name = idIn 0 (map bytes families) name
 
 -- the id that a known key begins with
-unfoldable pub keyId : Bytes → Id
-keyId name = cond (isKnown (keyOf name)) (idOf name) Nothing
+unfoldable pub keyId : Book → Bytes → Id
+keyId b name = cond (isKnown (keyOf b name)) (idOf name) Nothing
 
 -- the id that a line declares
-unfoldable pub lineId : Bytes → Id
-lineId line = cond (isMeta line) (keyId (keyCell line)) Nothing
+unfoldable pub lineId : Book → Bytes → Id
+lineId b line = cond (isField line) (keyId b (keyCell line)) Nothing
 
 -- the flags with the id's one set
 unfoldable pub marked : List (List Bool) → Id → List (List Bool)

@@ -10,7 +10,7 @@ use text::cells::has_code;
 use text::cells::nth_cell;
 use text::lines::line_at;
 ghost use mathlib.Core.Path.{_≡_};
-ghost use Rattle.book.specs.Rows.{IsBook};
+ghost use Rattle.book.specs.Text.{bookIn, IsBook};
 ghost use Rattle.ids.specs.Ids.{indexAfter, idOf, keyId, lineId, marked, Declared};
 
 // An id: its family, 0 sample, 1 assay, 2 study variable, 3 run, and its index.
@@ -59,7 +59,7 @@ pub fn id_of(name: &[u8]) -> Id
 // The id that a known key begins with.
 pub fn key_id(book: &[u8], name: &[u8]) -> Id
     requires { ⌜ IsBook (now book) ⌝ }
-    ensures { λ r. ⌜ r ≡ keyId (now (name .entry)) ⌝ }
+    ensures { λ r. ⌜ r ≡ keyId (bookIn (now (book .entry))) (now (name .entry)) ⌝ }
 {
     let id = id_of(name);
     if let Id::Nothing = id {
@@ -80,7 +80,7 @@ pub fn key_id(book: &[u8], name: &[u8]) -> Id
 // The id that the line declares.
 pub fn line_id(book: &[u8], line: &[u8]) -> Id
     requires { ⌜ IsBook (now book) ⌝ }
-    ensures { λ r. ⌜ r ≡ lineId (now (line .entry)) ⌝ }
+    ensures { λ r. ⌜ r ≡ lineId (bookIn (now (book .entry))) (now (line .entry)) ⌝ }
 {
     if !has_code(line, b"MTD") {
         return Id::Nothing;
@@ -97,7 +97,7 @@ pub fn line_id(book: &[u8], line: &[u8]) -> Id
 // The flags, with that of the id that the line declares.
 fn mark_line(flags: &mut [[bool; 64]; 4], book: &[u8], line: &[u8])
     requires { ⌜ IsBook (now book) ⌝ }
-    ensures { λ _. ⌜ now (flags .exit) ≡ marked (now (flags .entry)) (lineId (now (line .entry))) ⌝ }
+    ensures { λ _. ⌜ now (flags .exit) ≡ marked (now (flags .entry)) (lineId (bookIn (now (book .entry))) (now (line .entry))) ⌝ }
 {
     match line_id(book, line) {
         Id::Nothing => {}
@@ -108,7 +108,7 @@ fn mark_line(flags: &mut [[bool; 64]; 4], book: &[u8], line: &[u8])
 // Which ids the file declares: index i of a family at place i - 1. One pass over all lines.
 pub fn declared_ids(book: &[u8], file: &[u8]) -> [[bool; 64]; 4]
     requires { ⌜ IsBook (now book) ⌝ }
-    ensures { λ r. ⌜ Declared r (now (file .entry)) ⌝ }
+    ensures { λ r. ⌜ Declared (bookIn (now (book .entry))) r (now (file .entry)) ⌝ }
 {
     let mut flags = [[false; 64]; 4];
     let mut at = 0;

@@ -1,15 +1,15 @@
 // Judging a file in parts, each of as many breaks as a lent list has room for, or in one.
 use anyline::judge_line;
+use ending::judge_end;
 use scan::state::State;
 use scan::state::start;
-use ending::judge_end;
 use text::lines::line_at;
 ghost use mathlib.Core.Path.{_≡_};
 ghost use mathlib.Core.Bool.{true};
 ghost use Prim.Native.Nat.{_≤_};
 ghost use lib.ListN.{length};
 ghost use Rattle.text.specs.Lines.{LIMIT};
-ghost use Rattle.book.specs.Rows.{IsBook};
+ghost use Rattle.book.specs.Text.{IsBook};
 ghost use Rattle.ids.specs.Ids.{Declared};
 ghost use Rattle.scan.specs.Machine.{SLOTS};
 ghost use Rattle.stamps.specs.Stamps.{ROOM};

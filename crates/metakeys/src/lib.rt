@@ -1,8 +1,8 @@
 // A metadata key, as the book finds it: what it and its value break, and its slot among the keys that came before.
 use book::is_colunit;
-use scan::places::both;
 use metavalues::judge_value;
 use names::Found;
+use scan::places::both;
 ghost use mathlib.Core.Path.{_≡_};
 ghost use Prim.Native.Nat.{_<_};
 ghost use lib.ListN.{length};

@@ -1,8 +1,8 @@
 // Judging a metadata line: rules 1 and 3 to 8, put into the lent places.
 use book::key;
-use scan::places::put_if;
 use metakeys::judge_key;
 use metakeys::mark;
+use scan::places::put_if;
 use text::cells::cell_end;
 use text::cells::count_cells;
 ghost use mathlib.Core.Path.{_≡_};
@@ -11,9 +11,9 @@ ghost use mathlib.Core.List.{[]};
 ghost use Prim.Native.Nat.{_≤_};
 ghost use lib.ListN.{length, getD, drop};
 ghost use Rattle.text.specs.Lines.{cells};
-ghost use Rattle.book.specs.Keys.{keyOf};
+ghost use Rattle.book.specs.Book.{keyOf};
 ghost use Rattle.ids.specs.Ids.{Flags};
-ghost use Rattle.book.specs.Rows.{IsBook};
+ghost use Rattle.book.specs.Text.{IsBook};
 ghost use Rattle.rules.specs.Sorts.{sortOf};
 ghost use Rattle.rules.specs.Breaks.{breakAt, when};
 ghost use Rattle.scan.specs.Places.{lent, Puts};

@@ -1,10 +1,10 @@
 // A metadata value, by the letters of its key: whether it is of its kind, and whether it names an undeclared id.
-use scan::places::both;
 use kinds::family_number;
 use kinds::of_kind;
 use kinds::reference_to;
 use kinds::references_to;
 use references::INDICES;
+use scan::places::both;
 ghost use mathlib.Core.Path.{_≡_};
 ghost use Prim.Native.Nat.{_≤_};
 ghost use Rattle.book.specs.Letters.{REFERENCE as reference, REFERENCES as references};

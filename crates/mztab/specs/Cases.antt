@@ -5,7 +5,7 @@ use Rattle.numbers.specs.Numbers.{NO-ROW, NO-CELL}
 use Rattle.text.specs.Bytes.{Bytes, bytes, same, onFirst, splitOn}
 use Rattle.text.specs.Lines.{lines, startsLf, coded}
 use Rattle.text.specs.Places.{after}
-use Rattle.text.specs.Codes.{codeFor, headerCode, rowCode}
+use Rattle.book.specs.Book.{codeFor, headerCode, rowCode}
 use Rattle.rows.specs.Rows.{numbered, having, rowOf, columnOf}
 use Rattle.mztab.specs.Shown.{refused, sought}
 

@@ -9,7 +9,7 @@ use lib.Dec.{ltb}
 use Rattle.numbers.specs.Numbers.{TOO-LONG, NO-SECTION, NO-ROW, NO-CELL}
 use Rattle.text.specs.Bytes.{Bytes, is}
 use Rattle.text.specs.Lines.{LIMIT, TAB, LF}
-use Rattle.text.specs.Codes.{isSection}
+use Rattle.book.specs.Book.{isSection}
 use Rattle.text.specs.Places.{part, after}
 use Rattle.rows.specs.Rows.{Line, rowOf, columnOf}
 use Rattle.mztab.specs.declared.cells.Place.{Place}

@@ -1,8 +1,8 @@
 // Judging a row: rules 1 and 17 to 20, put into the lent places.
+use kinds::cell_of_kind;
 use scan::places::both;
 use scan::places::either;
 use scan::places::put_if;
-use kinds::cell_of_kind;
 use text::cells::cell_end;
 use text::cells::count_cells;
 ghost use Prim.Native.Nat.{_+_, _≤_};

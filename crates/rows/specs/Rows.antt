@@ -8,7 +8,7 @@ use lib.ListN.{length, drop, getElem?}
 use lib.Dec.{eqb}
 use Rattle.text.specs.Bytes.{Bytes, same, count}
 use Rattle.text.specs.Lines.{TAB, LF, lines, cells, coded}
-use Rattle.text.specs.Codes.{codeFor, rowCode}
+use Rattle.book.specs.Book.{codeFor, rowCode}
 use Rattle.text.specs.Places.{part, after}
 use Rattle.text.specs.declared.Part.{Part}
 use Rattle.text.specs.declared.Part.the-variants.{At, Nothing}

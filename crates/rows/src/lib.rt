@@ -13,7 +13,7 @@ ghost use Prim.Native.Nat.{_≤_};
 ghost use lib.ListN.{length, getElem?};
 ghost use Rattle.text.specs.Bytes.{count};
 ghost use Rattle.text.specs.Lines.{LIMIT as limit, lines, coded};
-ghost use Rattle.text.specs.Codes.{isSection};
+ghost use Rattle.book.specs.Book.{isSection};
 ghost use Rattle.rows.specs.Rows.{numbered, having, rowOf, FindsRow, FindsColumn};
 ghost use Rattle.rows.specs.Counted.{counted, rowsIn};
 

@@ -6,7 +6,8 @@ use mathlib.Core.List.{List, [], _∷_, _++_}
 use mathlib.Core.Logic.{_⊎_}
 use lib.ListN.{length, getD, take}
 use Rattle.text.specs.Bytes.{Bytes}
-use Rattle.rules.specs.Sorts.{isSilent, width}
+use Rattle.text.specs.Lines.{width}
+use Rattle.rules.specs.Sorts.{isSilent}
 
 pub record Break : Type 0 where
   pub line : ℕ

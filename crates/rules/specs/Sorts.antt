@@ -1,41 +1,27 @@
--- What a line is: its sort by its code, and its cells by their numbers. Assumes nothing.
-use Prim.Native.Nat.{ℕ, _-_}
+-- What a line is, by its code. Assumes nothing.
+use Prim.Native.Nat.{ℕ}
 use mathlib.Core.Bool.{Bool, true, false, cond, _||_}
-use mathlib.Core.List.{[]}
-use lib.ListN.{length, getD}
 use lib.Dec.{ltb}
-use Rattle.text.specs.Bytes.{Bytes, same, is, isEmpty}
-use Rattle.text.specs.Lines.{cells, firstControl}
-use Rattle.text.specs.Codes.{headerCode, rowCode}
+use Rattle.text.specs.Bytes.{Bytes, is, isEmpty}
+use Rattle.text.specs.Lines.{cells, cell, firstControl}
+use Rattle.book.specs.Book.{Book, sectionBy}
 use Rattle.rules.specs.declared.sorts.Sort.{Sort}
 use Rattle.rules.specs.declared.sorts.Sort.the-variants.{Silent, Unknown, Meta, Header, Row}
 
--- cell c of a line, from 1
-unfoldable pub cell : ℕ → Bytes → Bytes
-cell c l = getD (cells l) (c - 1) []
+-- what a line code says in a book
+unfoldable pub codeSort : Book → Bytes → Sort
+codeSort b code =
+    cond (is code "COM") Silent
+    (cond (is code "MTD") Meta
+    (cond (ltb 0 (sectionBy b true code)) (Row (sectionBy b true code))
+    (cond (ltb 0 (sectionBy b false code)) (Header (sectionBy b false code)) Unknown)))
 
--- which of four codes this is, from 1; 0 where it is none of them
-abbrev pub sectionOf : Bytes → Bytes → Bytes → Bytes → Bytes → ℕ
-sectionOf first second third fourth code =
-    cond (same code first) 1 (cond (same code second) 2 (cond (same code third) 3 (cond (same code fourth) 4 0)))
-
--- the section whose rows, whose headers have this code; 0 for none
-unfoldable pub rowSection : Bytes → ℕ
-rowSection code = sectionOf (rowCode 1) (rowCode 2) (rowCode 3) (rowCode 4) code
-
-unfoldable pub headerSection : Bytes → ℕ
-headerSection code = sectionOf (headerCode 1) (headerCode 2) (headerCode 3) (headerCode 4) code
-
--- what a line code says
-unfoldable pub codeSort : Bytes → Sort
-codeSort code =
-    cond (ltb 0 (rowSection code)) (Row (rowSection code))
-    (cond (ltb 0 (headerSection code)) (Header (headerSection code))
-    (cond (is code "MTD") Meta (cond (is code "COM") Silent Unknown)))
+unfoldable pub sortOf : Book → Bytes → Sort
+sortOf b l = cond (isEmpty l) Silent (codeSort b (cell 1 l))
 
 -- an empty line, and a line whose cell 1 is exactly COM, is judged by no rule
-unfoldable pub sortOf : Bytes → Sort
-sortOf l = cond (isEmpty l) Silent (codeSort (cell 1 l))
+unfoldable pub isSilent : Bytes → Bool
+isSilent l = isEmpty l || is (cell 1 l) "COM"
 
 abbrev pub headerIn : Sort → ℕ
 headerIn (Header s) = s
@@ -51,20 +37,6 @@ rowIn Silent = 0
 rowIn Unknown = 0
 rowIn Meta = 0
 
-abbrev pub metaIn : Sort → Bool
-metaIn (Header s) = false
-metaIn (Row s) = false
-metaIn Silent = false
-metaIn Unknown = false
-metaIn Meta = true
-
-abbrev pub silentIn : Sort → Bool
-silentIn (Header s) = false
-silentIn (Row s) = false
-silentIn Silent = true
-silentIn Unknown = false
-silentIn Meta = false
-
 abbrev pub unknownIn : Sort → Bool
 unknownIn (Header s) = false
 unknownIn (Row s) = false
@@ -73,34 +45,24 @@ unknownIn Unknown = true
 unknownIn Meta = false
 
 -- the section whose header, whose row a line is; 0 where it is none
-abbrev pub header : Bytes → ℕ
-header l = headerIn (sortOf l)
+abbrev pub header : Book → Bytes → ℕ
+header b l = headerIn (sortOf b l)
 
-abbrev pub row : Bytes → ℕ
-row l = rowIn (sortOf l)
+abbrev pub row : Book → Bytes → ℕ
+row b l = rowIn (sortOf b l)
 
-abbrev pub isHeader : Bytes → Bool
-isHeader l = ltb 0 (header l)
+abbrev pub isHeader : Book → Bytes → Bool
+isHeader b l = ltb 0 (header b l)
 
-abbrev pub isRow : Bytes → Bool
-isRow l = ltb 0 (row l)
+abbrev pub isRow : Book → Bytes → Bool
+isRow b l = ltb 0 (row b l)
 
 -- a header or row of any section
-abbrev pub isTable : Bytes → Bool
-isTable l = isHeader l || isRow l
+abbrev pub isTable : Book → Bytes → Bool
+isTable b l = isHeader b l || isRow b l
 
-abbrev pub isMeta : Bytes → Bool
-isMeta l = metaIn (sortOf l)
-
-abbrev pub isSilent : Bytes → Bool
-isSilent l = silentIn (sortOf l)
-
-abbrev pub isUnknown : Bytes → Bool
-isUnknown l = unknownIn (sortOf l)
-
--- the number of its cells
-abbrev pub width : Bytes → ℕ
-width l = length (cells l)
+abbrev pub isUnknown : Book → Bytes → Bool
+isUnknown b l = unknownIn (sortOf b l)
 
 -- the cell of its first control byte; 0 where it has none
 abbrev pub controlCell : Bytes → ℕ

@@ -6,10 +6,11 @@ use mathlib.Core.List.{List, [], _∷_}
 use lib.ListN.{length, getD, set, take, drop}
 use lib.Dec.{ltb}
 use Rattle.text.specs.Bytes.{Bytes, any}
-use Rattle.text.specs.Lines.{cells, lines}
-use Rattle.rules.specs.Sorts.{sortOf, header, isTable, width, controlCell}
+use Rattle.text.specs.Lines.{cells, lines, width}
+use Rattle.book.specs.Book.{SECTIONS, Book}
+use Rattle.rules.specs.Sorts.{sortOf, header, isTable, controlCell}
 use Rattle.rules.specs.Breaks.{Break, spotAt, each, atLine, atEnd}
-use Rattle.rules.specs.Rules.{ofSection, ofLater, nearer, nearest, rules, endRules, ENDS}
+use Rattle.rules.specs.Rules.{ofSection, ofLater, nearer, nearest, rules, endRules, ends}
 use Rattle.scan.specs.Machine.{Ids, metaBreaks, headBreaks, rowBreaks, unknownBreaks, SLOTS, hasSlot, Slots, Kinds}
 use Rattle.scan.specs.declared.state.State.{State}
 use Rattle.rules.specs.declared.sorts.Sort.{Sort}
@@ -34,46 +35,46 @@ sortState (Header h) s w = afterHeader h w s
 sortState (Row r) s w = afterRow s
 
 -- the breaks of a line, by its sort
-abbrev pub sortBreaks : Sort → Ids → State → List ℕ → List Bool → ℕ → ℕ → List Bytes → List Break → List Break
-sortBreaks Silent ids s kinds slots cc n xs rest = rest
-sortBreaks Unknown ids s kinds slots cc n xs rest = unknownBreaks cc n rest
-sortBreaks Meta ids s kinds slots cc n xs rest = metaBreaks (s .table) slots ids cc n xs rest
-sortBreaks (Header h) ids s kinds slots cc n xs rest = headBreaks h (getD (s .seen) h false) (ltb h (s .highest)) ids cc n xs rest
-sortBreaks (Row r) ids s kinds slots cc n xs rest = rowBreaks (s .section) (s .width) kinds r cc n xs rest
+abbrev pub sortBreaks : Book → Sort → Ids → State → List ℕ → List Bool → ℕ → ℕ → List Bytes → List Break → List Break
+sortBreaks b Silent ids s kinds slots cc n xs rest = rest
+sortBreaks b Unknown ids s kinds slots cc n xs rest = unknownBreaks cc n rest
+sortBreaks b Meta ids s kinds slots cc n xs rest = metaBreaks b (s .table) slots ids cc n xs rest
+sortBreaks b (Header h) ids s kinds slots cc n xs rest = headBreaks b h (getD (s .seen) h false) (ltb h (s .highest)) ids cc n xs rest
+sortBreaks b (Row r) ids s kinds slots cc n xs rest = rowBreaks (s .section) (s .width) kinds r cc n xs rest
 
-abbrev pub lineBreaks : Ids → State → List ℕ → List Bool → ℕ → Bytes → List Break → List Break
-lineBreaks ids s kinds slots n l rest = sortBreaks (sortOf l) ids s kinds slots (controlCell l) n (cells l) rest
+abbrev pub lineBreaks : Book → Ids → State → List ℕ → List Bool → ℕ → Bytes → List Break → List Break
+lineBreaks b ids s kinds slots n l rest = sortBreaks b (sortOf b l) ids s kinds slots (controlCell l) n (cells l) rest
 
 -- what the state, the kinds of the nearest header's columns and the slots mean of the lines above
-pub record Stands (above : List Bytes) (s : State) (kinds : List ℕ) (slots : List Bool) : Type 0 where
-  pub seen : (i : ℕ) → 0 < i → i < 5 → getD (s .seen) i false ≡ any (ofSection i) above
-  pub sections : length (s .seen) ≡ 5
-  pub highest : (h : ℕ) → ltb h (s .highest) ≡ any (ofLater h) above
-  pub section : s .section ≡ header (nearest above)
-  pub width : s .width ≡ length (cells (nearest above))
-  pub table : s .table ≡ any isTable above
-  pub columns : Kinds (nearest above) kinds
-  pub keys : Slots above slots
+pub record Stands (b : Book) (above : List Bytes) (s : State) (kinds : List ℕ) (slots : List Bool) : Type 0 where
+  pub seen : (i : ℕ) → 0 < i → i < SECTIONS → getD (s .seen) i false ≡ any (ofSection b i) above
+  pub sections : length (s .seen) ≡ SECTIONS
+  pub highest : (h : ℕ) → ltb h (s .highest) ≡ any (ofLater b h) above
+  pub section : s .section ≡ header b (nearest b above)
+  pub width : s .width ≡ length (cells (nearest b above))
+  pub table : s .table ≡ any (isTable b) above
+  pub columns : Kinds b (nearest b above) kinds
+  pub keys : Slots b above slots
 
 -- how they change by one line
-pub record Follows (s : State) (kinds : List ℕ) (slots : List Bool) (l : Bytes) (s' : State) (kinds' : List ℕ) (slots' : List Bool) : Type 0 where
-  pub state : s' ≡ sortState (sortOf l) s (width l)
-  pub columns : (l₀ : Bytes) → Kinds l₀ kinds → Kinds (nearer l l₀) kinds'
-  pub keys : (i : ℕ) → i < SLOTS → getD slots' i false ≡ (getD slots i false || hasSlot i l)
+pub record Follows (b : Book) (s : State) (kinds : List ℕ) (slots : List Bool) (l : Bytes) (s' : State) (kinds' : List ℕ) (slots' : List Bool) : Type 0 where
+  pub state : s' ≡ sortState (sortOf b l) s (width l)
+  pub columns : (l₀ : Bytes) → Kinds b l₀ kinds → Kinds b (nearer b l l₀) kinds'
+  pub keys : (i : ℕ) → i < SLOTS → getD slots' i false ≡ (getD slots i false || hasSlot b i l)
   pub kind-places : length kinds' ≡ 256
   pub key-places : length slots' ≡ SLOTS
 
 -- the breaks of the lines after the first n, and those at the end
-abbrev pub from : List Bytes → ℕ → List Break
-from F n = each (length F - n) (suc n) (λ i. atLine rules (spotAt F i) i)
+abbrev pub from : Book → List Bytes → ℕ → List Break
+from b F n = each (length F - n) (suc n) (λ i. atLine (rules b) (spotAt F i) i)
 
-abbrev pub last : List Bytes → List Break
-last F = atEnd endRules ENDS F
+abbrev pub last : Book → List Bytes → List Break
+last b F = atEnd (endRules b) (ends b) F
 
 -- where a scan stands that has passed n lines: its place in the file, and what it carries
-pub record Scan (file : Bytes) (at n : ℕ) (s : State) (kinds : List ℕ) (slots : List Bool) : Type 0 where
+pub record Scan (b : Book) (file : Bytes) (at n : ℕ) (s : State) (kinds : List ℕ) (slots : List Bool) : Type 0 where
   pub within : at ≤ length file
   pub counted : n ≤ at
   pub passed : n ≤ length (lines file)
   pub left : lines (drop at file) ≡ drop n (lines file)
-  pub stands : Stands (take n (lines file)) s kinds slots
+  pub stands : Stands b (take n (lines file)) s kinds slots

@@ -8,16 +8,17 @@ use lib.ListN.{length, getD, take, drop}
 use lib.Dec.{eqb, leb, ltb}
 use Rattle.text.specs.Bytes.{Bytes, same, isEmpty, any}
 use Rattle.book.specs.Letters.{NONE}
+use Rattle.book.specs.Keys.{isColunit}
+use Rattle.book.specs.Book.{Book, keyOf, isOpt, columnOf}
 use Rattle.names.specs.Names.{slotOf, isKnown}
-use Rattle.book.specs.Keys.{keyOf, isColunit}
-use Rattle.book.specs.Columns.{columnOf, isOpt}
 use Rattle.ids.specs.Ids.{declares}
 use Rattle.kinds.specs.Kinds.{ofKind, cellOfKind, familyNumber}
 use Rattle.names.specs.declared.Found.{Found}
 use Rattle.names.specs.declared.Found.the-variants.{Unknown, Known}
-use Rattle.rules.specs.Sorts.{header, isMeta, width}
+use Rattle.text.specs.Lines.{width, isField}
+use Rattle.rules.specs.Sorts.{header}
 use Rattle.rules.specs.Breaks.{Break, breakAt, when}
-use Rattle.rules.specs.Rules.{isThree, keyFound, isWrong, lastIndex, lacksColumn, names, kindIn, namedIn}
+use Rattle.rules.specs.Rules.{keyFound, isWrong, lastIndex, lacksColumn, names, kindIn, namedIn}
 
 -- CELLS
 
@@ -55,21 +56,21 @@ undeclaredIn ids Unknown v = false
 undeclaredIn ids (Known e k f i j) v = ofKind k f v && any (λ i. not (ids (familyNumber f) i)) (namedIn k f v)
 
 -- the key and the value, cells 2 and 3
-abbrev pub metaCell : List Bool → Ids → Bytes → Bytes → ℕ → ℕ → ℕ → Bytes → List Break → List Break
-metaCell slots ids key value cc n c x rest =
+abbrev pub metaCell : Book → List Bool → Ids → Bytes → Bytes → ℕ → ℕ → ℕ → Bytes → List Break → List Break
+metaCell b slots ids key value cc n c x rest =
     controlAt cc n c
-    (when (eqb c 2 && not (isKnown (keyOf key))) (breakAt n c 5)
-    (when (eqb c 2 && againIn slots key (keyOf key)) (breakAt n c 6)
-    (when (eqb c 3 && isWrong (keyOf key) value) (breakAt n c 7)
-    (when (eqb c 3 && undeclaredIn ids (keyOf key) value) (breakAt n c 8) rest))))
+    (when (eqb c 2 && not (isKnown (keyOf b key))) (breakAt n c 5)
+    (when (eqb c 2 && againIn slots key (keyOf b key)) (breakAt n c 6)
+    (when (eqb c 3 && isWrong (keyOf b key) value) (breakAt n c 7)
+    (when (eqb c 3 && undeclaredIn ids (keyOf b key) value) (breakAt n c 8) rest))))
 
 -- an MTD line of the cells xs; `table` says whether a header or row stands above
-unfoldable pub metaBreaks : Bool → List Bool → Ids → ℕ → ℕ → List Bytes → List Break → List Break
-metaBreaks table slots ids cc n xs rest =
+unfoldable pub metaBreaks : Book → Bool → List Bool → Ids → ℕ → ℕ → List Bytes → List Break → List Break
+metaBreaks b table slots ids cc n xs rest =
     controlAt cc n 1
     (when (not (eqb (length xs) 3)) (breakAt n 1 3)
     (when table (breakAt n 1 4)
-    (cond (eqb (length xs) 3) (eachCell (metaCell slots ids (getD xs 1 []) (getD xs 2 []) cc n) 2 (drop 1 xs) rest) (plainRest cc n rest))))
+    (cond (eqb (length xs) 3) (eachCell (metaCell b slots ids (getD xs 1 []) (getD xs 2 []) cc n) 2 (drop 1 xs) rest) (plainRest cc n rest))))
 
 -- HEADERS
 
@@ -93,29 +94,29 @@ nameCell again opt ids found cc n c x rest =
     (when (not (isOpt x) && opt) (breakAt n c 14)
     (when (columnIn ids found) (breakAt n c 15) rest))
 
-abbrev pub headCell : ℕ → List Bytes → Ids → ℕ → ℕ → ℕ → Bytes → List Break → List Break
-headCell section ns ids cc n c x rest = nameCell (any (same x) (take (c - 2) ns)) (any isOpt (take (c - 2) ns)) ids (columnOf section x) cc n c x rest
+abbrev pub headCell : Book → ℕ → List Bytes → Ids → ℕ → ℕ → ℕ → Bytes → List Break → List Break
+headCell b section ns ids cc n c x rest = nameCell (any (same x) (take (c - 2) ns)) (any isOpt (take (c - 2) ns)) ids (columnOf b section x) cc n c x rest
 
 -- cell 1, where the names do not decide; `again` and `later` say whether a header of its section, of a later one stands above
 abbrev pub headFirst : Bool → Bool → Bool → ℕ → ℕ → List Break → List Break
 headFirst again later wide cc n rest = controlAt cc n 1 (when again (breakAt n 1 9) (when later (breakAt n 1 10) (when wide (breakAt n 1 11) rest)))
 
 -- the names: one rule at cell 1, and those at each
-abbrev pub nameBreaks : ℕ → Ids → ℕ → ℕ → List Bytes → List Break → List Break
-nameBreaks section ids cc n ns rest = when (lacksColumn section ns) (breakAt n 1 16) (eachCell (headCell section ns ids cc n) 2 ns rest)
+abbrev pub nameBreaks : Book → ℕ → Ids → ℕ → ℕ → List Bytes → List Break → List Break
+nameBreaks b section ids cc n ns rest = when (lacksColumn b section ns) (breakAt n 1 16) (eachCell (headCell b section ns ids cc n) 2 ns rest)
 
 -- a header of the cells xs
-unfoldable pub headBreaks : ℕ → Bool → Bool → Ids → ℕ → ℕ → List Bytes → List Break → List Break
-headBreaks section again later ids cc n xs rest =
+unfoldable pub headBreaks : Book → ℕ → Bool → Bool → Ids → ℕ → ℕ → List Bytes → List Break → List Break
+headBreaks b section again later ids cc n xs rest =
     let wide = ltb 256 (length xs) in
-    headFirst again later wide cc n (cond wide (plainRest cc n rest) (nameBreaks section ids cc n (drop 1 xs) rest))
+    headFirst again later wide cc n (cond wide (plainRest cc n rest) (nameBreaks b section ids cc n (drop 1 xs) rest))
 
 -- the kinds of a header's columns, cell c's at place c - 1
-abbrev pub KindsOf : ℕ → List Bytes → List ℕ → Type 0
-KindsOf section ns kinds = (i : ℕ) → i < length ns → getD kinds (i + 1) 0 ≡ kindIn (columnOf section (getD ns i []))
+abbrev pub KindsOf : Book → ℕ → List Bytes → List ℕ → Type 0
+KindsOf b section ns kinds = (i : ℕ) → i < length ns → getD kinds (i + 1) 0 ≡ kindIn (columnOf b section (getD ns i []))
 
-abbrev pub Kinds : Bytes → List ℕ → Type 0
-Kinds l kinds = width l ≤ 256 → KindsOf (header l) (names l) kinds
+abbrev pub Kinds : Book → Bytes → List ℕ → Type 0
+Kinds b l kinds = width l ≤ 256 → KindsOf b (header b l) (names l) kinds
 
 -- ROWS
 
@@ -157,16 +158,16 @@ isSlot s Unknown = false
 isSlot s (Known e k f i j) = eqb (slotOf e i j) s
 
 -- an MTD line of three cells whose key has this slot
-unfoldable pub hasSlot : ℕ → Bytes → Bool
-hasSlot s m = isMeta m && (isThree m && isSlot s (keyFound m))
+unfoldable pub hasSlot : Book → ℕ → Bytes → Bool
+hasSlot b s m = isField m && isSlot s (keyFound b m)
 
 -- the slots say which keys came before
-abbrev pub Slots : List Bytes → List Bool → Type 0
-Slots above slots = (s : ℕ) → s < SLOTS → getD slots s false ≡ any (hasSlot s) above
+abbrev pub Slots : Book → List Bytes → List Bool → Type 0
+Slots b above slots = (s : ℕ) → s < SLOTS → getD slots s false ≡ any (hasSlot b s) above
 
 -- the ids say what the file declares
-abbrev pub Declares : List Bytes → Ids → Type 0
-Declares file ids = (f i : ℕ) → f < 4 → 1 ≤ i → i ≤ 64 → ids f i ≡ any (declares f i) file
+abbrev pub Declares : Book → List Bytes → Ids → Type 0
+Declares b file ids = (f i : ℕ) → f < 4 → 1 ≤ i → i ≤ 64 → ids f i ≡ any (declares b f i) file
 
 -- REQUIRED METADATA, by the slots of all lines
 

@@ -2,7 +2,7 @@
 use mathlib.Core.Path.{_≡_, refl}
 use Rattle.text.specs.Bytes.{Bytes, bytes, same, onFirst, splitOn, count}
 use Rattle.text.specs.Lines.{lines, startsLf, coded}
-use Rattle.text.specs.Codes.{codeFor, headerCode, rowCode}
+use Rattle.book.specs.Book.{codeFor, headerCode, rowCode}
 use Rattle.references.specs.Index.{written}
 use Rattle.rows.specs.Rows.{numbered, having, rowOf, placeOf, columnOf}
 use Rattle.weights.specs.Weights.{hasIn, weightOf}

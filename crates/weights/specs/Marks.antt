@@ -7,7 +7,7 @@ use lib.ListN.{length, getD, set}
 use lib.Dec.{eqb}
 use Rattle.text.specs.Bytes.{Bytes, is}
 use Rattle.text.specs.Lines.{LIMIT, cells, coded}
-use Rattle.text.specs.Codes.{rowCode}
+use Rattle.book.specs.Book.{rowCode}
 use Rattle.references.specs.References.{refTo}
 use Rattle.fee.specs.Sums.{bit}
 use Rattle.weights.specs.Weights.{PROTEIN, WORD, VARIABLES}

@@ -9,7 +9,7 @@ use lib.Dec.{eqb, ltb}
 use Rattle.numbers.specs.Numbers.{TOO-LONG, NOT-ACCEPTED, NOT-AS-MANY}
 use Rattle.text.specs.Bytes.{Bytes, bytes, is, count}
 use Rattle.text.specs.Lines.{LIMIT, lines, coded}
-use Rattle.text.specs.Codes.{rowCode}
+use Rattle.book.specs.Book.{rowCode}
 use Rattle.references.specs.Index.{written}
 use Rattle.rows.specs.Rows.{headerOf, columnNamed, columnOf}
 use Rattle.rules.specs.Rules.{isAccepted}

@@ -7,8 +7,8 @@ use native.Mathlib.Omega.{arith}
 use lib.ListN.{length, getD}
 use borrow.Author.Tests.{lt-ltb}
 use Rattle.text.specs.Bytes.{Bytes}
-use Rattle.text.specs.Lines.{cells}
-use Rattle.rules.specs.Sorts.{sortOf, headerIn, metaIn, width, controlCell}
+use Rattle.text.specs.Lines.{cells, width}
+use Rattle.rules.specs.Sorts.{sortOf, headerIn, metaIn, controlCell}
 use Rattle.scan.specs.Places.{Lent, Puts}
 use Rattle.rules.specs.Rules.{names}
 use Rattle.scan.specs.Machine.{Ids, hasSlot, SLOTS, KindsOf}

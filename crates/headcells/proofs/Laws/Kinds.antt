@@ -8,7 +8,7 @@ use native.Mathlib.Omega.{arith}
 use lib.Seq.{getD-set-same, getD-set-other}
 use lib.ListN.{length, drop, getD, set}
 use Rattle.text.specs.Bytes.{Bytes}
-use Rattle.book.specs.Columns.{columnOf}
+use Rattle.book.specs.Book.{columnOf}
 use Rattle.rules.specs.Rules.{kindIn}
 use Rattle.scan.proofs.Laws.Celling.{column-here}
 

@@ -9,7 +9,7 @@ use borrow.Author.Needs.{needs}
 use lib.ListN.{length, take, drop, length-set}
 use Rattle.text.specs.Bytes.{Bytes, any, same}
 use Rattle.text.specs.Lines.{cells}
-use Rattle.book.specs.Columns.{isOpt, columnOf}
+use Rattle.book.specs.Book.{isOpt, columnOf}
 use Rattle.rules.specs.Breaks.{Break}
 use Rattle.scan.specs.Places.{lent, putAll}
 use Rattle.rules.specs.Rules.{kindIn}

@@ -10,7 +10,7 @@ use lib.ListN.{length, take, drop}
 use Rattle.text.specs.Bytes.{Bytes, bytes, any, all, onFirst, splitOn}
 use Rattle.text.specs.Lines.{cells}
 use Rattle.text.specs.Places.{Ends}
-use Rattle.book.specs.Columns.{required}
+use Rattle.book.specs.Book.{required}
 use Rattle.rules.specs.Rules.{among, lacksColumn}
 use Rattle.scan.proofs.Laws.Celling.{cell-here, cells-next, cells-last}
 use Rattle.headnames.specs.Wanted.{isIn}

@@ -10,14 +10,14 @@ use lib.ListN.{length, getD, getElem?, drop, set, replicate, length-set, getD-re
 use lib.Seq.{getD-set-same, getD-set-other}
 use borrow.Author.Tests.{eq-eqb, ne-eqb, eqb-true, eqb-false}
 use Rattle.text.specs.Bytes.{bytes, begins, any}
-use Rattle.text.specs.Lines.{lines, cells, coded}
+use Rattle.text.specs.Lines.{lines, cells, coded, isField, keyCell}
 use Rattle.text.specs.Places.{part, LineAt}
 use Rattle.text.proofs.Laws.Lines.{lines-done}
 use Rattle.references.specs.Index.{written}
 use Rattle.references.specs.References.{family}
-use Rattle.book.specs.Keys.{keyOf}
+use Rattle.book.specs.Book.{Book, keyOf}
 use Rattle.names.specs.Names.{isKnown}
-use Rattle.ids.specs.Ids.{keyCell, isMeta, declares, declared, flag, Flags, Declared, idOf, keyId, lineId, marked}
+use Rattle.ids.specs.Ids.{declares, declared, flag, Flags, Declared, idOf, keyId, lineId, marked}
 use Rattle.names.specs.declared.Found.{Found}
 use Rattle.names.specs.declared.Found.the-variants.{Unknown}
 use Rattle.ids.specs.declared.Id.{Id}
@@ -25,35 +25,35 @@ use Rattle.ids.specs.declared.Id.the-variants.{Nothing, Of}
 use Rattle.ids.proofs.Laws.Words.{isId, id-is, id-range}
 
 -- A KEY's id
-module _ (name : List ℕ) where
-  pub key-unknown : keyOf name ≡ Unknown → keyId name ≡ Nothing
+module _ (book : Book) (name : List ℕ) where
+  pub key-unknown : keyOf book name ≡ Unknown → keyId book name ≡ Nothing
   unfolding keyId
   key-unknown h = rw h
 
-  pub key-known : (f : Found) → keyOf name ≡ f → isKnown f ≡ true → keyId name ≡ idOf name
+  pub key-known : (f : Found) → keyOf book name ≡ f → isKnown f ≡ true → keyId book name ≡ idOf name
   unfolding keyId
   key-known f h k = rw (h, k)
 
-  pub key-none : idOf name ≡ Nothing → keyId name ≡ Nothing
+  pub key-none : idOf name ≡ Nothing → keyId book name ≡ Nothing
   unfolding keyId
-  key-none h = go (isKnown (keyOf name))
+  key-none h = go (isKnown (keyOf book name))
     where
       go : (t : Bool) → cond t (idOf name) Nothing ≡ Nothing
       go true = h
       go false = refl
 
 -- A LINE's id
-module _ (line : List ℕ) where
-  pub line-other : coded (bytes "MTD") line ≡ false → lineId line ≡ Nothing
-  unfolding lineId isMeta
+module _ (book : Book) (line : List ℕ) where
+  pub line-other : coded (bytes "MTD") line ≡ false → lineId book line ≡ Nothing
+  unfolding lineId isField
   line-other h = rw h
 
-  pub line-cells : (length (cells line) ≡ 3 → ⊥) → lineId line ≡ Nothing
-  unfolding lineId isMeta
+  pub line-cells : (length (cells line) ≡ 3 → ⊥) → lineId book line ≡ Nothing
+  unfolding lineId isField
   line-cells n = rw (ne-eqb (length (cells line)) 3 n, and-false (coded (bytes "MTD") line))
 
-  pub line-key : coded (bytes "MTD") line ≡ true → length (cells line) ≡ 3 → lineId line ≡ keyId (keyCell line)
-  unfolding lineId isMeta
+  pub line-key : coded (bytes "MTD") line ≡ true → length (cells line) ≡ 3 → lineId book line ≡ keyId book (keyCell line)
+  unfolding lineId isField
   line-key h e = rw (h, eq-eqb (length (cells line)) 3 e)
 
 pub second-none : (xs : List (List ℕ)) → getElem? xs 1 ≡ none → length xs ≡ 3 → ⊥
@@ -67,18 +67,18 @@ second-some (y ∷ []) x e = absurd (let z : _≡_ {A = ℕ} 0 1 = cc in omega a
 second-some (y ∷ z ∷ xs) x e = cc
 
 -- THE LAW: a line declares an id just where that is the id it is found to declare
-pub declares-is : (line : List ℕ) (f i : ℕ) → f < 4 → 1 ≤ i → i ≤ 64 → declares f i line ≡ isId (lineId line) f i
+pub declares-is : (book : Book) (line : List ℕ) (f i : ℕ) → f < 4 → 1 ≤ i → i ≤ 64 → declares book f i line ≡ isId (lineId book line) f i
 unfolding declares lineId keyId isId
-declares-is line f i hf lo hi = go (isMeta line) (isKnown (keyOf (keyCell line)))
+declares-is book line f i hf lo hi = go (isField line) (isKnown (keyOf book (keyCell line)))
   where
     go : (t u : Bool) → (t && u && begins (family f ++ written i) (keyCell line)) ≡ isId (cond t (cond u (idOf (keyCell line)) Nothing) Nothing) f i
     go true true = id-is (keyCell line) f i hf lo hi
     go true false = refl
     go false u = refl
 
-pub line-range : (line : List ℕ) (f i : ℕ) → lineId line ≡ Of f i → (f < 4) × (1 ≤ i) × (i ≤ 64)
+pub line-range : (book : Book) (line : List ℕ) (f i : ℕ) → lineId book line ≡ Of f i → (f < 4) × (1 ≤ i) × (i ≤ 64)
 unfolding lineId keyId
-line-range line f i h = go (isMeta line) (isKnown (keyOf (keyCell line))) h
+line-range book line f i h = go (isField line) (isKnown (keyOf book (keyCell line))) h
   where
     go : (t u : Bool) → cond t (cond u (idOf (keyCell line)) Nothing) Nothing ≡ Of f i → (f < 4) × (1 ≤ i) × (i ≤ 64)
     go true true e = id-range (keyCell line) f i e
@@ -159,29 +159,29 @@ module _ (t : List (List Bool)) (is : Flags t) (d : Id) (range : (f i : ℕ) →
           ∙ ap (λ (b : Bool). flag t f i || (eqb g f && b)) (shift j (r .1))
 
 -- ALL LINES: the flags so far and the lines that are left decide
-abbrev pub Left : List (List Bool) → List ℕ → ℕ → Type 0
-Left t file at = (f i : ℕ) → f < 4 → i < 64 → declared file f (i + 1) ≡ (flag t f i || any (declares f (i + 1)) (lines (drop at file)))
+abbrev pub Left : Book → List (List Bool) → List ℕ → ℕ → Type 0
+Left book t file at = (f i : ℕ) → f < 4 → i < 64 → declared book file f (i + 1) ≡ (flag t f i || any (declares book f (i + 1)) (lines (drop at file)))
 
-pub left-start : (file : List ℕ) → Left (replicate 4 (replicate 64 false)) file 0
+pub left-start : (book : Book) (file : List ℕ) → Left book (replicate 4 (replicate 64 false)) file 0
 unfolding declared
-left-start file f i hf hi = ap (λ (b : Bool). b || any (declares f (i + 1)) (lines file)) (sym (start-clear f i hf hi))
+left-start book file f i hf hi = ap (λ (b : Bool). b || any (declares book f (i + 1)) (lines file)) (sym (start-clear f i hf hi))
 
-pub left-next : (t : List (List Bool)) (file : List ℕ) (at end next : ℕ) → Flags t → LineAt file at end next → Left t file at
-    → Left (marked t (lineId (part at end file))) file next
+pub left-next : (book : Book) (t : List (List Bool)) (file : List ℕ) (at end next : ℕ) → Flags t → LineAt file at end next → Left book t file at
+    → Left book (marked t (lineId book (part at end file))) file next
 unfolding any
-left-next t file at end next is cut left f i hf hi =
+left-next book t file at end next is cut left f i hf hi =
     let line = part at end file in
-    let rest = any (declares f (i + 1)) (lines (drop next file)) in
+    let rest = any (declares book f (i + 1)) (lines (drop next file)) in
     left f i hf hi
-    ∙ ap (λ (ls : List (List ℕ)). flag t f i || any (declares f (i + 1)) ls) (cut .cut)
-    ∙ sym (or-assoc (flag t f i) (declares f (i + 1) line) rest)
-    ∙ ap (λ (b : Bool). (flag t f i || b) || rest) (declares-is line f (i + 1) hf (omega arith) (omega arith))
-    ∙ ap (λ (b : Bool). b || rest) (sym (marked-flag t is (lineId line) (line-range line) f i))
+    ∙ ap (λ (ls : List (List ℕ)). flag t f i || any (declares book f (i + 1)) ls) (cut .cut)
+    ∙ sym (or-assoc (flag t f i) (declares book f (i + 1) line) rest)
+    ∙ ap (λ (b : Bool). (flag t f i || b) || rest) (declares-is book line f (i + 1) hf (omega arith) (omega arith))
+    ∙ ap (λ (b : Bool). b || rest) (sym (marked-flag t is (lineId book line) (line-range book line) f i))
 
-pub left-done : (t : List (List Bool)) (file : List ℕ) (at : ℕ) → length file ≤ at → Flags t → Left t file at → Declared t file
+pub left-done : (book : Book) (t : List (List Bool)) (file : List ℕ) (at : ℕ) → length file ≤ at → Flags t → Left book t file at → Declared book t file
 unfolding any
-left-done t file at h is left =
+left-done book t file at h is left =
     record {
       shape = is;
-      flags = λ f i hf hi. sym (left f i hf hi ∙ ap (λ (ls : List (List ℕ)). flag t f i || any (declares f (i + 1)) ls) (lines-done file at h) ∙ or-false (flag t f i));
+      flags = λ f i hf hi. sym (left f i hf hi ∙ ap (λ (ls : List (List ℕ)). flag t f i || any (declares book f (i + 1)) ls) (lines-done file at h) ∙ or-false (flag t f i));
     }

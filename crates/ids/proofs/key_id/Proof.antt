@@ -8,19 +8,19 @@ use Rattle.ids.proofs.key_id.Tie as tie
 returns : tie.Need-returns
 returns c =
     let d = c .before .before in
-    sym (key-none (d .before .before .before .args .name .now) (sym (d .id-of .ensures) ∙ c .enum-told .given .1))
+    sym (key-none _ (d .before .before .before .args .name .now) (sym (d .id-of .ensures) ∙ c .enum-told .given .1))
 
 returns-2 : tie.Need-returns-2
 returns-2 c =
     let k = c .before .before in
     let d = k .before .before .before in
-    sym (key-unknown (d .before .before .before .args .name .now) (sym (k .key .ensures) ∙ c .enum-told3 .given .1))
+    sym (key-unknown _ (d .before .before .before .args .name .now) (sym (k .key .ensures) ∙ c .enum-told3 .given .1))
 
 returns-3 : tie.Need-returns-3
 returns-3 c =
     let k = c .before .before in
     let d = k .before .before .before in
-    d .id-of .ensures ∙ sym (key-known (d .before .before .before .args .name .now) _ (sym (k .key .ensures) ∙ c .enum-told4 .given .1) refl)
+    d .id-of .ensures ∙ sym (key-known _ (d .before .before .before .args .name .now) _ (sym (k .key .ensures) ∙ c .enum-told4 .given .1) refl)
 
 pub key-id-spec : {M : Type 1} → statement M
 key-id-spec =

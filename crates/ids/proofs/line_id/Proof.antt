@@ -32,20 +32,20 @@ cell c =
 
 returns : tie.Need-returns
 unfolding bytes
-returns c = let h = c .before in sym (line-other (line h) (sym (h .has-code .ensures) ∙ not-true (h .has-code .result) (c .if1 .taken)))
+returns c = let h = c .before in sym (line-other _ (line h) (sym (h .has-code .ensures) ∙ not-true (h .has-code .result) (c .if1 .taken)))
 
 returns-2 : tie.Need-returns-2
 returns-2 c =
     let n = c .before .before in
     let l = line (n .before .before) in
     let e = missing l 1 (n .nth-cell .result) (c .enum-told .given .1) (n .nth-cell .ensures) in
-    sym (line-cells l (second-none (cells l) e))
+    sym (line-cells _ l (second-none (cells l) e))
 
 returns-3 : tie.Need-returns-3
 returns-3 c =
     let k = c .before in
     let h = k .before .before .before .before .before .before in
-    sym (line-cells (line h) (λ x. c .if2 .taken (k .count-cells .ensures ∙ x)))
+    sym (line-cells _ (line h) (λ x. c .if2 .taken (k .count-cells .ensures ∙ x)))
 
 sub-key-id : tie.Need-sub-key-id
 sub-key-id c = omega (arith, cell (c .before .before))
@@ -64,8 +64,8 @@ returns-4 c =
     let t = k .before in
     let e1 = t .before .before .before .before in
     let l = line (e1 .before) in
-    c .key-id .ensures ∙ ap keyId (sym (second-some (cells l) _ (cell t .2)))
-    ∙ sym (line-key l (sym (e1 .before .has-code .ensures) ∙ not-false (e1 .before .has-code .result) (e1 .if1 .left)) (sym (k .count-cells .ensures) ∙ e2 .if2 .left))
+    c .key-id .ensures ∙ ap (keyId _) (sym (second-some (cells l) _ (cell t .2)))
+    ∙ sym (line-key _ l (sym (e1 .before .has-code .ensures) ∙ not-false (e1 .before .has-code .result) (e1 .if1 .left)) (sym (k .count-cells .ensures) ∙ e2 .if2 .left))
 
 pub line-id-spec : {M : Type 1} → statement M
 line-id-spec =

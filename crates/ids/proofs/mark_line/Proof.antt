@@ -14,7 +14,7 @@ line d = d .before .before .before .args .line .now
 
 -- the id is one of the 256
 range : (c : tie.After-known-told) → (c .before .f .given .0 .0 < 4) × (1 ≤ c .before .f .given .0 .1 .0) × (c .before .f .given .0 .1 .0 ≤ 64)
-range c = let d = c .before .before .before in line-range (line d) _ _ (sym (d .line-id .ensures) ∙ c .before .f .given .1)
+range c = let d = c .before .before .before in line-range _ (line d) _ _ (sym (d .line-id .ensures) ∙ c .before .f .given .1)
 
 returns : tie.Need-returns
 unfolding marked

@@ -10,7 +10,7 @@ use lib.ListN.{length, getD, set, length-set}
 use borrow.Author.Tests.{eqb-true, eqb-false}
 use Rattle.text.specs.Bytes.{Bytes}
 use Rattle.names.specs.Names.{slotOf}
-use Rattle.book.specs.Keys.{keyEntries, keyOf}
+use Rattle.book.specs.Book.{keyEntries, keyOf}
 use Rattle.book.proofs.Laws.Apart.{keys-count}
 use Rattle.names.specs.declared.Found.{Found}
 use Rattle.names.specs.declared.Found.the-variants.{Unknown, Known}

@@ -5,9 +5,9 @@ use mathlib.Core.List.{List, []}
 use lib.ListN.{length, getD}
 use borrow.Author.Tests.{eq-eqb, ne-eqb}
 use Rattle.text.specs.Bytes.{Bytes}
-use Rattle.text.specs.Lines.{cells}
-use Rattle.book.specs.Keys.{keyOf}
-use Rattle.rules.specs.Sorts.{cell, sortOf, isMeta}
+use Rattle.text.specs.Lines.{cells, cell, isMeta}
+use Rattle.book.specs.Book.{keyOf}
+use Rattle.rules.specs.Sorts.{sortOf}
 use Rattle.scan.specs.Machine.{SLOTS, hasSlot}
 use Rattle.rules.specs.declared.sorts.Sort.the-variants.{Meta}
 use Rattle.metakeys.specs.Keys.{marked}

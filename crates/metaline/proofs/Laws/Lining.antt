@@ -12,7 +12,7 @@ use borrow.Author.Tests.{eq-eqb, ne-eqb}
 use Rattle.text.specs.Bytes.{Bytes}
 use Rattle.text.specs.Lines.{cells}
 use Rattle.text.specs.Places.{Ends}
-use Rattle.book.specs.Keys.{keyOf}
+use Rattle.book.specs.Book.{keyOf}
 use Rattle.rules.specs.Breaks.{breakAt, when}
 use Rattle.scan.specs.Places.{Lent, Puts}
 use Rattle.scan.specs.Machine.{Ids, eachCell, controlAt, plainRest, metaCell, metaBreaks}

@@ -12,7 +12,8 @@ use Rattle.text.proofs.Laws.Each.{all-at}
 use Rattle.references.specs.References.{refTo, refsTo}
 use Rattle.book.specs.Letters.{REFERENCE, REFERENCES}
 use Rattle.names.specs.Names.{Entry, entry, piecesFrom, entryOf, kindOf, familyOf}
-use Rattle.book.specs.Keys.{keys, keyEntries, keyOf}
+use Rattle.book.specs.Book.{keyEntries, keyOf}
+use Rattle.book.specs.Keys.{keys}
 use Rattle.ids.specs.Ids.{declares, declared, Declared}
 use Rattle.kinds.specs.Kinds.{familyNumber, wordOf, ofKind}
 use Rattle.names.specs.declared.Found.{Found}

@@ -12,7 +12,7 @@ use lib.ListN.{length, getD, getElem?, drop}
 use Rattle.numbers.specs.Numbers.{TOO-LONG, NO-SECTION}
 use Rattle.text.specs.Bytes.{Bytes, count}
 use Rattle.text.specs.Lines.{LIMIT, TAB, LF, lines, cells, coded}
-use Rattle.text.specs.Codes.{isSection, headerCode, rowCode, codeFor}
+use Rattle.book.specs.Book.{isSection, headerCode, rowCode, codeFor}
 use Rattle.text.specs.Places.{part, after, LineAt, FindsCell}
 use Rattle.text.specs.declared.Part.{Part}
 use Rattle.text.specs.declared.Part.the-variants.{At, Nothing}

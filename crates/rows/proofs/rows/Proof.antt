@@ -3,7 +3,7 @@ use mathlib.Core.Path.{_≡_, sym, _∙_}
 use mathlib.Core.Bool.{true}
 use borrow.Author.Needs.{needs}
 use borrow.Author.Tests.{not-true, not-false}
-use Rattle.text.specs.Codes.{isSection}
+use Rattle.book.specs.Book.{isSection}
 use Rattle.rows.proofs.Laws.Rowing.{rows-over, rows-nowhere, rows-there}
 use Rattle.rows.proofs.rows.Statement.{statement}
 use Rattle.rows.proofs.rows.Tie as tie

@@ -1,5 +1,5 @@
 -- What an accepted file gives to whoever walks its rows: where the list of breaks is empty, each line keeps each rule. Assumes nothing.
-use mathlib.Core.Path.{_≡_, refl, sym, subst}
+use mathlib.Core.Path.{_≡_, refl, sym, subst, _∙_}
 use mathlib.Core.Bool.{Bool, true, false, not, _&&_, _||_}
 use mathlib.Core.List.{List, [], _∷_}
 use mathlib.Core.Option.{some}
@@ -9,18 +9,18 @@ use native.Mathlib.Omega.{arith}
 use lib.Dec.{ltb}
 use lib.ListN.{length, getD, take, drop, getElem?, length-take, length-drop}
 use lib.Seq.{getD-take, getD-drop}
-use borrow.Author.Tests.{ltb-false, le-leb, eqb-true}
+use borrow.Author.Tests.{ltb-true, ltb-false, le-leb, eqb-true}
 use Rattle.text.specs.Bytes.{Bytes, bytes, same, isEmpty, any, splitOn}
-use Rattle.text.specs.Lines.{lines, cells, coded}
-use Rattle.text.specs.Codes.{isSection, headerCode, rowCode}
+use Rattle.text.specs.Lines.{lines, cells, coded, cell, width}
 use Rattle.text.proofs.Laws.Same.{same-equal}
-use Rattle.text.proofs.Laws.Sections.{section-bounds}
 use Rattle.text.proofs.Laws.Each.{split-some}
-use Rattle.rules.specs.Sorts.{cell, headerSection, rowSection, codeSort, sortOf, headerIn, silentIn, isHeader, isSilent, width}
+use Rattle.book.specs.Book.{Book, isSection, sectionOf, headerCode, codedFrom, mzTab, bookOf}
+use Rattle.rules.specs.Sorts.{codeSort, sortOf, headerIn, isHeader, isSilent}
 use Rattle.rules.specs.Breaks.{Break, Spot, spotAt, Rule, Broken}
 use Rattle.rules.specs.Rules.{rules, breaks, isAccepted, isWide}
 use Rattle.rules.specs.declared.sorts.Sort.{Sort}
 use Rattle.rules.specs.declared.sorts.Sort.the-variants.{Silent, Unknown, Meta, Header, Row}
+use Rattle.rules.proofs.Laws.Sorting.{silentIn, silent-sort}
 use Rattle.rules.proofs.Laws.Promises.{accepted-whole}
 
 -- the test of a call and the empty list
@@ -66,9 +66,12 @@ module _ (file : Bytes) (kept : breaks file ≡ []) (n : ℕ) (low : 1 ≤ n) (h
   abbrev here : Bytes
   here = getD (lines file) (n - 1) []
 
+  abbrev book : Book
+  book = bookOf (lines file)
+
   -- rule j of the list is not broken at a cell of a line that is judged
   accepted-rule :
-      isSilent here ≡ false → (c : ℕ) → 1 ≤ c → c ≤ width here → (j : ℕ) (r : Rule) → getElem? rules j ≡ some r
+      isSilent here ≡ false → (c : ℕ) → 1 ≤ c → c ≤ width here → (j : ℕ) (r : Rule) → getElem? (rules book) j ≡ some r
       → r .broken (spotAt (lines file) n) c ≡ false
   accepted-rule loud c lo hi j r e = go (r .broken (spotAt (lines file) n) c) refl
     where
@@ -76,19 +79,19 @@ module _ (file : Bytes) (kept : breaks file ≡ []) (n : ℕ) (low : 1 ≤ n) (h
       go true b =
           absurd
           (accepted-whole file {k = r .number} kept
-          (inl (record { line-low = low; line-high = high; judged = loud; cell-low = lo; cell-high = hi; broken = nth-broken rules (spotAt (lines file) n) c j r e b })))
+          (inl (record { line-low = low; line-high = high; judged = loud; cell-low = lo; cell-high = hi; broken = nth-broken (rules book) (spotAt (lines file) n) c j r e b })))
       go false b = refl
 
-  module _ (head : isHeader here ≡ true) where
+  module _ (head : isHeader book here ≡ true) where
     loud : isSilent here ≡ false
-    loud = header-loud (sortOf here) head
+    loud = silent-sort book here ∙ header-loud (sortOf book here) head
 
     some-cell : 1 ≤ width here
     some-cell = let f = split-some 9 here in omega arith
 
     narrow : isWide here ≡ false
     unfolding rules
-    narrow = second-fails (isHeader here) (isWide here) head (accepted-rule loud 1 (omega arith) some-cell 10 _ refl)
+    narrow = second-fails (isHeader book here) (isWide here) head (accepted-rule loud 1 (omega arith) some-cell 10 _ refl)
 
     -- rule 11: a header has at most 256 cells
     pub accepted-width : width here ≤ 256
@@ -101,31 +104,32 @@ module _ (file : Bytes) (kept : breaks file ≡ []) (n : ℕ) (low : 1 ≤ n) (h
         let q = accepted-rule loud (suc b) (omega arith) (omega arith) 12 _ refl in
         let t = second-fails _ _ (le-leb 2 (suc b) (omega arith)) q in
         let w : suc b - 1 ≡ b = omega arith in
-        let u : any (same (getD (cells here) (suc b - 1) [])) (take (suc b - 2) (drop 1 (cells here))) ≡ false = second-fails (isHeader here && not (isWide here)) _ (rw (head, narrow)) t in
+        let u : any (same (getD (cells here) (suc b - 1) [])) (take (suc b - 2) (drop 1 (cells here))) ≡ false = second-fails (isHeader book here && not (isWide here)) _ (rw (head, narrow)) t in
         let z : 1 + (a - 1) ≡ a = omega arith in
         let v = any-fails (same (getD (cells here) (suc b - 1) [])) (take (suc b - 2) (drop 1 (cells here))) [] (a - 1) u (rw (length-take, length-drop) (omega arith)) in
         rw (getD-take (suc b - 2) (drop 1 (cells here)) (a - 1) [] (omega arith), getD-drop 1 (cells here) (a - 1) [], z, w) at v
 
--- a line with a header's code is a header of that section
-code-sort : (section : ℕ) → isSection section ≡ true → codeSort (headerCode section) ≡ Header section
-unfolding codeSort rowSection headerSection headerCode rowCode bytes same
-code-sort zero e = absurd (let z : _≡_ {A = ℕ} 0 1 = cc in omega arith)
-code-sort (suc zero) e = refl
-code-sort (suc (suc zero)) e = refl
-code-sort (suc (suc (suc zero))) e = refl
-code-sort (suc (suc (suc (suc zero)))) e = refl
-code-sort (suc (suc (suc (suc (suc s))))) e = absurd (omega (arith, section-bounds (suc (suc (suc (suc (suc s))))) e))
+-- a line with a header's code is a header of that section, computed
+module _ (file : List Bytes) where
+  code-sort : (section : ℕ) → isSection (bookOf file) section ≡ true → codeSort (bookOf file) (headerCode (bookOf file) section) ≡ Header section
+  unfolding codeSort codedFrom bookOf mzTab isSection sectionOf bytes same
+  code-sort zero e = absurd (let z : _≡_ {A = ℕ} 0 1 = cc in omega arith)
+  code-sort (suc zero) e = refl
+  code-sort (suc (suc zero)) e = refl
+  code-sort (suc (suc (suc zero))) e = refl
+  code-sort (suc (suc (suc (suc zero)))) e = refl
+  code-sort (suc (suc (suc (suc (suc s))))) e = absurd (omega (arith, ltb-true (suc (suc (suc (suc (suc s))))) 5 e))
 
-no-code : (section : ℕ) → isSection section ≡ true → same [] (headerCode section) ≡ true → ⊥
-unfolding headerCode bytes same
-no-code zero e q = let z : _≡_ {A = ℕ} 0 1 = cc in omega arith
-no-code (suc zero) e q = let z : _≡_ {A = ℕ} 0 1 = cc in omega arith
-no-code (suc (suc zero)) e q = let z : _≡_ {A = ℕ} 0 1 = cc in omega arith
-no-code (suc (suc (suc zero))) e q = let z : _≡_ {A = ℕ} 0 1 = cc in omega arith
-no-code (suc (suc (suc (suc zero)))) e q = let z : _≡_ {A = ℕ} 0 1 = cc in omega arith
-no-code (suc (suc (suc (suc (suc s))))) e q = omega (arith, section-bounds (suc (suc (suc (suc (suc s))))) e)
+  no-code : (section : ℕ) → isSection (bookOf file) section ≡ true → same [] (headerCode (bookOf file) section) ≡ true → ⊥
+  unfolding bookOf mzTab isSection sectionOf bytes same
+  no-code zero e q = let z : _≡_ {A = ℕ} 0 1 = cc in omega arith
+  no-code (suc zero) e q = let z : _≡_ {A = ℕ} 0 1 = cc in omega arith
+  no-code (suc (suc zero)) e q = let z : _≡_ {A = ℕ} 0 1 = cc in omega arith
+  no-code (suc (suc (suc zero))) e q = let z : _≡_ {A = ℕ} 0 1 = cc in omega arith
+  no-code (suc (suc (suc (suc zero)))) e q = let z : _≡_ {A = ℕ} 0 1 = cc in omega arith
+  no-code (suc (suc (suc (suc (suc s))))) e q = omega (arith, ltb-true (suc (suc (suc (suc (suc s))))) 5 e)
 
-pub header-coded : (section : ℕ) (l : Bytes) → isSection section ≡ true → coded (headerCode section) l ≡ true → sortOf l ≡ Header section
-unfolding sortOf coded cell isEmpty splitOn
-header-coded section [] s e = absurd (no-code section s e)
-header-coded section (x ∷ xs) s e = rw (same-equal (getD (cells (x ∷ xs)) 0 []) (headerCode section) e) (code-sort section s)
+  pub header-coded : (section : ℕ) (l : Bytes) → isSection (bookOf file) section ≡ true → coded (headerCode (bookOf file) section) l ≡ true → sortOf (bookOf file) l ≡ Header section
+  unfolding sortOf coded cell isEmpty splitOn
+  header-coded section [] s e = absurd (no-code section s e)
+  header-coded section (x ∷ xs) s e = rw (same-equal (getD (cells (x ∷ xs)) 0 []) (headerCode (bookOf file) section) e) (code-sort section s)

@@ -9,7 +9,8 @@ use native.Mathlib.Nat.{eq-or-lt-of-le}
 use native.Mathlib.Omega.{arith}
 use lib.ListN.{length}
 use Rattle.text.specs.Bytes.{Bytes}
-use Rattle.rules.specs.Sorts.{isSilent, width}
+use Rattle.text.specs.Lines.{width}
+use Rattle.rules.specs.Sorts.{isSilent}
 use Rattle.rules.specs.Breaks.{Break, breakAt, when, Spot, spotAt, Rule, each, atCell, atLine, inLines, atEnd, Broken, Breaks, Lacks, In, Before, Sorted, Rising}
 
 -- LISTS

@@ -8,36 +8,56 @@ use borrow.Author.Needs.{needs}
 use Rattle.text.specs.Bytes.{Bytes}
 use Rattle.text.specs.Lines.{lines}
 use Rattle.rules.specs.Breaks.{Break, breakAt, Breaks, Lacks, In, Sorted, Rising}
-use Rattle.rules.specs.Rules.{rules, endRules, ENDS, breaks}
+use Rattle.book.specs.Book.{Book, bookOf}
+use Rattle.rules.specs.Rules.{rules, endRules, ends, breaksBy, breaks}
 use Rattle.rules.proofs.Laws.Listing.{all-sorted, all-broken, broken-all}
 
--- the numbers of the rules rise
-rising : Rising 0 rules
-unfolding rules
-rising = search needs
+-- BY ANY BOOK
+module _ (b : Book) where
+  -- the numbers of the rules rise
+  rising : Rising 0 (rules b)
+  unfolding rules
+  rising = search needs
 
-end-rising : Rising 0 endRules
-unfolding endRules
-end-rising = search needs
+  end-rising : Rising 0 (endRules b)
+  unfolding endRules
+  end-rising = search needs
 
--- each comes before all that stand after it, so none stands twice
+  -- a rule is broken at a cell of a line, or of the one after the last
+  abbrev pub BrokenBy : List Bytes → ℕ → ℕ → ℕ → Type 0
+  BrokenBy file n c k = Breaks (rules b) file n c k ⊎ Lacks (endRules b) (ends b) file n c k
+
+  -- each break comes before all that stand after it, so none stands twice
+  pub by-sorted : (file : List Bytes) → Sorted (breaksBy b file)
+  unfolding breaksBy
+  by-sorted file = all-sorted (rules b) (endRules b) (ends b) file 0 0 rising end-rising
+
+  -- a break is listed exactly where that rule is broken at that cell of that line
+  pub by-broken : (file : List Bytes) (n c k : ℕ) → In (breakAt n c k) (breaksBy b file) → BrokenBy file n c k
+  unfolding breaksBy
+  by-broken file n c k h = all-broken (rules b) (endRules b) (ends b) file n c k h
+
+  pub by-listed : (file : List Bytes) {n c k : ℕ} → BrokenBy file n c k → In (breakAt n c k) (breaksBy b file)
+  unfolding breaksBy
+  by-listed file h = broken-all (rules b) (endRules b) (ends b) file h
+
+-- BY THE BOOK OF THE FILE
+abbrev pub Broken : Bytes → ℕ → ℕ → ℕ → Type 0
+Broken file n c k = BrokenBy (bookOf (lines file)) (lines file) n c k
+
 pub breaks-sorted : (file : Bytes) → Sorted (breaks file)
 unfolding breaks
-breaks-sorted file = all-sorted rules endRules ENDS (lines file) 0 0 rising end-rising
+breaks-sorted file = by-sorted (bookOf (lines file)) (lines file)
 
--- a break is listed exactly where that rule is broken at that cell of that line
-pub listed-broken : (file : Bytes) (n c k : ℕ) → In (breakAt n c k) (breaks file) → Breaks rules (lines file) n c k ⊎ Lacks endRules ENDS (lines file) n c k
+pub listed-broken : (file : Bytes) (n c k : ℕ) → In (breakAt n c k) (breaks file) → Broken file n c k
 unfolding breaks
-listed-broken file n c k h = all-broken rules endRules ENDS (lines file) n c k h
+listed-broken file n c k h = by-broken (bookOf (lines file)) (lines file) n c k h
 
-pub broken-listed : (file : Bytes) {n c k : ℕ} → Breaks rules (lines file) n c k ⊎ Lacks endRules ENDS (lines file) n c k → In (breakAt n c k) (breaks file)
+pub broken-listed : (file : Bytes) {n c k : ℕ} → Broken file n c k → In (breakAt n c k) (breaks file)
 unfolding breaks
-broken-listed file h = broken-all rules endRules ENDS (lines file) h
+broken-listed file h = by-listed (bookOf (lines file)) (lines file) h
 
 -- so a file is accepted exactly when no rule is broken
-abbrev pub Broken : Bytes → ℕ → ℕ → ℕ → Type 0
-Broken file n c k = Breaks rules (lines file) n c k ⊎ Lacks endRules ENDS (lines file) n c k
-
 pub accepted-whole : (file : Bytes) {n c k : ℕ} → breaks file ≡ [] → Broken file n c k → ⊥
 accepted-whole file {n} {c} {k} e h = subst (In (breakAt n c k)) e (broken-listed file h)
 

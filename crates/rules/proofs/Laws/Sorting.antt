@@ -1,40 +1,110 @@
--- What a line code says, by the tests that lead to each answer. Assumes nothing.
-use mathlib.Core.Path.{_≡_, refl, subst}
-use mathlib.Core.Bool.{Bool, true, false, cond}
-use mathlib.Core.List.{[], _∷_}
-use Prim.Native.Nat.{ℕ, suc, _≤_, _<_}
+-- What a line code says in a book, by the tests that lead to each answer. Assumes nothing.
+use mathlib.Core.Path.{_≡_, refl, sym, subst, _∙_}
+use mathlib.Core.Bool.{Bool, true, false, cond, _||_}
+use mathlib.Core.List.{List, [], _∷_}
+use Prim.Native.Nat.{ℕ, suc, _+_, _≤_, _<_}
 use native.Mathlib.Omega.{arith}
 use lib.Dec.{eqb, ltb}
 use lib.ListN.{length}
-use borrow.Author.Tests.{lt-ltb, le-ltb, ne-eqb}
-use Rattle.text.specs.Bytes.{Bytes, same, is, isEmpty}
-use Rattle.text.specs.Codes.{headerCode, rowCode}
-use Rattle.rules.specs.Sorts.{cell, sectionOf, rowSection, headerSection, codeSort, sortOf}
+use borrow.Author.Tests.{lt-ltb, le-ltb, ltb-true, ne-eqb}
+use Rattle.text.specs.Bytes.{Bytes, bytes, same, is, isEmpty, splitOn}
+use Rattle.text.specs.Lines.{cell, coded, isMeta}
+use Rattle.text.proofs.Laws.Same.{same-equal}
+use Rattle.book.specs.Book.{SECTIONS, Section, Book, codeIn, codedFrom, sectionBy}
+use Rattle.book.proofs.Laws.Sized.{Sized}
+use Rattle.rules.specs.Sorts.{codeSort, sortOf, isSilent}
 use Rattle.rules.specs.declared.sorts.Sort.{Sort}
 use Rattle.rules.specs.declared.sorts.Sort.the-variants.{Silent, Unknown, Meta, Header, Row}
 
-module _ (b : Bytes) (r : ℕ) (er : r ≡ rowSection b) where
-  pub sort-row : 0 < r → Row r ≡ codeSort b
+module _ (b : Book) (code : Bytes) where
+  pub sort-silent : is code "COM" ≡ true → Silent ≡ codeSort b code
   unfolding codeSort
-  sort-row p = rw (← er, lt-ltb 0 r p)
+  sort-silent t = rw t
 
-  module _ (none : r ≤ 0) (h : ℕ) (eh : h ≡ headerSection b) where
-    pub sort-header : 0 < h → Header h ≡ codeSort b
+  module _ (loud : is code "COM" ≡ false) where
+    pub sort-meta : is code "MTD" ≡ true → Meta ≡ codeSort b code
     unfolding codeSort
-    sort-header p = rw (← er, le-ltb 0 r none, ← eh, lt-ltb 0 h p)
+    sort-meta t = rw (loud, t)
 
-    module _ (neither : h ≤ 0) where
-      pub sort-meta : is b "MTD" ≡ true → Meta ≡ codeSort b
+    module _ (no : is code "MTD" ≡ false) (r : ℕ) (er : r ≡ sectionBy b true code) where
+      pub sort-row : 0 < r → Row r ≡ codeSort b code
       unfolding codeSort
-      sort-meta t = rw (← er, le-ltb 0 r none, ← eh, le-ltb 0 h neither, t)
+      sort-row p = rw (loud, no, ← er, lt-ltb 0 r p)
 
-      pub sort-silent : is b "MTD" ≡ false → is b "COM" ≡ true → Silent ≡ codeSort b
-      unfolding codeSort
-      sort-silent t u = rw (← er, le-ltb 0 r none, ← eh, le-ltb 0 h neither, t, u)
+      module _ (none : r ≤ 0) (h : ℕ) (eh : h ≡ sectionBy b false code) where
+        pub sort-header : 0 < h → Header h ≡ codeSort b code
+        unfolding codeSort
+        sort-header p = rw (loud, no, ← er, le-ltb 0 r none, ← eh, lt-ltb 0 h p)
 
-      pub sort-unknown : is b "MTD" ≡ false → is b "COM" ≡ false → Unknown ≡ codeSort b
-      unfolding codeSort
-      sort-unknown t u = rw (← er, le-ltb 0 r none, ← eh, le-ltb 0 h neither, t, u)
+        pub sort-unknown : h ≤ 0 → Unknown ≡ codeSort b code
+        unfolding codeSort
+        sort-unknown p = rw (loud, no, ← er, le-ltb 0 r none, ← eh, le-ltb 0 h p)
+
+-- SILENT LINES AND METADATA, in every book
+abbrev pub silentIn : Sort → Bool
+silentIn (Header s) = false
+silentIn (Row s) = false
+silentIn Silent = true
+silentIn Unknown = false
+silentIn Meta = false
+
+abbrev pub metaIn : Sort → Bool
+metaIn (Header s) = false
+metaIn (Row s) = false
+metaIn Silent = false
+metaIn Unknown = false
+metaIn Meta = true
+
+either-silent : (t u : Bool) (r h : ℕ) → silentIn (cond t Meta (cond u (Row r) (cond (ltb 0 h) (Header h) Unknown))) ≡ false
+either-silent true u r h = refl
+either-silent false true r h = refl
+either-silent false false r h = go (ltb 0 h)
+  where
+    go : (v : Bool) → silentIn (cond v (Header h) Unknown) ≡ false
+    go true = refl
+    go false = refl
+
+pub silent-sort : (b : Book) (l : Bytes) → isSilent l ≡ silentIn (sortOf b l)
+unfolding isSilent sortOf codeSort
+silent-sort b l = go (isEmpty l) (is (cell 1 l) "COM")
+  where
+    go : (t u : Bool)
+        → (t || u) ≡ silentIn (cond t Silent (cond u Silent (cond (is (cell 1 l) "MTD") Meta (cond (ltb 0 (sectionBy b true (cell 1 l))) (Row (sectionBy b true (cell 1 l))) (cond (ltb 0 (sectionBy b false (cell 1 l))) (Header (sectionBy b false (cell 1 l))) Unknown)))))
+    go true u = refl
+    go false true = refl
+    go false false = sym (either-silent (is (cell 1 l) "MTD") (ltb 0 (sectionBy b true (cell 1 l))) (sectionBy b true (cell 1 l)) (sectionBy b false (cell 1 l)))
+
+either-meta : (u : Bool) (r h : ℕ) → metaIn (cond u (Row r) (cond (ltb 0 h) (Header h) Unknown)) ≡ false
+either-meta true r h = refl
+either-meta false r h = go (ltb 0 h)
+  where
+    go : (v : Bool) → metaIn (cond v (Header h) Unknown) ≡ false
+    go true = refl
+    go false = refl
+
+-- a line without a byte, and a comment, is no metadata line
+empty-meta : (l : Bytes) → isEmpty l ≡ true → isMeta l ≡ false
+unfolding isEmpty coded cell bytes same splitOn
+empty-meta [] e = refl
+empty-meta (x ∷ l) e = absurd (let z : _≡_ {A = ℕ} 0 1 = cc in omega arith)
+
+comment-meta : (code : Bytes) → is code "COM" ≡ true → is code "MTD" ≡ false
+unfolding bytes same
+comment-meta code e = rw (same-equal code (bytes "COM") e)
+
+pub meta-sort : (b : Book) (l : Bytes) → isMeta l ≡ metaIn (sortOf b l)
+unfolding coded cell sortOf codeSort
+meta-sort b l = go (isEmpty l) refl (is (cell 1 l) "COM") refl
+  where
+    go : (t : Bool) → isEmpty l ≡ t → (u : Bool) → is (cell 1 l) "COM" ≡ u
+        → isMeta l ≡ metaIn (cond t Silent (cond u Silent (cond (is (cell 1 l) "MTD") Meta (cond (ltb 0 (sectionBy b true (cell 1 l))) (Row (sectionBy b true (cell 1 l))) (cond (ltb 0 (sectionBy b false (cell 1 l))) (Header (sectionBy b false (cell 1 l))) Unknown)))))
+    go true e u f = empty-meta l e
+    go false e true f = comment-meta (cell 1 l) f
+    go false e false f = last (is (cell 1 l) "MTD")
+      where
+        last : (v : Bool) → v ≡ metaIn (cond v Meta (cond (ltb 0 (sectionBy b true (cell 1 l))) (Row (sectionBy b true (cell 1 l))) (cond (ltb 0 (sectionBy b false (cell 1 l))) (Header (sectionBy b false (cell 1 l))) Unknown)))
+        last true = refl
+        last false = sym (either-meta (ltb 0 (sectionBy b true (cell 1 l))) (sectionBy b true (cell 1 l)) (sectionBy b false (cell 1 l)))
 
 -- EMPTY
 
@@ -53,10 +123,10 @@ unfolding isEmpty
 empty-test [] = refl
 empty-test (x ∷ xs) = ne-eqb (suc (length xs)) 0 (λ e. omega arith)
 
--- a header's and a row's section is 1 to 4
+-- a header's and a row's section is from 1 on and below SECTIONS
 abbrev InSection : Sort → Type 0
-InSection (Header h) = (0 < h) × (h < 5)
-InSection (Row r) = (0 < r) × (r < 5)
+InSection (Header h) = (0 < h) × (h < SECTIONS)
+InSection (Row r) = (0 < r) × (r < SECTIONS)
 InSection Silent = Unit
 InSection Unknown = Unit
 InSection Meta = Unit
@@ -65,27 +135,31 @@ either-in : (t : Bool) (a b : Sort) → (t ≡ true → InSection a) → InSecti
 either-in true a b p q = p refl
 either-in false a b p q = q
 
-section-low : (p e s m b : Bytes) → ltb 0 (sectionOf p e s m b) ≡ true → (0 < sectionOf p e s m b) × (sectionOf p e s m b < 5)
-section-low p e s m b = go (same b p) (same b e) (same b s) (same b m)
+coded-below : (row : Bool) (n : ℕ) (ss : List Section) (code : Bytes) → 0 < n → codedFrom row n ss code < n + length ss
+unfolding codedFrom
+coded-below row n [] code h = omega arith
+coded-below row n (s ∷ ss) code h = go (is code (codeIn row s)) (coded-below row (n + 1) ss code (omega arith))
   where
-    go : (t u v w : Bool) → ltb 0 (cond t 1 (cond u 2 (cond v 3 (cond w 4 0)))) ≡ true → (0 < cond t 1 (cond u 2 (cond v 3 (cond w 4 0)))) × (cond t 1 (cond u 2 (cond v 3 (cond w 4 0))) < 5)
-    go true u v w h = omega arith
-    go false true v w h = omega arith
-    go false false true w h = omega arith
-    go false false false true h = omega arith
-    go false false false false h = absurd (let z : _≡_ {A = ℕ} 0 1 = cc in omega arith)
+    go : (t : Bool) → codedFrom row (n + 1) ss code < n + 1 + length ss → cond t n (codedFrom row (n + 1) ss code) < n + suc (length ss)
+    go true q = omega arith
+    go false q = omega arith
 
-sort-section : (l : Bytes) → InSection (sortOf l)
-unfolding sortOf codeSort rowSection headerSection
-sort-section l =
-    let b = cell 1 l in
-    either-in (isEmpty l) _ _ (λ e. tt)
-    (either-in (ltb 0 (rowSection b)) _ _ (section-low (rowCode 1) (rowCode 2) (rowCode 3) (rowCode 4) b)
-    (either-in (ltb 0 (headerSection b)) _ _ (section-low (headerCode 1) (headerCode 2) (headerCode 3) (headerCode 4) b)
-    (either-in (is b "MTD") _ _ (λ e. tt) (either-in (is b "COM") Silent Unknown (λ e. tt) tt))))
+module _ (b : Book) (k : Sized b) where
+  section-in : (row : Bool) (code : Bytes) → ltb 0 (sectionBy b row code) ≡ true → (0 < sectionBy b row code) × (sectionBy b row code < SECTIONS)
+  section-in row code e = (ltb-true 0 (sectionBy b row code) e, omega (arith, coded-below row (b .first) (b .sections) code (k .low), k .high))
 
-pub header-section : (l : Bytes) (h : ℕ) → sortOf l ≡ Header h → (0 < h) × (h < 5)
-header-section l h e = subst InSection e (sort-section l)
+  sort-section : (l : Bytes) → InSection (sortOf b l)
+  unfolding sortOf codeSort
+  sort-section l =
+      let c = cell 1 l in
+      either-in (isEmpty l) _ _ (λ e. tt)
+      (either-in (is c "COM") _ _ (λ e. tt)
+      (either-in (is c "MTD") _ _ (λ e. tt)
+      (either-in (ltb 0 (sectionBy b true c)) _ _ (section-in true c)
+      (either-in (ltb 0 (sectionBy b false c)) (Header (sectionBy b false c)) Unknown (section-in false c) tt))))
 
-pub row-section : (l : Bytes) (r : ℕ) → sortOf l ≡ Row r → (0 < r) × (r < 5)
-row-section l r e = subst InSection e (sort-section l)
+  pub header-section : (l : Bytes) (h : ℕ) → sortOf b l ≡ Header h → (0 < h) × (h < SECTIONS)
+  header-section l h e = subst InSection e (sort-section l)
+
+  pub row-section : (l : Bytes) (r : ℕ) → sortOf b l ≡ Row r → (0 < r) × (r < SECTIONS)
+  row-section l r e = subst InSection e (sort-section l)

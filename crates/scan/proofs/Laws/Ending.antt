@@ -13,17 +13,19 @@ use borrow.Author.Tests.{eq-eqb, eqb-true}
 use Rattle.text.specs.Bytes.{Bytes, bytes, same, any, all}
 use Rattle.text.proofs.Laws.Tests.{absurd-bool}
 use Rattle.names.specs.Names.{piecesFrom, entryOf, slotOf, formOf}
-use Rattle.book.specs.Keys.{keys, keyOf, keyEntries, demanded}
-use Rattle.book.proofs.Laws.Apart.{keys-count}
 use Rattle.names.specs.declared.Found.{Found}
 use Rattle.names.specs.declared.Found.the-variants.{Unknown, Known}
 use Rattle.names.proofs.Laws.Known.{holes, nth, known, Shape}
-use Rattle.rules.specs.Sorts.{isMeta}
+use Rattle.text.specs.Lines.{isField}
 use Rattle.rules.specs.Breaks.{Break, breakAt, when, each, atCell, atEnd}
-use Rattle.rules.specs.Rules.{isThree, keyFound, isForm, hasKey, endRules, ENDS}
+use Rattle.rules.specs.Rules.{keyFound, isForm, hasKey, endRules, ends}
 use Rattle.scan.specs.Machine.{isSlot, hasSlot, Slots, upFrom, hasEntry, endBreaks}
 use Rattle.scan.proofs.Laws.Rowing.{test-eq}
 use Rattle.scan.proofs.Laws.Keeping.{any-alike}
+use Rattle.book.specs.Book.{keyOf, keyEntries, mzTab}
+use Rattle.book.specs.Keys.{keys, demanded}
+use Rattle.book.specs.Text.{bookIn}
+use Rattle.book.proofs.Laws.Sized.{book-sized}
 
 -- A RANGE
 
@@ -84,122 +86,122 @@ unfolding any
 any-swap p [] ys = sym (any-false ys)
 any-swap p (x ∷ xs) ys = rw (any-swap p xs ys) (sym (any-or (p x) (λ y. any (λ z. p z y) xs) ys))
 
-any-both : {A : Type 0} (a b : Bool) (f : A → Bool) (xs : List A) → any (λ (x : A). a && (b && f x)) xs ≡ (a && (b && any f xs))
-any-both true true f xs = refl
-any-both true false f xs = any-false xs
-any-both false b f xs = any-false xs
+any-both : {A : Type 0} (a : Bool) (f : A → Bool) (xs : List A) → any (λ (x : A). a && f x) xs ≡ (a && any f xs)
+any-both true f xs = refl
+any-both false f xs = any-false xs
 
--- THE FORMS of the keys, by their entries
+module _ (t : Bytes) where
+  -- THE FORMS of the keys, by their entries
 
--- the form of entry e, as the table writes it
-abbrev form : ℕ → Bytes
-form e = drop 3 (bytes (getD keys e ""))
+  -- the form of entry e, as the table writes it
+  abbrev form : ℕ → Bytes
+  form e = drop 3 (bytes (getD keys e ""))
 
--- only entry E has the form d: computed over the table
-Only : String → ℕ → Type 0
-Only d E = all (λ e. not (same (form e) (bytes d)) || eqb e E) (upFrom 61 0) ≡ true
+  -- only entry E has the form d: computed over the table
+  Only : String → ℕ → Type 0
+  Only d E = all (λ e. not (same (form e) (bytes d)) || eqb e E) (upFrom 61 0) ≡ true
 
-only : (d : String) (E e : ℕ) → Only d E → e < 61 → same (form e) (bytes d) ≡ true → e ≡ E
-unfolding Only
-only d E e o h s = eqb-true e E (rw s at (all-up (λ k. not (same (form k) (bytes d)) || eqb k E) 61 0 e o (omega arith) (omega arith)))
+  only : (d : String) (E e : ℕ) → Only d E → e < 61 → same (form e) (bytes d) ≡ true → e ≡ E
+  unfolding Only
+  only d E e o h s = eqb-true e E (rw s at (all-up (λ k. not (same (form k) (bytes d)) || eqb k E) 61 0 e o (omega arith) (omega arith)))
 
-module _ (x : Bytes) (e k f i j : ℕ) (q : keyOf x ≡ Known e k f i j) where
-  inside : e < 61
-  unfolding keyOf
-  inside = omega (arith, known keyEntries x e k f i j q .inside, keys-count)
+  module _ (x : Bytes) (e k f i j : ℕ) (q : keyOf (bookIn t) x ≡ Known e k f i j) where
+    inside : e < 61
+    unfolding keyOf
+    inside = omega (arith, known (keyEntries (bookIn t)) x e k f i j q .inside, book-sized t .few)
 
-  shape : Shape (holes (formOf (nth keyEntries e))) i j
-  unfolding keyOf
-  shape = known keyEntries x e k f i j q .shape
+    shape : Shape (holes (formOf (nth (keyEntries (bookIn t)) e))) i j
+    unfolding keyOf
+    shape = known (keyEntries (bookIn t)) x e k f i j q .shape
 
-  -- a form with no index has one slot
-  form-slot : (d : String) (E : ℕ) → Only d E → same (form E) (bytes d) ≡ true → holes (formOf (nth keyEntries E)) ≡ 0 → same (form e) (bytes d) ≡ eqb (slotOf e i j) (slotOf E 0 0)
-  form-slot d E o s z = test-eq (same (form e) (bytes d)) (eqb (slotOf e i j) (slotOf E 0 0))
-      (λ t. let g : e ≡ E = only d E e o inside t in let w : holes (formOf (nth keyEntries e)) ≡ 0 = subst (λ (n : ℕ). holes (formOf (nth keyEntries n)) ≡ 0) (sym g) z in eq-eqb (slotOf e i j) (slotOf E 0 0) (omega (arith, shape)))
-      (λ t. let g : e ≡ E = omega (arith, eqb-true (slotOf e i j) (slotOf E 0 0) t, shape .i-high, shape .j-most, shape .few) in subst (λ (n : ℕ). same (form n) (bytes d) ≡ true) (sym g) s)
+    -- a form with no index has one slot
+    form-slot : (d : String) (E : ℕ) → Only d E → same (form E) (bytes d) ≡ true → holes (formOf (nth (keyEntries (bookIn t)) E)) ≡ 0 → same (form e) (bytes d) ≡ eqb (slotOf e i j) (slotOf E 0 0)
+    form-slot d E o s z = test-eq (same (form e) (bytes d)) (eqb (slotOf e i j) (slotOf E 0 0))
+        (λ v. let g : e ≡ E = only d E e o inside v in let w : holes (formOf (nth (keyEntries (bookIn t)) e)) ≡ 0 = subst (λ (n : ℕ). holes (formOf (nth (keyEntries (bookIn t)) n)) ≡ 0) (sym g) z in eq-eqb (slotOf e i j) (slotOf E 0 0) (omega (arith, shape)))
+        (λ v. let g : e ≡ E = omega (arith, eqb-true (slotOf e i j) (slotOf E 0 0) v, shape .i-high, shape .j-most, shape .few) in subst (λ (n : ℕ). same (form n) (bytes d) ≡ true) (sym g) s)
 
-  -- a form with one index has 64
-  form-slots : (d : String) (E : ℕ) → Only d E → same (form E) (bytes d) ≡ true → holes (formOf (nth keyEntries E)) ≡ 1 → same (form e) (bytes d) ≡ any (λ n. eqb (slotOf e i j) (slotOf E n 0)) (upFrom 64 1)
-  form-slots d E o s z = test-eq (same (form e) (bytes d)) (any (λ n. eqb (slotOf e i j) (slotOf E n 0)) (upFrom 64 1))
-      (λ t. let g : e ≡ E = only d E e o inside t in let w : holes (formOf (nth keyEntries e)) ≡ 1 = subst (λ (n : ℕ). holes (formOf (nth keyEntries n)) ≡ 1) (sym g) z in any-up (λ n. eqb (slotOf e i j) (slotOf E n 0)) 64 1 i (omega (arith, shape)) (omega (arith, shape)) (eq-eqb (slotOf e i j) (slotOf E i 0) (omega (arith, shape))))
-      (λ t. let r = up-any (λ n. eqb (slotOf e i j) (slotOf E n 0)) 64 1 t in let g : e ≡ E = omega (arith, eqb-true (slotOf e i j) (slotOf E (r .0) 0) (r .1 .1 .1), r .1 .0, r .1 .1 .0, shape .i-high, shape .j-most, shape .few) in subst (λ (n : ℕ). same (form n) (bytes d) ≡ true) (sym g) s)
+    -- a form with one index has 64
+    form-slots : (d : String) (E : ℕ) → Only d E → same (form E) (bytes d) ≡ true → holes (formOf (nth (keyEntries (bookIn t)) E)) ≡ 1 → same (form e) (bytes d) ≡ any (λ n. eqb (slotOf e i j) (slotOf E n 0)) (upFrom 64 1)
+    form-slots d E o s z = test-eq (same (form e) (bytes d)) (any (λ n. eqb (slotOf e i j) (slotOf E n 0)) (upFrom 64 1))
+        (λ v. let g : e ≡ E = only d E e o inside v in let w : holes (formOf (nth (keyEntries (bookIn t)) e)) ≡ 1 = subst (λ (n : ℕ). holes (formOf (nth (keyEntries (bookIn t)) n)) ≡ 1) (sym g) z in any-up (λ n. eqb (slotOf e i j) (slotOf E n 0)) 64 1 i (omega (arith, shape)) (omega (arith, shape)) (eq-eqb (slotOf e i j) (slotOf E i 0) (omega (arith, shape))))
+        (λ v. let r = up-any (λ n. eqb (slotOf e i j) (slotOf E n 0)) 64 1 v in let g : e ≡ E = omega (arith, eqb-true (slotOf e i j) (slotOf E (r .0) 0) (r .1 .1 .1), r .1 .0, r .1 .1 .0, shape .i-high, shape .j-most, shape .few) in subst (λ (n : ℕ). same (form n) (bytes d) ≡ true) (sym g) s)
 
--- A LINE WITH SUCH A KEY
+  -- A LINE WITH SUCH A KEY
 
-module _ (d : String) (E : ℕ) (o : Only d E) (s : same (form E) (bytes d) ≡ true) where
-  key-slot : holes (formOf (nth keyEntries E)) ≡ 0 → (m : Bytes) → hasSlot (slotOf E 0 0) m ≡ hasKey d m
-  unfolding hasSlot hasKey
-  key-slot z m = rw (by (keyFound m) refl)
+  module _ (d : String) (E : ℕ) (o : Only d E) (s : same (form E) (bytes d) ≡ true) where
+    key-slot : holes (formOf (nth (keyEntries (bookIn t)) E)) ≡ 0 → (m : Bytes) → hasSlot (bookIn t) (slotOf E 0 0) m ≡ hasKey (bookIn t) d m
+    unfolding bookIn mzTab hasSlot hasKey
+    key-slot z m = rw (by (keyFound (bookIn t) m) refl)
+      where
+        by : (r : Found) → keyFound (bookIn t) m ≡ r → isSlot (slotOf E 0 0) r ≡ isForm (bookIn t) d r
+        by Unknown q = refl
+        by (Known e k f i j) q = sym (form-slot _ e k f i j q d E o s z)
+
+    key-slots : holes (formOf (nth (keyEntries (bookIn t)) E)) ≡ 1 → (m : Bytes) → any (λ n. hasSlot (bookIn t) (slotOf E n 0) m) (upFrom 64 1) ≡ hasKey (bookIn t) d m
+    unfolding bookIn mzTab hasSlot hasKey
+    key-slots z m = any-both (isField m) (λ n. isSlot (slotOf E n 0) (keyFound (bookIn t) m)) (upFrom 64 1) ∙ rw (by (keyFound (bookIn t) m) refl)
+      where
+        by : (r : Found) → keyFound (bookIn t) m ≡ r → any (λ n. isSlot (slotOf E n 0) r) (upFrom 64 1) ≡ isForm (bookIn t) d r
+        by Unknown q = any-false (upFrom 64 1)
+        by (Known e k f i j) q = sym (form-slots _ e k f i j q d E o s z)
+
+    -- some line has the key where its slot is marked
+    entry-means : (above : List Bytes) (slots : List Bool) → holes (formOf (nth (keyEntries (bookIn t)) E)) ≡ 0 → slotOf E 0 0 < 257725 → Slots (bookIn t) above slots → hasEntry slots E ≡ any (hasKey (bookIn t) d) above
+    entry-means above slots z l h = h (slotOf E 0 0) l ∙ any-alike (hasSlot (bookIn t) (slotOf E 0 0)) (hasKey (bookIn t) d) (key-slot z) above
+
+    run-means : (above : List Bytes) (slots : List Bool) → holes (formOf (nth (keyEntries (bookIn t)) E)) ≡ 1 → E < 61 → Slots (bookIn t) above slots → any (λ n. getD slots (slotOf E n 0) false) (upFrom 64 1) ≡ any (hasKey (bookIn t) d) above
+    run-means above slots z l h =
+        any-within (λ n. getD slots (slotOf E n 0) false) (λ n. any (hasSlot (bookIn t) (slotOf E n 0)) above) 64 1 (λ n a b. h (slotOf E n 0) (omega arith))
+        ∙ any-swap (λ n m. hasSlot (bookIn t) (slotOf E n 0) m) (upFrom 64 1) above ∙ any-alike (λ m. any (λ n. hasSlot (bookIn t) (slotOf E n 0) m) (upFrom 64 1)) (hasKey (bookIn t) d) (key-slots z) above
+
+  -- THE FIVE
+
+  -- a break in front of a list, and of what comes after it
+  front : (t : Bool) (b : Break) (bs rest : List Break) → when t b (bs ++ rest) ≡ (when t b [] ++ bs) ++ rest
+  front true b bs rest = refl
+  front false b bs rest = refl
+
+  only-version : Only "mzTab-version" 0
+  unfolding Only all upFrom keys bytes same
+  only-version = refl
+
+  only-mode : Only "mzTab-mode" 1
+  unfolding Only all upFrom keys bytes same
+  only-mode = refl
+
+  only-type : Only "mzTab-type" 2
+  unfolding Only all upFrom keys bytes same
+  only-type = refl
+
+  only-description : Only "description" 5
+  unfolding Only all upFrom keys bytes same
+  only-description = refl
+
+  only-location : Only "ms_run[n]-location" 16
+  unfolding Only all upFrom keys bytes same
+  only-location = refl
+
+  -- what is put at the end is what rule 21 gives
+  pub end-means : (F : List Bytes) (slots : List Bool) → Slots (bookIn t) F slots → (rest : List Break) → endBreaks slots (length F + 1) rest ≡ atEnd (endRules (bookIn t)) (ends (bookIn t)) F ++ rest
+  unfolding endBreaks atEnd endRules each atCell bookIn mzTab demanded keys bytes same holes piecesFrom entryOf
+  end-means F slots h rest =
+      rw (
+        entry-means "mzTab-version" 0 only-version refl F slots refl (omega arith) h,
+        entry-means "mzTab-mode" 1 only-mode refl F slots refl (omega arith) h,
+        entry-means "mzTab-type" 2 only-type refl F slots refl (omega arith) h,
+        entry-means "description" 5 only-description refl F slots refl (omega arith) h,
+        run-means "ms_run[n]-location" 16 only-location refl F slots refl (omega arith) h,
+      ) (go (not (any (hasKey (bookIn t) "mzTab-version") F)) (not (any (hasKey (bookIn t) "mzTab-mode") F)) (not (any (hasKey (bookIn t) "mzTab-type") F)) (not (any (hasKey (bookIn t) "description") F)) (not (any (hasKey (bookIn t) "ms_run[n]-location") F)))
     where
-      by : (r : Found) → keyFound m ≡ r → isSlot (slotOf E 0 0) r ≡ isForm d r
-      by Unknown q = refl
-      by (Known e k f i j) q = sym (form-slot _ e k f i j q d E o s z)
+      n : ℕ
+      n = length F + 1
 
-  key-slots : holes (formOf (nth keyEntries E)) ≡ 1 → (m : Bytes) → any (λ n. hasSlot (slotOf E n 0) m) (upFrom 64 1) ≡ hasKey d m
-  unfolding hasSlot hasKey
-  key-slots z m = any-both (isMeta m) (isThree m) (λ n. isSlot (slotOf E n 0) (keyFound m)) (upFrom 64 1) ∙ rw (by (keyFound m) refl)
-    where
-      by : (r : Found) → keyFound m ≡ r → any (λ n. isSlot (slotOf E n 0) r) (upFrom 64 1) ≡ isForm d r
-      by Unknown q = any-false (upFrom 64 1)
-      by (Known e k f i j) q = sym (form-slots _ e k f i j q d E o s z)
-
-  -- some line has the key where its slot is marked
-  entry-means : (above : List Bytes) (slots : List Bool) → holes (formOf (nth keyEntries E)) ≡ 0 → slotOf E 0 0 < 257725 → Slots above slots → hasEntry slots E ≡ any (hasKey d) above
-  entry-means above slots z l h = h (slotOf E 0 0) l ∙ any-alike (hasSlot (slotOf E 0 0)) (hasKey d) (key-slot z) above
-
-  run-means : (above : List Bytes) (slots : List Bool) → holes (formOf (nth keyEntries E)) ≡ 1 → E < 61 → Slots above slots → any (λ n. getD slots (slotOf E n 0) false) (upFrom 64 1) ≡ any (hasKey d) above
-  run-means above slots z l h =
-      any-within (λ n. getD slots (slotOf E n 0) false) (λ n. any (hasSlot (slotOf E n 0)) above) 64 1 (λ n a b. h (slotOf E n 0) (omega arith))
-      ∙ any-swap (λ n m. hasSlot (slotOf E n 0) m) (upFrom 64 1) above ∙ any-alike (λ m. any (λ n. hasSlot (slotOf E n 0) m) (upFrom 64 1)) (hasKey d) (key-slots z) above
-
--- THE FIVE
-
--- a break in front of a list, and of what comes after it
-front : (t : Bool) (b : Break) (bs rest : List Break) → when t b (bs ++ rest) ≡ (when t b [] ++ bs) ++ rest
-front true b bs rest = refl
-front false b bs rest = refl
-
-only-version : Only "mzTab-version" 0
-unfolding Only all upFrom keys bytes same
-only-version = refl
-
-only-mode : Only "mzTab-mode" 1
-unfolding Only all upFrom keys bytes same
-only-mode = refl
-
-only-type : Only "mzTab-type" 2
-unfolding Only all upFrom keys bytes same
-only-type = refl
-
-only-description : Only "description" 5
-unfolding Only all upFrom keys bytes same
-only-description = refl
-
-only-location : Only "ms_run[n]-location" 16
-unfolding Only all upFrom keys bytes same
-only-location = refl
-
--- what is put at the end is what rule 21 gives
-pub end-means : (F : List Bytes) (slots : List Bool) → Slots F slots → (rest : List Break) → endBreaks slots (length F + 1) rest ≡ atEnd endRules ENDS F ++ rest
-unfolding endBreaks atEnd endRules each atCell demanded keys bytes same holes keyEntries piecesFrom entryOf
-end-means F slots h rest =
-    rw (
-      entry-means "mzTab-version" 0 only-version refl F slots refl (omega arith) h,
-      entry-means "mzTab-mode" 1 only-mode refl F slots refl (omega arith) h,
-      entry-means "mzTab-type" 2 only-type refl F slots refl (omega arith) h,
-      entry-means "description" 5 only-description refl F slots refl (omega arith) h,
-      run-means "ms_run[n]-location" 16 only-location refl F slots refl (omega arith) h,
-    ) (go (not (any (hasKey "mzTab-version") F)) (not (any (hasKey "mzTab-mode") F)) (not (any (hasKey "mzTab-type") F)) (not (any (hasKey "description") F)) (not (any (hasKey "ms_run[n]-location") F)))
-  where
-    n : ℕ
-    n = length F + 1
-
-    go : (a b c d e : Bool)
-        → when a (breakAt n 1 21) (when b (breakAt n 2 21) (when c (breakAt n 3 21) (when d (breakAt n 4 21) (when e (breakAt n 5 21) rest))))
-        ≡ (when a (breakAt n 1 21) [] ++ (when b (breakAt n 2 21) [] ++ (when c (breakAt n 3 21) [] ++ (when d (breakAt n 4 21) [] ++ (when e (breakAt n 5 21) [] ++ []))))) ++ rest
-    go a b c d e =
-        let e1 = when e (breakAt n 5 21) [] ++ [] in
-        let d1 = when d (breakAt n 4 21) [] ++ e1 in
-        let c1 = when c (breakAt n 3 21) [] ++ d1 in
-        let b1 = when b (breakAt n 2 21) [] ++ c1 in
-        ap (when a (breakAt n 1 21)) (ap (when b (breakAt n 2 21)) (ap (when c (breakAt n 3 21)) (ap (when d (breakAt n 4 21)) (front e (breakAt n 5 21) [] rest) ∙ front d (breakAt n 4 21) e1 rest) ∙ front c (breakAt n 3 21) d1 rest) ∙ front b (breakAt n 2 21) c1 rest) ∙ front a (breakAt n 1 21) b1 rest
+      go : (a b c d e : Bool)
+          → when a (breakAt n 1 21) (when b (breakAt n 2 21) (when c (breakAt n 3 21) (when d (breakAt n 4 21) (when e (breakAt n 5 21) rest))))
+          ≡ (when a (breakAt n 1 21) [] ++ (when b (breakAt n 2 21) [] ++ (when c (breakAt n 3 21) [] ++ (when d (breakAt n 4 21) [] ++ (when e (breakAt n 5 21) [] ++ []))))) ++ rest
+      go a b c d e =
+          let e1 = when e (breakAt n 5 21) [] ++ [] in
+          let d1 = when d (breakAt n 4 21) [] ++ e1 in
+          let c1 = when c (breakAt n 3 21) [] ++ d1 in
+          let b1 = when b (breakAt n 2 21) [] ++ c1 in
+          ap (when a (breakAt n 1 21)) (ap (when b (breakAt n 2 21)) (ap (when c (breakAt n 3 21)) (ap (when d (breakAt n 4 21)) (front e (breakAt n 5 21) [] rest) ∙ front d (breakAt n 4 21) e1 rest) ∙ front c (breakAt n 3 21) d1 rest) ∙ front b (breakAt n 2 21) c1 rest) ∙ front a (breakAt n 1 21) b1 rest

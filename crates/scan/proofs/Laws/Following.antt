@@ -10,7 +10,8 @@ use lib.Seq.{getD-set-same, getD-set-other}
 use lib.ListN.{getD, set, length-set}
 use borrow.Author.Tests.{ne-eqb, lt-ltb, le-ltb, ltb-true, ltb-false, eqb-true, eqb-false}
 use Rattle.text.specs.Bytes.{Bytes, any, isEmpty, splitOn}
-use Rattle.rules.specs.Sorts.{sortOf, headerIn, rowIn, isTable, width}
+use Rattle.text.specs.Lines.{width}
+use Rattle.rules.specs.Sorts.{sortOf, headerIn, rowIn, isTable}
 use Rattle.rules.specs.Rules.{ofSection, ofLater, nearer, nearest, nearestIn}
 use Rattle.scan.specs.Machine.{hasSlot, Slots}
 use Rattle.scan.specs.Carried.{initial, afterHeader, afterRow, Stands, Follows}
@@ -19,16 +20,18 @@ use Rattle.rules.specs.declared.sorts.Sort.{Sort}
 use Rattle.rules.specs.declared.sorts.Sort.the-variants.{Silent, Unknown, Meta, Header, Row}
 use Rattle.rules.proofs.Laws.Sorting.{header-section, row-section}
 use Rattle.scan.proofs.Laws.Celling.{any-append}
+use Rattle.book.specs.Book.{SECTIONS, Book}
+use Rattle.book.proofs.Laws.Sized.{Sized}
 
-nearest-append : (xs : List Bytes) (x found : Bytes) → nearestIn (xs ++ (x ∷ [])) found ≡ nearer x (nearestIn xs found)
+nearest-append : (book : Book) (xs : List Bytes) (x found : Bytes) → nearestIn book (xs ++ (x ∷ [])) found ≡ nearer book x (nearestIn book xs found)
 unfolding nearestIn
-nearest-append [] x found = refl
-nearest-append (y ∷ ys) x found = nearest-append ys x (nearer y found)
+nearest-append book [] x found = refl
+nearest-append book (y ∷ ys) x found = nearest-append book ys x (nearer book y found)
 
 -- BEFORE THE FIRST LINE
-pub stands-start : (kinds : List ℕ) (slots : List Bool) → ((i : ℕ) → getD slots i false ≡ false) → Stands [] initial kinds slots
+pub stands-start : (book : Book) (kinds : List ℕ) (slots : List Bool) → ((i : ℕ) → getD slots i false ≡ false) → Stands book [] initial kinds slots
 unfolding any nearestIn sortOf isEmpty splitOn
-stands-start kinds slots empty = record {
+stands-start book kinds slots empty = record {
   seen = λ i p h. none i;
   sections = refl;
   highest = λ h. le-ltb h 0 (omega arith);
@@ -48,37 +51,37 @@ stands-start kinds slots empty = record {
     none (suc (suc (suc (suc (suc i))))) = refl
 
 -- AFTER A LINE
-module _ {above : List Bytes} {s : State} {kinds : List ℕ} {slots : List Bool} {l : Bytes} {next : State} {kinds' : List ℕ} {slots' : List Bool}
-    (st : Stands above s kinds slots) (af : Follows s kinds slots l next kinds' slots') where
-  keys-next : Slots (above ++ (l ∷ [])) slots'
-  keys-next i h = af .keys i h ∙ rw (st .keys i h) (sym (any-append (hasSlot i) above l))
+module _ {book : Book} (sized : Sized book) {above : List Bytes} {s : State} {kinds : List ℕ} {slots : List Bool} {l : Bytes} {next : State} {kinds' : List ℕ} {slots' : List Bool}
+    (st : Stands book above s kinds slots) (af : Follows book s kinds slots l next kinds' slots') where
+  keys-next : Slots book (above ++ (l ∷ [])) slots'
+  keys-next i h = af .keys i h ∙ rw (st .keys i h) (sym (any-append (hasSlot book i) above l))
 
   -- a line that is no header
-  kept : headerIn (sortOf l) ≡ 0 → next .seen ≡ s .seen → next .highest ≡ s .highest → next .section ≡ s .section → next .width ≡ s .width → next .table ≡ (s .table || isTable l)
-      → Stands (above ++ (l ∷ [])) next kinds' slots'
-  kept z a m b c d = record {
-    seen = λ i q h. rw a (st .seen i q h ∙ sym (any-append (ofSection i) above l ∙ rw (z, ne-eqb 0 i (λ e. omega arith)) (or-false (any (ofSection i) above))));
+  kept : headerIn (sortOf book l) ≡ 0 → next .seen ≡ s .seen → next .highest ≡ s .highest → next .section ≡ s .section → next .width ≡ s .width → next .table ≡ (s .table || isTable book l)
+      → Stands book (above ++ (l ∷ [])) next kinds' slots'
+  kept z a m f c d = record {
+    seen = λ i q h. rw a (st .seen i q h ∙ sym (any-append (ofSection book i) above l ∙ rw (z, ne-eqb 0 i (λ e. omega arith)) (or-false (any (ofSection book i) above))));
     sections = rw a (st .sections);
-    highest = λ h. rw m (st .highest h ∙ sym (any-append (ofLater h) above l ∙ rw (z, le-ltb h 0 (omega arith)) (or-false (any (ofLater h) above))));
-    section = b ∙ rw (nearest-append above l [], z) (st .section);
-    width = c ∙ rw (nearest-append above l [], z) (st .width);
-    table = d ∙ rw (st .table) (sym (any-append isTable above l));
-    columns = rw (nearest-append above l []) (af .columns (nearest above) (st .columns));
+    highest = λ h. rw m (st .highest h ∙ sym (any-append (ofLater book h) above l ∙ rw (z, le-ltb h 0 (omega arith)) (or-false (any (ofLater book h) above))));
+    section = f ∙ rw (nearest-append book above l [], z) (st .section);
+    width = c ∙ rw (nearest-append book above l [], z) (st .width);
+    table = d ∙ rw (st .table) (sym (any-append (isTable book) above l));
+    columns = rw (nearest-append book above l []) (af .columns (nearest book above) (st .columns));
     keys = keys-next;
   }
 
-  headed : (h : ℕ) → sortOf l ≡ Header h → Stands (above ++ (l ∷ [])) next kinds' slots'
+  headed : (h : ℕ) → sortOf book l ≡ Header h → Stands book (above ++ (l ∷ [])) next kinds' slots'
   headed h e =
-      let pos = header-section l h e .0 in
+      let pos = header-section book sized l h e .0 in
       let q : next ≡ afterHeader h (width l) s = af .state ∙ rw e in
       rw q (record {
         seen = λ i p k. seen-set i p k;
         sections = length-set (s .seen) h true ∙ st .sections;
-        highest = λ k. rw (any-append (ofLater k) above l, ← st .highest k, e) (highest-set k (ltb (s .highest) h) refl);
-        section = rw (nearest-append above l [], e, lt-ltb 0 h pos, e);
-        width = rw (nearest-append above l [], e, lt-ltb 0 h pos);
-        table = rw (any-append isTable above l, e, lt-ltb 0 h pos) (sym (or-true (any isTable above)));
-        columns = rw (nearest-append above l []) (af .columns (nearest above) (st .columns));
+        highest = λ k. rw (any-append (ofLater book k) above l, ← st .highest k, e) (highest-set k (ltb (s .highest) h) refl);
+        section = rw (nearest-append book above l [], e, lt-ltb 0 h pos, e);
+        width = rw (nearest-append book above l [], e, lt-ltb 0 h pos);
+        table = rw (any-append (isTable book) above l, e, lt-ltb 0 h pos) (sym (or-true (any (isTable book) above)));
+        columns = rw (nearest-append book above l []) (af .columns (nearest book above) (st .columns));
         keys = keys-next;
       })
     where
@@ -94,23 +97,23 @@ module _ {above : List Bytes} {s : State} {kinds : List ℕ} {slots : List Bool}
           go true w = lt-ltb k (s .highest) (omega (arith, ltb-true k h w, ltb-false (s .highest) h u)) ∙ sym (or-true (ltb k (s .highest)))
           go false w = sym (or-false (ltb k (s .highest)))
 
-      seen-set : (i : ℕ) → 0 < i → i < 5 → getD (set (s .seen) h true) i false ≡ any (ofSection i) (above ++ (l ∷ []))
+      seen-set : (i : ℕ) → 0 < i → i < SECTIONS → getD (set (s .seen) h true) i false ≡ any (ofSection book i) (above ++ (l ∷ []))
       seen-set i p k = go (eqb h i) refl
         where
-          go : (t : Bool) → eqb h i ≡ t → getD (set (s .seen) h true) i false ≡ any (ofSection i) (above ++ (l ∷ []))
+          go : (t : Bool) → eqb h i ≡ t → getD (set (s .seen) h true) i false ≡ any (ofSection book i) (above ++ (l ∷ []))
           go true t = let g : h ≡ i = eqb-true h i t in
-              rw (any-append (ofSection i) above l, e, t, or-true (any (ofSection i) above), g) (getD-set-same (s .seen) i true false (omega (arith, st .sections)))
+              rw (any-append (ofSection book i) above l, e, t, or-true (any (ofSection book i) above), g) (getD-set-same (s .seen) i true false (omega (arith, st .sections)))
           go false t =
-              rw (any-append (ofSection i) above l, e, t, or-false (any (ofSection i) above)) (getD-set-other (s .seen) h i true false (λ g. eqb-false h i t (sym g)) ∙ st .seen i p k)
+              rw (any-append (ofSection book i) above l, e, t, or-false (any (ofSection book i) above)) (getD-set-other (s .seen) h i true false (λ g. eqb-false h i t (sym g)) ∙ st .seen i p k)
 
-  same-state : {σ : Sort} → sortOf l ≡ σ → next ≡ s → (headerIn σ ≡ 0) → (rowIn σ ≡ 0) → Stands (above ++ (l ∷ [])) next kinds' slots'
+  same-state : {σ : Sort} → sortOf book l ≡ σ → next ≡ s → (headerIn σ ≡ 0) → (rowIn σ ≡ 0) → Stands book (above ++ (l ∷ [])) next kinds' slots'
   same-state e q z w = kept (rw e z) (ap (λ (x : State). x .seen) q) (ap (λ (x : State). x .highest) q) (ap (λ (x : State). x .section) q) (ap (λ (x : State). x .width) q)
       (ap (λ (x : State). x .table) q ∙ rw (e, z, w) (sym (or-false (s .table))))
 
-  pub stands-next : Stands (above ++ (l ∷ [])) next kinds' slots'
-  stands-next = go (sortOf l) refl
+  pub stands-next : Stands book (above ++ (l ∷ [])) next kinds' slots'
+  stands-next = go (sortOf book l) refl
     where
-      go : (σ : Sort) → sortOf l ≡ σ → Stands (above ++ (l ∷ [])) next kinds' slots'
+      go : (σ : Sort) → sortOf book l ≡ σ → Stands book (above ++ (l ∷ [])) next kinds' slots'
       go Silent e = same-state e (af .state ∙ rw e) refl refl
       go Unknown e = same-state e (af .state ∙ rw e) refl refl
       go Meta e = same-state e (af .state ∙ rw e) refl refl
@@ -118,4 +121,4 @@ module _ {above : List Bytes} {s : State} {kinds : List ℕ} {slots : List Bool}
       go (Row r) e =
           let q : next ≡ afterRow s = af .state ∙ rw e in
           kept (rw e) (ap (λ (x : State). x .seen) q) (ap (λ (x : State). x .highest) q) (ap (λ (x : State). x .section) q) (ap (λ (x : State). x .width) q)
-          (ap (λ (x : State). x .table) q ∙ rw (e, lt-ltb 0 r (row-section l r e .0)) (sym (or-true (s .table))))
+          (ap (λ (x : State). x .table) q ∙ rw (e, lt-ltb 0 r (row-section book sized l r e .0)) (sym (or-true (s .table))))

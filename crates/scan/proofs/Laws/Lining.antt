@@ -6,10 +6,8 @@ use Prim.Native.Nat.{ℕ}
 use lib.Dec.{ltb}
 use lib.ListN.{getD}
 use Rattle.text.specs.Bytes.{Bytes}
-use Rattle.text.specs.Lines.{cells}
-use Rattle.book.specs.Keys.{keyOf}
-use Rattle.book.specs.Columns.{columnOf}
-use Rattle.rules.specs.Sorts.{cell, sortOf, controlCell}
+use Rattle.text.specs.Lines.{cells, cell}
+use Rattle.rules.specs.Sorts.{sortOf, controlCell}
 use Rattle.rules.specs.Breaks.{Break, spot, atLine}
 use Rattle.rules.specs.Rules.{namesUndeclared, columnUndeclared, rules}
 use Rattle.scan.specs.Machine.{Ids, undeclaredIn, columnIn}
@@ -20,19 +18,21 @@ use Rattle.rules.specs.declared.sorts.Sort.the-variants.{Silent, Unknown, Meta,
 use Rattle.rules.proofs.Laws.Sorting.{header-section}
 use Rattle.scan.proofs.Laws.Means.{means-silent, means-unknown, means-meta, means-header, means-row}
 use Rattle.scan.proofs.Laws.Keeping.{again-means}
+use Rattle.book.specs.Book.{Book, keyOf, columnOf}
+use Rattle.book.proofs.Laws.Sized.{Sized}
 
 -- the ids say of every value and every column whether it names an undeclared one
-pub record Knows (file : List Bytes) (ids : Ids) : Type 0 where
-  pub values : (x v : Bytes) → namesUndeclared file (keyOf x) v ≡ undeclaredIn ids (keyOf x) v
-  pub columns : (section : ℕ) (x : Bytes) → columnUndeclared file (columnOf section x) ≡ columnIn ids (columnOf section x)
+pub record Knows (book : Book) (file : List Bytes) (ids : Ids) : Type 0 where
+  pub values : (x v : Bytes) → namesUndeclared book file (keyOf book x) v ≡ undeclaredIn ids (keyOf book x) v
+  pub columns : (section : ℕ) (x : Bytes) → columnUndeclared book file (columnOf book section x) ≡ columnIn ids (columnOf book section x)
 
-module _ {above file : List Bytes} {ids : Ids} {s : State} {kinds : List ℕ} {slots : List Bool} (k : Knows file ids) (st : Stands above s kinds slots) (l : Bytes) (n : ℕ) (rest : List Break) where
-  pub means : lineBreaks ids s kinds slots n l rest ≡ atLine rules (spot above l file) n ++ rest
-  means = go (sortOf l) refl
+module _ {book : Book} (sized : Sized book) {above file : List Bytes} {ids : Ids} {s : State} {kinds : List ℕ} {slots : List Bool} (k : Knows book file ids) (st : Stands book above s kinds slots) (l : Bytes) (n : ℕ) (rest : List Break) where
+  pub means : lineBreaks book ids s kinds slots n l rest ≡ atLine (rules book) (spot above l file) n ++ rest
+  means = go (sortOf book l) refl
     where
-      go : (σ : Sort) → sortOf l ≡ σ → sortBreaks σ ids s kinds slots (controlCell l) n (cells l) rest ≡ atLine rules (spot above l file) n ++ rest
-      go Silent e = means-silent above file l n rest e
-      go Unknown e = means-unknown above file l n rest e
-      go Meta e = means-meta above file l n rest e (s .table) slots ids (st .table) (again-means l above slots (st .keys)) (k .values (cell 2 l) (cell 3 l))
-      go (Header h) e = means-header above file l n rest h e (getD (s .seen) h false) (ltb h (s .highest)) ids (st .seen h (header-section l h e .0) (header-section l h e .1)) (st .highest h) (k .columns h)
-      go (Row r) e = means-row above file l n rest r e (s .section) (s .width) kinds (st .section) (st .width) (st .columns)
+      go : (σ : Sort) → sortOf book l ≡ σ → sortBreaks book σ ids s kinds slots (controlCell l) n (cells l) rest ≡ atLine (rules book) (spot above l file) n ++ rest
+      go Silent e = means-silent book sized above file l n rest e
+      go Unknown e = means-unknown book sized above file l n rest e
+      go Meta e = means-meta book sized above file l n rest e (s .table) slots ids (st .table) (again-means book sized l above slots (st .keys)) (k .values (cell 2 l) (cell 3 l))
+      go (Header h) e = means-header book sized above file l n rest h e (getD (s .seen) h false) (ltb h (s .highest)) ids (st .seen h (header-section book sized l h e .0) (header-section book sized l h e .1)) (st .highest h) (k .columns h)
+      go (Row r) e = means-row book sized above file l n rest r e (s .section) (s .width) kinds (st .section) (st .width) (st .columns)

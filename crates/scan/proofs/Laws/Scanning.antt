@@ -10,18 +10,21 @@ use lib.Dec.{eqb}
 use lib.Seq.{getD-drop, drop-drop, take-suc}
 use lib.ListN.{length, take, drop, getD, length-append, length-drop}
 use Rattle.text.specs.Bytes.{Bytes, onFirst, splitOn}
-use Rattle.text.specs.Lines.{LIMIT, lines, startsLf}
+use Rattle.text.specs.Lines.{LIMIT, lines, startsLf, width}
 use Rattle.text.specs.Places.{part, LineAt}
 use Rattle.text.proofs.Laws.Lines.{lines-done}
 use Rattle.text.proofs.Laws.Pieces.{onFirst-length}
-use Rattle.rules.specs.Sorts.{isSilent, width}
+use Rattle.rules.specs.Sorts.{isSilent}
 use Rattle.rules.specs.Breaks.{Break, breakAt, when, Spot, spot, spotAt, Rule, each, atCell, atLine, inLines, atEnd}
-use Rattle.rules.specs.Rules.{rules, endRules, breaks}
 use Rattle.scan.specs.Machine.{Ids}
 use Rattle.scan.specs.Carried.{lineBreaks, Stands, Follows, from, last, Scan}
 use Rattle.scan.specs.declared.state.State.{State}
 use Rattle.scan.proofs.Laws.Following.{stands-next}
 use Rattle.scan.proofs.Laws.Lining.{Knows, means}
+use Rattle.book.specs.Book.{Book, mzTab, bookOf}
+use Rattle.book.specs.Keys.{demanded}
+use Rattle.book.proofs.Laws.Sized.{Sized}
+use Rattle.rules.specs.Rules.{rules, endRules, breaksBy, breaks}
 
 -- HOW MANY BREAKS THERE CAN BE: at most one of each rule at a cell, and at most two cells a byte
 
@@ -45,14 +48,14 @@ each-bound m (suc left) c f h =
     let s : m * suc left ≡ m + m * left = omega (arith, mul-suc m left) in
     omega (arith, length-append (f c) (each left (suc c) f), h c, each-bound m left (suc c) f h, s)
 
-line-bound : (p : Spot) (n : ℕ) → length (atLine rules p n) ≤ RULES * width (p .here)
+line-bound : (book : Book) (p : Spot) (n : ℕ) → length (atLine (rules book) p n) ≤ RULES * width (p .here)
 unfolding atLine rules RULES
-line-bound p n = go (isSilent (p .here))
+line-bound book p n = go (isSilent (p .here))
   where
-    all : length (each (width (p .here)) 1 (atCell rules p n)) ≤ 20 * width (p .here)
-    all = each-bound 20 (width (p .here)) 1 (atCell rules p n) (at-bound rules p n)
+    all : length (each (width (p .here)) 1 (atCell (rules book) p n)) ≤ 20 * width (p .here)
+    all = each-bound 20 (width (p .here)) 1 (atCell (rules book) p n) (at-bound (rules book) p n)
 
-    go : (t : Bool) → length (cond t [] (each (width (p .here)) 1 (atCell rules p n))) ≤ 20 * width (p .here)
+    go : (t : Bool) → length (cond t [] (each (width (p .here)) 1 (atCell (rules book) p n))) ≤ 20 * width (p .here)
     go true = omega arith
     go false = all
 
@@ -83,7 +86,7 @@ widths-bound (x ∷ xs) = go (eqb x 10) (eqb x 13 && startsLf xs) (widths-bound 
     go false true h = omega arith
     go false false h = omega (arith, front-widths x (lines xs))
 
-module _ (F : List Bytes) (n : ℕ) {l : Bytes} {ls : List Bytes} (e : drop n F ≡ l ∷ ls) where
+module _ (book : Book) (F : List Bytes) (n : ℕ) {l : Bytes} {ls : List Bytes} (e : drop n F ≡ l ∷ ls) where
   line-here : getD F n [] ≡ l
   line-here =
       let z : n ≡ n + 0 = omega arith in
@@ -101,62 +104,70 @@ module _ (F : List Bytes) (n : ℕ) {l : Bytes} {ls : List Bytes} (e : drop n F 
   lines-above = take-suc F n [] (omega (arith, length-drop n F, ap length e)) ∙ rw line-here
 
   -- the breaks of line n + 1, and those of the lines after it
-  from-next : from F n ≡ atLine rules (spot (take n F) l F) (suc n) ++ from F (suc n)
+  from-next : from book F n ≡ atLine (rules book) (spot (take n F) l F) (suc n) ++ from book F (suc n)
   unfolding each
   from-next =
       let z : suc n - 1 ≡ n = omega arith in
       rw (lines-more, z, line-here)
 
-from-bound : (F : List Bytes) (ls : List Bytes) (n : ℕ) → drop n F ≡ ls → length (from F n) ≤ 20 * widths ls
+from-bound : (book : Book) (F : List Bytes) (ls : List Bytes) (n : ℕ) → drop n F ≡ ls → length (from book F n) ≤ 20 * widths ls
 unfolding widths each RULES
-from-bound F [] n e = let z : length F - n ≡ 0 = omega (arith, length-drop n F, ap length e) in rw z (omega arith)
-from-bound F (l ∷ ls) n e =
-    rw (from-next F n e)
-    (omega (arith, length-append (atLine rules (spot (take n F) l F) (suc n)) (from F (suc n)), line-bound (spot (take n F) l F) (suc n), from-bound F ls (suc n) (lines-left F n e)))
+from-bound book F [] n e = let z : length F - n ≡ 0 = omega (arith, length-drop n F, ap length e) in rw z (omega arith)
+from-bound book F (l ∷ ls) n e =
+    rw (from-next book F n e)
+    (omega (arith, length-append (atLine (rules book) (spot (take n F) l F) (suc n)) (from book F (suc n)), line-bound book (spot (take n F) l F) (suc n), from-bound book F ls (suc n) (lines-left book F n e)))
 
 -- so their count fits 32 bits with room
 pub breaks-bound : (b : Bytes) → length b ≤ LIMIT → length (breaks b) ≤ 671088645
-unfolding breaks inLines atEnd endRules
+unfolding breaks breaksBy inLines atEnd endRules bookOf mzTab demanded
 breaks-bound b h =
     let F = lines b in
+    let book = bookOf F in
     let z : length F ≡ length F - 0 = omega arith in
-    omega (arith, length-append (inLines rules F) (last F), from-bound F F 0 refl, widths-bound b, each-bound 1 5 1 (atCell endRules (spotAt F (length F + 1)) (length F + 1)) (at-bound endRules (spotAt F (length F + 1)) (length F + 1)), ap (λ (k : ℕ). length (each k 1 (λ i. atLine rules (spotAt F i) i))) z)
+    omega (
+      arith,
+      length-append (inLines (rules book) F) (last book F),
+      from-bound book F F 0 refl,
+      widths-bound b,
+      each-bound 1 5 1 (atCell (endRules book) (spotAt F (length F + 1)) (length F + 1)) (at-bound (endRules book) (spotAt F (length F + 1)) (length F + 1)),
+      ap (λ (k : ℕ). length (each k 1 (λ i. atLine (rules book) (spotAt F i) i))) z,
+    )
 
 -- THE SCAN: where it stands, by the place and the number of lines passed
-pub scan-start : (file : Bytes) {s : State} {kinds : List ℕ} {slots : List Bool} → Stands [] s kinds slots → Scan file 0 0 s kinds slots
-scan-start file st = record { within = omega arith; counted = omega arith; passed = omega arith; left = refl; stands = st }
+pub scan-start : (book : Book) (file : Bytes) {s : State} {kinds : List ℕ} {slots : List Bool} → Stands book [] s kinds slots → Scan book file 0 0 s kinds slots
+scan-start book file st = record { within = omega arith; counted = omega arith; passed = omega arith; left = refl; stands = st }
 
 -- all breaks are those of the lines and those at the end
-pub breaks-left : (file : Bytes) → breaks file ≡ from (lines file) 0 ++ last (lines file)
-unfolding breaks inLines
-breaks-left file = let z : length (lines file) - 0 ≡ length (lines file) = omega arith in rw z
+pub breaks-left : (book : Book) (file : Bytes) → breaksBy book (lines file) ≡ from book (lines file) 0 ++ last book (lines file)
+unfolding breaksBy inLines
+breaks-left book file = let z : length (lines file) - 0 ≡ length (lines file) = omega arith in rw z
 
-module _ {file : Bytes} {at n : ℕ} {s : State} {kinds : List ℕ} {slots : List Bool} (h : Scan file at n s kinds slots) where
+module _ {book : Book} (sized : Sized book) {file : Bytes} {at n : ℕ} {s : State} {kinds : List ℕ} {slots : List Bool} (h : Scan book file at n s kinds slots) where
   module _ {end next : ℕ} (line : LineAt file at end next) where
     ahead : drop n (lines file) ≡ part at end file ∷ lines (drop next file)
     ahead = sym (h .left) ∙ line .cut
 
     -- a line further
-    pub scan-step : {s' : State} {kinds' : List ℕ} {slots' : List Bool} → Follows s kinds slots (part at end file) s' kinds' slots' → Scan file next (n + 1) s' kinds' slots'
+    pub scan-step : {s' : State} {kinds' : List ℕ} {slots' : List Bool} → Follows book s kinds slots (part at end file) s' kinds' slots' → Scan book file next (n + 1) s' kinds' slots'
     scan-step af =
         let F = lines file in
         record {
           within = line .within;
           counted = omega (arith, line .on, h .counted);
           passed = omega (arith, length-drop n F, ap length ahead);
-          left = rw (add-one n) (sym (lines-left F n ahead));
-          stands = rw (add-one n, lines-above F n ahead) (stands-next (h .stands) af);
+          left = rw (add-one n) (sym (lines-left book F n ahead));
+          stands = rw (add-one n, lines-above book F n ahead) (stands-next sized (h .stands) af);
         }
 
     -- the breaks of the line, in front of those of the lines after it and those at the end
-    pub scan-left : {ids : Ids} → Knows (lines file) ids
-        → from (lines file) n ++ last (lines file) ≡ lineBreaks ids s kinds slots (n + 1) (part at end file) [] ++ (from (lines file) (n + 1) ++ last (lines file))
+    pub scan-left : {ids : Ids} → Knows book (lines file) ids
+        → from book (lines file) n ++ last book (lines file) ≡ lineBreaks book ids s kinds slots (n + 1) (part at end file) [] ++ (from book (lines file) (n + 1) ++ last book (lines file))
     scan-left k =
         let F = lines file in
         let l = part at end file in
-        let bs = atLine rules (spot (take n F) l F) (suc n) in
-        ap (λ (xs : List Break). xs ++ last F) (from-next F n ahead) ∙ append-assoc bs (from F (suc n)) (last F)
-        ∙ rw (add-one n) (ap (λ (xs : List Break). xs ++ (from F (suc n) ++ last F)) (sym (rw (add-one n) at (means k (h .stands) l (n + 1) []) ∙ append-nil bs)))
+        let bs = atLine (rules book) (spot (take n F) l F) (suc n) in
+        ap (λ (xs : List Break). xs ++ last book F) (from-next book F n ahead) ∙ append-assoc bs (from book F (suc n)) (last book F)
+        ∙ rw (add-one n) (ap (λ (xs : List Break). xs ++ (from book F (suc n) ++ last book F)) (sym (rw (add-one n) at (means sized k (h .stands) l (n + 1) []) ∙ append-nil bs)))
 
   -- all lines are passed
   pub scan-all : length file ≤ at → n ≡ length (lines file)
@@ -165,6 +176,6 @@ module _ {file : Bytes} {at n : ℕ} {s : State} {kinds : List ℕ} {slots : Lis
       omega (arith, h .passed, length-drop n (lines file), ap length none)
 
   -- and what is left are the breaks at the end
-  pub scan-last : length file ≤ at → from (lines file) n ++ last (lines file) ≡ last (lines file)
+  pub scan-last : length file ≤ at → from book (lines file) n ++ last book (lines file) ≡ last book (lines file)
   unfolding each
   scan-last e = let z : length (lines file) - n ≡ 0 = omega (arith, scan-all e) in rw z

@@ -11,7 +11,7 @@ use lib.Seq.{getD-set-same, getD-set-other}
 use borrow.Author.Tests.{eq-eqb, ne-eqb, eqb-true, eqb-false, ltb-true, ltb-false}
 use Rattle.text.specs.Bytes.{Bytes, is}
 use Rattle.text.specs.Lines.{LIMIT, TAB, lines, cells, coded}
-use Rattle.text.specs.Codes.{rowCode}
+use Rattle.book.specs.Book.{rowCode}
 use Rattle.text.specs.Places.{part, Ends, LineAt}
 use Rattle.text.proofs.Laws.Lines.{lines-done}
 use Rattle.text.proofs.Laws.Pieces.{piece-cut, piece-last}

@@ -11,7 +11,7 @@ use lib.ListN.{length, getElem?}
 use borrow.Author.Tests.{le-ltb}
 use Rattle.text.specs.Bytes.{Bytes, is, count}
 use Rattle.text.specs.Lines.{LIMIT, lines, coded}
-use Rattle.text.specs.Codes.{rowCode}
+use Rattle.book.specs.Book.{rowCode}
 use Rattle.rows.specs.Rows.{Line, lineOf, numbered, having, rowOf, rowCount, headerOf, columnNamed, columnOf}
 use Rattle.rows.proofs.Laws.Rowing.{row-coded, rows-long}
 use Rattle.mztab.specs.Shown.{Sought, soughtCell, soughtRow, startOf, sought}

@@ -11,7 +11,7 @@ use lib.Seq.{getD-drop}
 use borrow.Author.Tests.{ne-eqb, eqb-true, eqb-false, ltb-true, ltb-false}
 use Rattle.text.specs.Bytes.{Bytes, bytes, same, is, begins, splitOn, count}
 use Rattle.text.specs.Lines.{LIMIT, lines, cells, coded}
-use Rattle.text.specs.Codes.{headerCode, rowCode}
+use Rattle.book.specs.Book.{headerCode, rowCode}
 use Rattle.text.proofs.Laws.Same.{same-equal, same-self}
 use Rattle.text.proofs.Laws.Counts.{count-most, count-less, lines-most}
 use Rattle.references.specs.References.{refTo}

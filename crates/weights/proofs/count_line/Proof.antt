@@ -2,7 +2,7 @@
 use mathlib.Core.Path.{sym, _∙_}
 use borrow.Author.Needs.{needs}
 use Rattle.text.specs.Bytes.{bytes}
-use Rattle.text.specs.Codes.{rowCode}
+use Rattle.book.specs.Book.{rowCode}
 use Rattle.weights.proofs.Laws.Adding.{row-room, row-counted, other-line}
 use Rattle.weights.proofs.count_line.Statement.{statement}
 use Rattle.weights.proofs.count_line.Tie as tie

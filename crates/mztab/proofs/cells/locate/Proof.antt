@@ -8,7 +8,7 @@ use borrow.Author.Needs.{needs}
 use borrow.Author.Tests.{not-true, not-false}
 use lib.ListN.{length, drop, length-take, length-drop}
 use Rattle.text.specs.Bytes.{Bytes}
-use Rattle.text.specs.Codes.{isSection}
+use Rattle.book.specs.Book.{isSection}
 use Rattle.text.specs.Lines.{TAB, LF}
 use Rattle.text.specs.Places.{part, after}
 use Rattle.rows.specs.Rows.{lineOf, rowOf, columnOf}

@@ -2,8 +2,7 @@
 use mathlib.Core.Path.{sym, _∙_}
 use borrow.Author.Needs.{needs}
 use Rattle.text.specs.Bytes.{bytes}
-use Rattle.text.specs.Codes.{headerCode, rowCode}
-use Rattle.rules.specs.Sorts.{rowSection, headerSection}
+use Rattle.book.specs.Book.{headerCode, rowCode, rowSection, headerSection}
 use Rattle.rules.proofs.Laws.Sorting.{sort-row, sort-header, sort-meta, sort-silent, sort-unknown}
 use Rattle.rules.proofs.sorts.code_sort.Statement.{statement}
 use Rattle.rules.proofs.sorts.code_sort.Tie as tie

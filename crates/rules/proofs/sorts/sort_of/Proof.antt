@@ -3,7 +3,8 @@ use mathlib.Core.Path.{sym}
 use borrow.Author.Needs.{needs}
 use lib.Seq.{length-take-le}
 use Rattle.text.proofs.Laws.Pieces.{first-piece}
-use Rattle.rules.specs.Sorts.{sortOf, cell}
+use Rattle.text.specs.Lines.{cell}
+use Rattle.rules.specs.Sorts.{sortOf}
 use Rattle.rules.proofs.Laws.Sorting.{empty-nil, empty-some}
 use Rattle.rules.proofs.sorts.sort_of.Statement.{statement}
 use Rattle.rules.proofs.sorts.sort_of.Tie as tie
