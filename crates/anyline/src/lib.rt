@@ -15,7 +15,7 @@ ghost use lib.ListN.{length};
 ghost use Rattle.text.specs.Lines.{LIMIT};
 ghost use Rattle.rules.specs.Sorts.{controlCell};
 ghost use Rattle.scan.specs.Places.{lent, Puts};
-ghost use Rattle.book.specs.Text.{IsBook};
+ghost use Rattle.book.specs.Text.{bookIn, IsBook};
 ghost use Rattle.ids.specs.Ids.{Flags};
 ghost use Rattle.stamps.specs.Stamps.{ROOM};
 ghost use Rattle.scan.specs.Machine.{SLOTS, idsOf, unknownBreaks};
@@ -66,11 +66,11 @@ pub fn judge_line(
     requires { ⌜ length (now kinds) ≡ 256 ⌝ }
     requires { ⌜ length (now slots) ≡ SLOTS ⌝ }
     requires { ⌜ length (now stamps) ≡ ROOM ⌝ }
-    ensures { λ r. ⌜ Puts (lineBreaks (idsOf (now (flags .entry))) state (now (kinds .entry)) (now (slots .entry)) «line_no» (now (line .entry))) 1300 (lent (now (places .entry)) count) (lent (now (places .exit)) (r .count)) ⌝ }
-    ensures { λ r. ⌜ Follows state (now (kinds .entry)) (now (slots .entry)) (now (line .entry)) (r .state) (now (kinds .exit)) (now (slots .exit)) ⌝ }
+    ensures { λ r. ⌜ Puts (lineBreaks (bookIn (now (book .entry))) (idsOf (now (flags .entry))) state (now (kinds .entry)) (now (slots .entry)) «line_no» (now (line .entry))) 1300 (lent (now (places .entry)) count) (lent (now (places .exit)) (r .count)) ⌝ }
+    ensures { λ r. ⌜ Follows (bookIn (now (book .entry))) state (now (kinds .entry)) (now (slots .entry)) (now (line .entry)) (r .state) (now (kinds .exit)) (now (slots .exit)) ⌝ }
     ensures { λ r. ⌜ length (now (stamps .exit)) ≡ ROOM ⌝ }
 {
-    let sort = sort_of(line);
+    let sort = sort_of(book, line);
     let control = control_of(line);
     match sort {
         Sort::Silent => Step { count, state },

@@ -12,7 +12,7 @@ ghost use mathlib.Core.Path.{_≡_};
 ghost use Prim.Native.Nat.{_+_, _-_, _≤_, _<_};
 ghost use lib.ListN.{length, drop, set};
 ghost use Rattle.text.specs.Lines.{LIMIT, cells};
-ghost use Rattle.book.specs.Text.{IsBook};
+ghost use Rattle.book.specs.Text.{bookIn, IsBook};
 ghost use Rattle.names.specs.Names.{isKnown};
 ghost use Rattle.book.specs.Book.{columnOf};
 ghost use Rattle.scan.specs.Places.{lent, Puts};
@@ -151,8 +151,8 @@ fn head_cell(
     requires { ⌜ IsBook (now book) ⌝ }
     requires { ⌜ (0 < c) × (c ≤ 256) ⌝ }
     requires { ⌜ length (now kinds) ≡ 256 ⌝ }
-    ensures { λ r. ⌜ Puts (nameCell again opt (idsOf (now (flags .entry))) (columnOf section (now (name .entry))) control «line_no» c (now (name .entry))) 5 (lent (now (places .entry)) count) (lent (now (places .exit)) r) ⌝ }
-    ensures { λ r. ⌜ now (kinds .exit) ≡ set (now (kinds .entry)) (c - 1) (kindIn (columnOf section (now (name .entry)))) ⌝ }
+    ensures { λ r. ⌜ Puts (nameCell again opt (idsOf (now (flags .entry))) (columnOf (bookIn (now (book .entry))) section (now (name .entry))) control «line_no» c (now (name .entry))) 5 (lent (now (places .entry)) count) (lent (now (places .exit)) r) ⌝ }
+    ensures { λ r. ⌜ now (kinds .exit) ≡ set (now (kinds .entry)) (c - 1) (kindIn (columnOf (bookIn (now (book .entry))) section (now (name .entry)))) ⌝ }
 {
     let found = column(book, section as usize, name);
     kinds[(c - 1) as usize] = kind_in(found);
@@ -190,8 +190,8 @@ pub fn head_cells(
     requires { ⌜ length (cells (drop from (now line))) ≤ 255 ⌝ }
     requires { ⌜ length (now kinds) ≡ 256 ⌝ }
     requires { ⌜ length (now stamps) ≡ room ⌝ }
-    ensures { λ r. ⌜ Puts (eachCell (headCell section (cells (drop from (now (line .entry)))) (idsOf (now (flags .entry))) control «line_no») 2 (cells (drop from (now (line .entry))))) 1275 (lent (now (places .entry)) count) (lent (now (places .exit)) r) ⌝ }
-    ensures { λ r. ⌜ KindsOf section (cells (drop from (now (line .entry)))) (now (kinds .exit)) ⌝ }
+    ensures { λ r. ⌜ Puts (eachCell (headCell (bookIn (now (book .entry))) section (cells (drop from (now (line .entry)))) (idsOf (now (flags .entry))) control «line_no») 2 (cells (drop from (now (line .entry))))) 1275 (lent (now (places .entry)) count) (lent (now (places .exit)) r) ⌝ }
+    ensures { λ r. ⌜ KindsOf (bookIn (now (book .entry))) section (cells (drop from (now (line .entry)))) (now (kinds .exit)) ⌝ }
     ensures { λ r. ⌜ length (now (kinds .exit)) ≡ 256 ⌝ }
     ensures { λ r. ⌜ length (now (stamps .exit)) ≡ room ⌝ }
 {

@@ -5,10 +5,12 @@ use scan::places::put_if;
 use text::cells::cell_end;
 use text::cells::count_cells;
 ghost use mathlib.Core.Path.{_≡_};
-ghost use Prim.Native.Nat.{_≤_, _<_};
+ghost use mathlib.Core.Bool.{true};
+ghost use Prim.Native.Nat.{_≤_};
 ghost use lib.ListN.{length, drop};
 ghost use Rattle.text.specs.Lines.{LIMIT, cells};
-ghost use Rattle.book.specs.Text.{IsBook};
+ghost use Rattle.book.specs.Book.{isSection};
+ghost use Rattle.book.specs.Text.{bookIn, IsBook};
 ghost use Rattle.scan.specs.Places.{lent, Puts};
 ghost use Rattle.scan.specs.Machine.{idsOf, headBreaks, headFirst, nameBreaks};
 ghost use Rattle.stamps.specs.Stamps.{ROOM as room};
@@ -51,15 +53,15 @@ fn head_names(
 ) -> u32
     requires { ⌜ count ≤ 3999999000 ⌝ }
     requires { ⌜ IsBook (now book) ⌝ }
-    requires { ⌜ (0 < section) × (section < 5) ⌝ }
+    requires { ⌜ isSection (bookIn (now book)) section ≡ true ⌝ }
     requires { ⌜ (from ≤ length (now line)) × (length (now line) ≤ LIMIT) ⌝ }
     requires { ⌜ length (cells (drop from (now line))) ≤ 255 ⌝ }
     requires { ⌜ length (now kinds) ≡ 256 ⌝ }
     requires { ⌜ length (now stamps) ≡ room ⌝ }
-    ensures { λ r. ⌜ Puts (nameBreaks section (idsOf (now (flags .entry))) control «line_no» (cells (drop from (now (line .entry))))) 1276 (lent (now (places .entry)) count) (lent (now (places .exit)) r) ⌝ }
-    ensures { λ r. ⌜ Kept section (cells (drop from (now (line .entry)))) (now (kinds .exit)) (now (stamps .exit)) ⌝ }
+    ensures { λ r. ⌜ Puts (nameBreaks (bookIn (now (book .entry))) section (idsOf (now (flags .entry))) control «line_no» (cells (drop from (now (line .entry))))) 1276 (lent (now (places .entry)) count) (lent (now (places .exit)) r) ⌝ }
+    ensures { λ r. ⌜ Kept (bookIn (now (book .entry))) section (cells (drop from (now (line .entry)))) (now (kinds .exit)) (now (stamps .exit)) ⌝ }
 {
-    let k = put_if(places, count, lacks(line, from, section), 16, line_no, 1);
+    let k = put_if(places, count, lacks(book, line, from, section), 16, line_no, 1);
     head_cells(
         places,
         k,
@@ -94,12 +96,12 @@ pub fn judge_head(
 ) -> u32
     requires { ⌜ count ≤ 3999998000 ⌝ }
     requires { ⌜ IsBook (now book) ⌝ }
-    requires { ⌜ (0 < section) × (section < 5) ⌝ }
+    requires { ⌜ isSection (bookIn (now book)) section ≡ true ⌝ }
     requires { ⌜ length (now kinds) ≡ 256 ⌝ }
     requires { ⌜ length (now stamps) ≡ room ⌝ }
     requires { ⌜ length (now line) ≤ LIMIT ⌝ }
-    ensures { λ r. ⌜ Puts (headBreaks section again later (idsOf (now (flags .entry))) control «line_no» (cells (now (line .entry)))) 1300 (lent (now (places .entry)) count) (lent (now (places .exit)) r) ⌝ }
-    ensures { λ r. ⌜ Keeps section (now (line .entry)) (now (kinds .exit)) (now (stamps .exit)) ⌝ }
+    ensures { λ r. ⌜ Puts (headBreaks (bookIn (now (book .entry))) section again later (idsOf (now (flags .entry))) control «line_no» (cells (now (line .entry)))) 1300 (lent (now (places .entry)) count) (lent (now (places .exit)) r) ⌝ }
+    ensures { λ r. ⌜ Keeps (bookIn (now (book .entry))) section (now (line .entry)) (now (kinds .exit)) (now (stamps .exit)) ⌝ }
 {
     let wide = MOST_CELLS < count_cells(line);
     let k = head_code(places, count, line_no, control, again, later, wide);

@@ -1,12 +1,16 @@
 // The names of a header: whether a required one is absent.
+use book::directory::wanted_at;
+use references::index::wide;
 use text::bytes::same_bytes;
 use text::cells::cell_end;
 ghost use mathlib.Core.Path.{_≡_};
-ghost use mathlib.Core.Bool.{not};
-ghost use Prim.Native.Nat.{_≤_, _<_};
+ghost use mathlib.Core.Bool.{true, not};
+ghost use Prim.Native.Nat.{_≤_};
 ghost use lib.ListN.{length, take, drop};
 ghost use Rattle.text.specs.Bytes.{any, all, same};
 ghost use Rattle.text.specs.Lines.{cells};
+ghost use Rattle.book.specs.Book.{isSection};
+ghost use Rattle.book.specs.Text.{bookIn, IsBook};
 ghost use Rattle.rules.specs.Rules.{lacksColumn};
 ghost use Rattle.headnames.specs.Wanted.{isIn};
 
@@ -53,24 +57,15 @@ fn lacks_any(line: &[u8], from: usize, wanted: &[u8]) -> bool
 }
 
 // Whether a required column of the section is absent from the names (16), the first of which begins at `from`.
-pub fn lacks(line: &[u8], from: usize, section: u32) -> bool
-    requires { ⌜ (0 < section) × (section < 5) ⌝ }
+pub fn lacks(book: &[u8], line: &[u8], from: usize, section: u32) -> bool
+    requires { ⌜ IsBook (now book) ⌝ }
+    requires { ⌜ isSection (bookIn (now book)) section ≡ true ⌝ }
     requires { ⌜ from ≤ length (now line) ⌝ }
     requires { ⌜ length (cells (drop from (now line))) ≤ 255 ⌝ }
-    ensures { λ r. ⌜ r ≡ lacksColumn section (cells (drop from (now (line .entry)))) ⌝ }
+    ensures { λ r. ⌜ r ≡ lacksColumn (bookIn (now (book .entry))) section (cells (drop from (now (line .entry)))) ⌝ }
 {
-    match section {
-        1 => lacks_any(
-            line,
-            from,
-            b"accession\tdescription\tdatabase\tsearch_engine",
-        ),
-        2 => lacks_any(line, from, b"sequence\taccession\tcharge\tmass_to_charge"),
-        3 => lacks_any(
-            line,
-            from,
-            b"sequence\tPSM_ID\taccession\tcharge\tspectra_ref",
-        ),
-        _ => lacks_any(line, from, b"identifier\tcharge"),
-    }
+    let k = section as usize - wide(book[0]) + 1;
+    let at = wanted_at(book, k);
+    let end = wanted_at(book, k + 1);
+    lacks_any(line, from, &book[at..end])
 }

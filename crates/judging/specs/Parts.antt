@@ -7,9 +7,10 @@ use lib.ListN.{length, take, drop}
 use Rattle.text.specs.Bytes.{Bytes}
 use Rattle.text.specs.Lines.{lines}
 use Rattle.scan.specs.Places.{lent, putAll}
-use Rattle.rules.specs.Rules.{breaks}
+use Rattle.rules.specs.Rules.{breaksBy}
 use Rattle.scan.specs.Carried.{initial, Scan, from, last}
 use Rattle.judging.specs.declared.parts.Stand.{Stand}
+use Rattle.book.specs.Book.{Book}
 
 -- how many breaks were put up to here
 abbrev pub total : Stand → ℕ
@@ -20,18 +21,18 @@ abbrev pub beginning : Stand
 beginning = record { more = true; at = 0; lines = 0; before = 0; held = 0; state = initial }
 
 -- in the middle of a file: what is carried stands for the lines passed, and all of their breaks were put
-pub record Midway (file : Bytes) (s : Stand) (kinds : List ℕ) (slots : List Bool) : Type 0 where
-  pub scan : Scan file (s .at) (s .lines) (s .state) kinds slots
-  pub most : total s ≤ length (breaks file)
-  pub left : drop (total s) (breaks file) ≡ from (lines file) (s .lines) ++ last (lines file)
+pub record Midway (b : Book) (file : Bytes) (s : Stand) (kinds : List ℕ) (slots : List Bool) : Type 0 where
+  pub scan : Scan b file (s .at) (s .lines) (s .state) kinds slots
+  pub most : total s ≤ length (breaksBy b (lines file))
+  pub left : drop (total s) (breaksBy b (lines file)) ≡ from b (lines file) (s .lines) ++ last b (lines file)
 
 -- from s to r: the next breaks of the file are put from the first place on, more than `room` of them only by a line's and the end's; it ends before the last
 -- break only where the room is full, and a line further
-pub record Parts (file : Bytes) (room : ℕ) (s r : Stand) (places places' : List ℕ) : Type 0 where
+pub record Parts (b : Book) (file : Bytes) (room : ℕ) (s r : Stand) (places places' : List ℕ) : Type 0 where
   pub before : r .before ≡ total s
-  pub most : total r ≤ length (breaks file)
-  pub puts : lent places' (r .held) ≡ putAll (lent places 0) (take (r .held) (drop (total s) (breaks file)))
+  pub most : total r ≤ length (breaksBy b (lines file))
+  pub puts : lent places' (r .held) ≡ putAll (lent places 0) (take (r .held) (drop (total s) (breaksBy b (lines file))))
   pub fits : r .held ≤ room + 1305
   pub full : r .more ≡ true → room ≤ r .held
   pub further : r .more ≡ true → s .at < r .at
-  pub all : r .more ≡ false → total r ≡ length (breaks file)
+  pub all : r .more ≡ false → total r ≡ length (breaksBy b (lines file))

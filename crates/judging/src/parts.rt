@@ -9,7 +9,7 @@ ghost use mathlib.Core.Bool.{true};
 ghost use Prim.Native.Nat.{_≤_};
 ghost use lib.ListN.{length};
 ghost use Rattle.text.specs.Lines.{LIMIT};
-ghost use Rattle.book.specs.Text.{IsBook};
+ghost use Rattle.book.specs.Text.{bookIn, IsBook};
 ghost use Rattle.ids.specs.Ids.{Declared};
 ghost use Rattle.scan.specs.Machine.{SLOTS};
 ghost use Rattle.stamps.specs.Stamps.{ROOM};
@@ -56,13 +56,13 @@ pub fn judge_part(
     requires { ⌜ 1 ≤ room ⌝ }
     requires { ⌜ IsBook (now book) ⌝ }
     requires { ⌜ length (now file) ≤ LIMIT ⌝ }
-    requires { ⌜ Midway (now file) stand (now kinds) (now slots) ⌝ }
-    requires { ⌜ Declared (now flags) (now file) ⌝ }
+    requires { ⌜ Midway (bookIn (now book)) (now file) stand (now kinds) (now slots) ⌝ }
+    requires { ⌜ Declared (bookIn (now book)) (now flags) (now file) ⌝ }
     requires { ⌜ length (now kinds) ≡ 256 ⌝ }
     requires { ⌜ length (now slots) ≡ SLOTS ⌝ }
     requires { ⌜ length (now stamps) ≡ ROOM ⌝ }
-    ensures { λ r. ⌜ Parts (now (file .entry)) room stand r (now (places .entry)) (now (places .exit)) ⌝ }
-    ensures { λ r. ⌜ (r .more ≡ true → Midway (now (file .entry)) r (now (kinds .exit)) (now (slots .exit))) ⌝ }
+    ensures { λ r. ⌜ Parts (bookIn (now (book .entry))) (now (file .entry)) room stand r (now (places .entry)) (now (places .exit)) ⌝ }
+    ensures { λ r. ⌜ (r .more ≡ true → Midway (bookIn (now (book .entry))) (now (file .entry)) r (now (kinds .exit)) (now (slots .exit))) ⌝ }
     ensures { λ r. ⌜ (length (now (kinds .exit)) ≡ 256) × (length (now (slots .exit)) ≡ SLOTS) ⌝ }
 {
     let before = stand.before + stand.held;

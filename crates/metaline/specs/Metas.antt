@@ -6,8 +6,9 @@ use mathlib.Core.List.{List}
 use lib.ListN.{length, getD}
 use Rattle.text.specs.Bytes.{Bytes}
 use Rattle.scan.specs.Machine.{SLOTS, hasSlot}
+use Rattle.book.specs.Book.{Book}
 
 -- the slots after a line say which keys came before, the line's own too
-pub record Keeps (l : Bytes) (slots slots' : List Bool) : Type 0 where
-  pub keys : (i : ℕ) → i < SLOTS → getD slots' i false ≡ (getD slots i false || hasSlot i l)
+pub record Keeps (b : Book) (l : Bytes) (slots slots' : List Bool) : Type 0 where
+  pub keys : (i : ℕ) → i < SLOTS → getD slots' i false ≡ (getD slots i false || hasSlot b i l)
   pub places : length slots' ≡ SLOTS

@@ -6,19 +6,17 @@ use scan::places::put_if;
 use text::cells::cell_end;
 use text::cells::count_cells;
 ghost use mathlib.Core.Path.{_≡_};
-ghost use mathlib.Core.Bool.{not};
+ghost use mathlib.Core.Bool.{true, not};
 ghost use mathlib.Core.List.{[]};
 ghost use Prim.Native.Nat.{_≤_};
 ghost use lib.ListN.{length, getD, drop};
-ghost use Rattle.text.specs.Lines.{cells};
+ghost use Rattle.text.specs.Lines.{cells, isMeta};
 ghost use Rattle.book.specs.Book.{keyOf};
 ghost use Rattle.ids.specs.Ids.{Flags};
-ghost use Rattle.book.specs.Text.{IsBook};
-ghost use Rattle.rules.specs.Sorts.{sortOf};
+ghost use Rattle.book.specs.Text.{bookIn, IsBook};
 ghost use Rattle.rules.specs.Breaks.{breakAt, when};
 ghost use Rattle.scan.specs.Places.{lent, Puts};
 ghost use Rattle.scan.specs.Machine.{controlAt, eachCell, metaCell, metaBreaks, idsOf, SLOTS};
-ghost use Rattle.rules.specs.declared.sorts.Sort.the-variants.{Meta};
 ghost use Rattle.metakeys.specs.Keys.{marked};
 ghost use Rattle.metaline.specs.Metas.{Keeps};
 
@@ -75,8 +73,8 @@ fn judge_three(
     requires { ⌜ length (now slots) ≡ SLOTS ⌝ }
     requires { ⌜ length (cells (now line)) ≡ 3 ⌝ }
     requires { ⌜ count ≤ 4000000000 ⌝ }
-    ensures { λ r. ⌜ Puts (eachCell (metaCell (now (slots .entry)) (idsOf (now (flags .entry))) (getD (cells (now (line .entry))) 1 []) (getD (cells (now (line .entry))) 2 []) control «line_no») 2 (drop 1 (cells (now (line .entry))))) 6 (lent (now (places .entry)) count) (lent (now (places .exit)) r) ⌝ }
-    ensures { λ r. ⌜ now (slots .exit) ≡ marked (now (slots .entry)) (keyOf (getD (cells (now (line .entry))) 1 [])) ⌝ }
+    ensures { λ r. ⌜ Puts (eachCell (metaCell (bookIn (now (book .entry))) (now (slots .entry)) (idsOf (now (flags .entry))) (getD (cells (now (line .entry))) 1 []) (getD (cells (now (line .entry))) 2 []) control «line_no») 2 (drop 1 (cells (now (line .entry))))) 6 (lent (now (places .entry)) count) (lent (now (places .exit)) r) ⌝ }
+    ensures { λ r. ⌜ now (slots .exit) ≡ marked (now (slots .entry)) (keyOf (bookIn (now (book .entry))) (getD (cells (now (line .entry))) 1 [])) ⌝ }
 {
     let e = cell_end(line, 0);
     let a = e + 1;
@@ -113,10 +111,10 @@ pub fn judge_meta(
     requires { ⌜ IsBook (now book) ⌝ }
     requires { ⌜ Flags (now flags) ⌝ }
     requires { ⌜ length (now slots) ≡ SLOTS ⌝ }
-    requires { ⌜ sortOf (now line) ≡ Meta ⌝ }
+    requires { ⌜ isMeta (now line) ≡ true ⌝ }
     requires { ⌜ count ≤ 3999998000 ⌝ }
-    ensures { λ r. ⌜ Puts (metaBreaks table (now (slots .entry)) (idsOf (now (flags .entry))) control «line_no» (cells (now (line .entry)))) 1300 (lent (now (places .entry)) count) (lent (now (places .exit)) r) ⌝ }
-    ensures { λ r. ⌜ Keeps (now (line .entry)) (now (slots .entry)) (now (slots .exit)) ⌝ }
+    ensures { λ r. ⌜ Puts (metaBreaks (bookIn (now (book .entry))) table (now (slots .entry)) (idsOf (now (flags .entry))) control «line_no» (cells (now (line .entry)))) 1300 (lent (now (places .entry)) count) (lent (now (places .exit)) r) ⌝ }
+    ensures { λ r. ⌜ Keeps (bookIn (now (book .entry))) (now (line .entry)) (now (slots .entry)) (now (slots .exit)) ⌝ }
 {
     let n = count_cells(line);
     let k1 = put_if(places, count, control == 1, 1, line_no, 1);

@@ -1,6 +1,5 @@
 -- Laws over plain lists and positions, with no code in them: a file for each thing that they speak of.
 pub mod Tests
-pub mod Sections
 pub mod Parts
 pub mod Starts
 pub mod Pieces

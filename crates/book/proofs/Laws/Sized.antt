@@ -4,16 +4,17 @@ use mathlib.Core.Path.{_≡_, refl}
 use native.Mathlib.Omega.{arith}
 use lib.ListN.{length}
 use Rattle.text.specs.Bytes.{Bytes, bytes}
-use Rattle.book.specs.Keys.{keys}
+use Rattle.book.specs.Keys.{keys, demanded}
 use Rattle.book.specs.Book.{SECTIONS, Book, keyEntries, mzTab}
 use Rattle.book.specs.Text.{bookIn}
 
--- sections are numbered from 1 and below SECTIONS; there are at most 61 keys
+-- sections are numbered from 1 and below SECTIONS; there are at most 61 keys, and 5 that a file must have
 pub record Sized (b : Book) : Type 0 where
   pub low : 1 ≤ b .first
   pub high : b .first + length (b .sections) ≤ SECTIONS
   pub few : length (keyEntries b) ≤ 61
+  pub demands : length (b .demanded) ≤ 5
 
 pub book-sized : (t : Bytes) → Sized (bookIn t)
-unfolding bookIn mzTab keys bytes
-book-sized t = record { low = omega arith; high = omega arith; few = omega arith }
+unfolding bookIn mzTab keys demanded bytes
+book-sized t = record { low = omega arith; high = omega arith; few = omega arith; demands = omega arith }

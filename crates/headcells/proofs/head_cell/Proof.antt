@@ -10,7 +10,7 @@ name-cell-requires : tie.Need-name-cell-requires
 name-cell-requires c κs =
     let at-found = c .before .before in
     let args = at-found .before .before .before .before .args in
-    (search needs, subst Within (sym (at-found .column .ensures)) (column-within (args .section) (args .name .now)))
+    (search needs, subst Within (sym (at-found .column .ensures)) (column-within _ (args .section) (args .name .now)))
 
 returns : tie.Need-returns
 returns c =

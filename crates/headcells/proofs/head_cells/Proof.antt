@@ -20,13 +20,14 @@ use Rattle.stamps.proofs.Laws.Noting.{noted-none}
 use Rattle.headcells.proofs.Laws.Kinds.{KindsTo, kinds-step}
 use Rattle.headcells.proofs.head_cells.Statement.{statement}
 use Rattle.headcells.proofs.head_cells.Tie as tie
+use Rattle.book.specs.Text.{bookIn}
 
 abbrev Inv-loop : tie.InvT-loop
 Inv-loop places₀ count book line from section line-no control flags kinds₀ stamps₀ at₀ c₀ k₀ opt₀ places kinds stamps at c k opt =
     (at ≤ length line) × (2 ≤ c) × (c + length (cells (drop at line)) ≤ 257) × (k + 10 ≤ count + 5 * c) × (length places ≡ length places₀)
-    × ((rest : List Break) → putAll (lent places k) (eachCell (headCell section (cells (drop from line)) (idsOf flags) control line-no) c (cells (drop at line)) rest)
-    ≡ putAll (lent places₀ count) (eachCell (headCell section (cells (drop from line)) (idsOf flags) control line-no) 2 (cells (drop from line)) rest))
-    × (drop (c - 2) (cells (drop from line)) ≡ cells (drop at line)) × KindsTo section c (cells (drop from line)) kinds × (length kinds ≡ 256)
+    × ((rest : List Break) → putAll (lent places k) (eachCell (headCell (bookIn book) section (cells (drop from line)) (idsOf flags) control line-no) c (cells (drop at line)) rest)
+    ≡ putAll (lent places₀ count) (eachCell (headCell (bookIn book) section (cells (drop from line)) (idsOf flags) control line-no) 2 (cells (drop from line)) rest))
+    × (drop (c - 2) (cells (drop from line)) ≡ cells (drop at line)) × KindsTo (bookIn book) section c (cells (drop from line)) kinds × (length kinds ≡ 256)
     × (opt ≡ any isOpt (take (c - 2) (cells (drop from line)))) × Noted stamps line-no line (c - 2) × ((z : Bytes) → isNamed stamps line z (c - 2) ≡ any (same z) (take (c - 2) (cells (drop from line))))
 
 abbrev μ-loop : tie.MeasureT-loop
@@ -78,10 +79,10 @@ returns c =
     let here = inv .6 ∙ cell-here ends in
     let name = take (at-end .cell-end .result - loop .at) (drop (loop .at) (args .line .now)) in
     let judged = rw (at-again .came-before .ensures .answer ∙ inv .11 name, inv .9) at (at-cell .head-cell .ensures .0) in
-    let F = headCell (args .section) xs (idsOf (args .flags .now)) (args .control) (args .line-no) in
+    let F = headCell (bookIn (args .book .now)) (args .section) xs (idsOf (args .flags .now)) (args .control) (args .line-no) in
     let in-kinds : loop .c - 1 < length (loop .kinds) = omega (arith, inv .2, inv .8, ap length (cell-here ends)) in
-    let kinds = kinds-step xs (loop .c) (inv .1) here (args .section) (loop .kinds) in-kinds (inv .7) in
-    let kept = length-set (loop .kinds) (loop .c - 1) (kindIn (columnOf (args .section) name)) ∙ inv .8 in
+    let kinds = kinds-step _ xs (loop .c) (inv .1) here (args .section) (loop .kinds) in-kinds (inv .7) in
+    let kept = length-set (loop .kinds) (loop .c - 1) (kindIn (columnOf (bookIn (args .book .now)) (args .section) name)) ∙ inv .8 in
     let all : length xs ≡ loop .c - 1 = column-count xs (loop .c) (inv .1) here ∙ rw (cells-last ends (c .if1 .taken)) (omega arith) in (
       record {
         does = λ rest. turn-last ends F (loop .c) judged rest (c .if1 .taken) ∙ inv .5 rest;
@@ -127,10 +128,10 @@ loop-again c =
     let here = inv .6 ∙ cell-here ends in
     let name = take (at-end .cell-end .result - loop .at) (drop (loop .at) (args .line .now)) in
     let judged = rw (at-again .came-before .ensures .answer ∙ inv .11 name, inv .9) at (at-cell .head-cell .ensures .0) in
-    let F = headCell (args .section) xs (idsOf (args .flags .now)) (args .control) (args .line-no) in
+    let F = headCell (bookIn (args .book .now)) (args .section) xs (idsOf (args .flags .now)) (args .control) (args .line-no) in
     let in-kinds : loop .c - 1 < length (loop .kinds) = omega (arith, inv .2, inv .8, ap length (cell-here ends)) in
-    let kinds = kinds-step xs (loop .c) (inv .1) here (args .section) (loop .kinds) in-kinds (inv .7) in
-    let kept = length-set (loop .kinds) (loop .c - 1) (kindIn (columnOf (args .section) name)) ∙ inv .8 in
+    let kinds = kinds-step _ xs (loop .c) (inv .1) here (args .section) (loop .kinds) in-kinds (inv .7) in
+    let kept = length-set (loop .kinds) (loop .c - 1) (kindIn (columnOf (bookIn (args .book .now)) (args .section) name)) ∙ inv .8 in
     let one : loop .c + 1 - 2 ≡ loop .c - 2 + 1 = omega (arith, inv .1) in
     let lt : at-end .cell-end .result < length (args .line .now) = omega (arith, c .if1 .left, ends .within) in (
       omega (arith, lt),

@@ -1,19 +1,27 @@
 -- Whether all wanted names are among others: the wanted ones by positions in one text, and the required columns. Assumes nothing.
-use mathlib.Core.Path.{_≡_, refl, ap, _∙_}
+use mathlib.Core.Path.{_≡_, refl, sym, ap, subst⁻¹, _∙_}
 use mathlib.Core.Bool.{Bool, true, false, not, _&&_}
 use mathlib.Core.List.{List, [], _∷_, map}
 use Prim.Native.Nat.{ℕ, zero, suc, _+_, _-_, _≤_, _<_}
 use Prim.Native.String.{String}
 use native.Mathlib.Omega.{arith}
 use lib.Seq.{take-all}
-use lib.ListN.{length, take, drop}
-use Rattle.text.specs.Bytes.{Bytes, bytes, any, all, onFirst, splitOn}
+use lib.ListN.{length, take, drop, getD}
 use Rattle.text.specs.Lines.{cells}
-use Rattle.text.specs.Places.{Ends}
-use Rattle.book.specs.Book.{required}
 use Rattle.rules.specs.Rules.{among, lacksColumn}
 use Rattle.scan.proofs.Laws.Celling.{cell-here, cells-next, cells-last}
 use Rattle.headnames.specs.Wanted.{isIn}
+use Rattle.text.specs.Bytes.{Bytes, bytes, any, all}
+use Rattle.text.specs.Places.{part, Ends}
+use Rattle.text.proofs.Laws.Each.{all-at}
+use Rattle.book.specs.Book.{Section, Book, noSection, isSection, sectionOf, mzTab}
+use Rattle.book.specs.Columns.{proteinRequired, peptideRequired, psmRequired, moleculeRequired}
+use Rattle.book.specs.Text.{wantedAt, Wants, IsText, bookIn}
+use Rattle.book.proofs.Laws.Directing.{section-within, section-at}
+
+abbrev isNone : List String → Bool
+isNone [] = true
+isNone (n ∷ ns) = false
 
 -- the first of the cells, by positions
 module _ {l : List ℕ} {s e : ℕ} (h : Ends 9 l s e) (f : Bytes → Bool) where
@@ -47,38 +55,34 @@ unfolding all
 all-bytes names [] = refl
 all-bytes names (t ∷ ts) = rw (all-bytes names ts)
 
--- rule 16: the required columns of each section, as one text
-module _ (names : List Bytes) (few : length names ≤ 255) where
-  lacks-wanted : (section : ℕ) (wanted : Bytes) → cells wanted ≡ map bytes (required section) → not (all (isIn (take 255 names)) (cells wanted)) ≡ lacksColumn section names
+-- rule 16: the required columns of a section, as one text
+module _ {b : Book} {t : Bytes} (d : IsText b t) (s k from to : ℕ) (here : isSection b s ≡ true) (e : k ≡ s - b .first) (at : from ≡ wantedAt t (k + 1)) (end : to ≡ wantedAt t (k + 1 + 1)) where
+  wants : Wants t (k + 1) ((sectionOf b s) .required)
+  wants =
+      let w = section-within b s here in
+      subst⁻¹ (λ (u : Section). Wants t (k + 1) (u .required)) (section-at b s here ∙ ap (λ (i : ℕ). getD (b .sections) i noSection) (sym e)) (d .wanted k (omega (arith, w .1)))
+
+  pub wanted-within : (from ≤ to) × (to ≤ length t)
+  wanted-within = (rw (at, end) (wants .starts), rw end (wants .ends))
+
+  pub lacks-wanted : (names : List Bytes) → length names ≤ 255 → not (all (isIn (take 255 names)) (cells (part from to t))) ≡ lacksColumn b s names
   unfolding lacksColumn
-  lacks-wanted section wanted e = rw (e, take-all 255 names few, all-bytes names (required section))
+  lacks-wanted names few = rw (at, end, wants .wanted, take-all 255 names few, all-bytes names ((sectionOf b s) .required))
 
-  pub lacks-protein : not (all (isIn (take 255 names)) (cells (bytes "accession\tdescription\tdatabase\tsearch_engine"))) ≡ lacksColumn 1 names
-  unfolding bytes splitOn onFirst required
-  lacks-protein = lacks-wanted 1 (bytes "accession\tdescription\tdatabase\tsearch_engine") refl
+-- a header of no names lacks one: every section requires some, computed
+requires-some : (t : Bytes) → all (λ (s : Section). not (isNone (s .required))) ((bookIn t) .sections) ≡ true
+unfolding bookIn mzTab all proteinRequired peptideRequired psmRequired moleculeRequired
+requires-some t = refl
 
-  pub lacks-peptide : not (all (isIn (take 255 names)) (cells (bytes "sequence\taccession\tcharge\tmass_to_charge"))) ≡ lacksColumn 2 names
-  unfolding bytes splitOn onFirst required
-  lacks-peptide = lacks-wanted 2 (bytes "sequence\taccession\tcharge\tmass_to_charge") refl
+none-lacks : (names : List String) → not (isNone names) ≡ true → not (all (among []) names) ≡ true
+unfolding all any
+none-lacks [] h = h
+none-lacks (n ∷ ns) h = refl
 
-  pub lacks-psm : not (all (isIn (take 255 names)) (cells (bytes "sequence\tPSM_ID\taccession\tcharge\tspectra_ref"))) ≡ lacksColumn 3 names
-  unfolding bytes splitOn onFirst required
-  lacks-psm = lacks-wanted 3 (bytes "sequence\tPSM_ID\taccession\tcharge\tspectra_ref") refl
-
-  pub lacks-molecule : not (all (isIn (take 255 names)) (cells (bytes "identifier\tcharge"))) ≡ lacksColumn 4 names
-  unfolding bytes splitOn onFirst required
-  lacks-molecule = lacks-wanted 4 (bytes "identifier\tcharge") refl
-
--- a section that is none of the first three
-pub section-four : (s : ℕ) → (0 < s) × (s < 5) → (s ≡ 1 → ⊥) → (s ≡ 2 → ⊥) → (s ≡ 3 → ⊥) → s ≡ 4
-section-four s l a b c = omega arith
-
--- a header of no names lacks one
-pub lacks-none : (section : ℕ) → 0 < section → section < 5 → lacksColumn section [] ≡ true
-unfolding lacksColumn required all any
-lacks-none zero l h = absurd (omega arith)
-lacks-none (suc zero) l h = refl
-lacks-none (suc (suc zero)) l h = refl
-lacks-none (suc (suc (suc zero))) l h = refl
-lacks-none (suc (suc (suc (suc zero)))) l h = refl
-lacks-none (suc (suc (suc (suc (suc s))))) l h = absurd (omega arith)
+pub lacks-none : (t : Bytes) (s : ℕ) → isSection (bookIn t) s ≡ true → lacksColumn (bookIn t) s [] ≡ true
+unfolding lacksColumn
+lacks-none t s h =
+    let b = bookIn t in
+    let w = section-within b s h in
+    none-lacks ((sectionOf b s) .required)
+    (rw (section-at b s h) (all-at (λ (u : Section). not (isNone (u .required))) (b .sections) noSection (s - b .first) (requires-some t) (w .1)))

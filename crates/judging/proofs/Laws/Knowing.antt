@@ -17,18 +17,20 @@ use Rattle.scan.proofs.Laws.Ending.{end-means}
 use Rattle.scan.proofs.Laws.Scanning.{scan-all, scan-last}
 use Rattle.scan.proofs.Laws.Families.{column-ids}
 use Rattle.metavalues.proofs.Laws.Ids.{value-ids, declares-flags}
+use Rattle.book.specs.Text.{bookIn}
+use Rattle.book.proofs.Laws.Sized.{book-sized}
 
 -- the flags say which ids the file declares
-pub flags-know : (flags : List (List Bool)) (file : Bytes) → Declared flags file → Knows (lines file) (idsOf flags)
-flags-know flags file h =
-    let d = declares-flags flags file h in
-    record { values = value-ids (lines file) (idsOf flags) d; columns = column-ids (lines file) (idsOf flags) d }
+pub flags-know : (t : Bytes) (flags : List (List Bool)) (file : Bytes) → Declared (bookIn t) flags file → Knows (bookIn t) (lines file) (idsOf flags)
+flags-know t flags file h =
+    let d = declares-flags t flags file h in
+    record { values = value-ids t (lines file) (idsOf flags) d; columns = column-ids t (lines file) (idsOf flags) d }
 
 -- after the last line, the slots say what is left
-pub end-left : {file : Bytes} {at n : ℕ} {s : State} {kinds : List ℕ} {slots : List Bool} → Scan file at n s kinds slots → length file ≤ at
-    → from (lines file) n ++ last (lines file) ≡ endBreaks slots (n + 1) [] ++ []
-end-left {file} {n = n} {slots = slots} h e =
+pub end-left : (t : Bytes) {file : Bytes} {at n : ℕ} {s : State} {kinds : List ℕ} {slots : List Bool} → Scan (bookIn t) file at n s kinds slots → length file ≤ at
+    → from (bookIn t) (lines file) n ++ last (bookIn t) (lines file) ≡ endBreaks slots (n + 1) [] ++ []
+end-left t {file} {n = n} {slots = slots} h e =
     let F = lines file in
-    let all : n ≡ length F = scan-all h e in
-    let keys : Slots F slots = subst (λ (ls : List Bytes). Slots ls slots) (take-all n F (omega arith)) (h .stands .keys) in
-    scan-last h e ∙ sym (append-nil (last F)) ∙ sym (ap (λ (k : ℕ). endBreaks slots (k + 1) []) all ∙ end-means F slots keys []) ∙ sym (append-nil (endBreaks slots (n + 1) []))
+    let all : n ≡ length F = scan-all (book-sized t) h e in
+    let keys : Slots (bookIn t) F slots = subst (λ (ls : List Bytes). Slots (bookIn t) ls slots) (take-all n F (omega arith)) (h .stands .keys) in
+    scan-last (book-sized t) h e ∙ sym (append-nil (last (bookIn t) F)) ∙ sym (ap (λ (k : ℕ). endBreaks slots (k + 1) []) all ∙ end-means t F slots keys []) ∙ sym (append-nil (endBreaks slots (n + 1) []))

@@ -7,15 +7,17 @@ use native.Mathlib.Omega.{arith}
 use lib.Seq.{drop-drop, take-all, take-add, take-append-seam, drop-append-seam}
 use lib.ListN.{length, getD, replicate, take, drop, length-append, length-drop}
 use Rattle.text.specs.Bytes.{Bytes}
-use Rattle.text.specs.Lines.{LIMIT}
+use Rattle.text.specs.Lines.{LIMIT, lines}
 use Rattle.rules.specs.Breaks.{Break}
-use Rattle.rules.specs.Rules.{breaks}
+use Rattle.rules.specs.Rules.{breaksBy}
 use Rattle.scan.specs.Places.{Lent, lent, putAll, Puts}
 use Rattle.scan.proofs.Laws.Putting.{put-append, put-count}
 use Rattle.scan.proofs.Laws.Following.{stands-start}
 use Rattle.scan.proofs.Laws.Scanning.{scan-start, breaks-left, breaks-bound}
 use Rattle.judging.specs.Parts.{total, beginning, Midway, Parts}
 use Rattle.judging.specs.declared.parts.Stand.{Stand}
+use Rattle.book.specs.Book.{Book}
+use Rattle.book.proofs.Laws.Sized.{Sized}
 
 -- of the breaks bs, T were put before this part and k in it; those of `rest` are still to come
 pub record Parted (bs : List Break) (T : ℕ) (ys₀ ys : List ℕ) (k : ℕ) (rest : List Break) : Type 0 where
@@ -61,18 +63,19 @@ same-everywhere (suc n) zero a = refl
 same-everywhere (suc n) (suc i) a = same-everywhere n i a
 
 -- before the first line, where no key has come
-pub midway-start : {s : Stand} {file : Bytes} {kinds : List ℕ} {slots : List Bool} → s ≡ beginning → ((i : ℕ) → getD slots i false ≡ false) → Midway file s kinds slots
-midway-start {file = file} {kinds = kinds} {slots = slots} e h = rw e (record { scan = scan-start file (stands-start kinds slots h); most = omega arith; left = breaks-left file })
+pub midway-start : (b : Book) {s : Stand} {file : Bytes} {kinds : List ℕ} {slots : List Bool} → s ≡ beginning → ((i : ℕ) → getD slots i false ≡ false) → Midway b file s kinds slots
+midway-start b {file = file} {kinds = kinds} {slots = slots} e h = rw e (record { scan = scan-start b file (stands-start b kinds slots h); most = omega arith; left = breaks-left b file })
 
 -- a part with room for more breaks than a file can have is the whole
-pub part-whole : {file : Bytes} {room : ℕ} {s r : Stand} {ys ys' : List ℕ} → s ≡ beginning → Parts file room s r ys ys' → length file ≤ LIMIT → 671088645 < room
-    → lent ys' (r .held) ≡ putAll (lent ys 0) (breaks file)
-part-whole {file} {s = s} {r = r} {ys = ys} b p limit far =
-    p .puts ∙ ap (λ (n : ℕ). putAll (lent ys 0) (take (r .held) (drop n (breaks file)))) none ∙ ap (putAll (lent ys 0)) (take-all (r .held) (breaks file) (all (r .more) refl))
+pub part-whole : {b : Book} → Sized b → {file : Bytes} {room : ℕ} {s r : Stand} {ys ys' : List ℕ} → s ≡ beginning → Parts b file room s r ys ys' → length file ≤ LIMIT → 671088645 < room
+    → lent ys' (r .held) ≡ putAll (lent ys 0) (breaksBy b (lines file))
+part-whole {b} sized {file} {s = s} {r = r} {ys = ys} e p limit far =
+    let bs = breaksBy b (lines file) in
+    p .puts ∙ ap (λ (n : ℕ). putAll (lent ys 0) (take (r .held) (drop n bs))) none ∙ ap (putAll (lent ys 0)) (take-all (r .held) bs (all (r .more) refl))
   where
     none : total s ≡ 0
-    none = rw b
+    none = rw e
 
-    all : (t : Bool) → r .more ≡ t → length (breaks file) ≤ r .held
-    all true e = omega (arith, p .full e, p .most, breaks-bound file limit, far)
-    all false e = omega (arith, p .all e, p .before, none)
+    all : (t : Bool) → r .more ≡ t → length (breaksBy b (lines file)) ≤ r .held
+    all true q = omega (arith, p .full q, p .most, breaks-bound b sized file limit, far)
+    all false q = omega (arith, p .all q, p .before, none)

@@ -11,21 +11,22 @@ use borrow.Author.Tests.{eqb-true, eqb-false}
 use Rattle.text.specs.Bytes.{Bytes}
 use Rattle.names.specs.Names.{slotOf}
 use Rattle.book.specs.Book.{keyEntries, keyOf}
-use Rattle.book.proofs.Laws.Apart.{keys-count}
 use Rattle.names.specs.declared.Found.{Found}
 use Rattle.names.specs.declared.Found.the-variants.{Unknown, Known}
 use Rattle.names.proofs.Laws.Known.{slot-below}
 use Rattle.scan.specs.Machine.{SLOTS, isSlot}
 use Rattle.metakeys.specs.Keys.{InSlots, marked}
+use Rattle.book.proofs.Laws.Sized.{book-sized}
+use Rattle.book.specs.Text.{bookIn}
 
 -- a known key has one of the slots
-pub in-slots : (x : Bytes) → InSlots (keyOf x)
+pub in-slots : (t x : Bytes) → InSlots (keyOf (bookIn t) x)
 unfolding keyOf
-in-slots x = go (keyOf x) refl
+in-slots t x = go (keyOf (bookIn t) x) refl
   where
-    go : (r : Found) → keyOf x ≡ r → InSlots r
+    go : (r : Found) → keyOf (bookIn t) x ≡ r → InSlots r
     go Unknown q = tt
-    go (Known e k f i j) q = omega (arith, slot-below keyEntries x e k f i j q .3, keys-count)
+    go (Known e k f i j) q = omega (arith, slot-below (keyEntries (bookIn t)) x e k f i j q .3, book-sized t .few)
 
 pub inside : {r : Found} {e k f i j : ℕ} → r ≡ Known e k f i j → InSlots r → slotOf e i j < SLOTS
 inside q h = rw q at h

@@ -35,8 +35,8 @@ returns c =
     let a = start .args in
     let n = at-count .count-cells .ensures in
     let three = sym n ∙ branch .if1 .taken in (
-      meta-three (a .table) (a .slots .now) (idsOf (a .flags .now)) (a .control) (a .line-no) (cells (a .line .now)) (p1 .put-if .ensures) (rw n at (p2 .put-if2 .ensures)) (p3 .put-if3 .ensures) three (at-three .judge-three .ensures .0),
-      rw (at-three .judge-three .ensures .1) (keeps-three (a .slots .now) (start .pre .1 .1 .0) (a .line .now) (start .pre .1 .1 .1 .0) three),
+      meta-three _ (a .table) (a .slots .now) (idsOf (a .flags .now)) (a .control) (a .line-no) (cells (a .line .now)) (p1 .put-if .ensures) (rw n at (p2 .put-if2 .ensures)) (p3 .put-if3 .ensures) three (at-three .judge-three .ensures .0),
+      rw (at-three .judge-three .ensures .1) (keeps-three _ (a .slots .now) (start .pre .1 .1 .0) (a .line .now) (start .pre .1 .1 .1 .0) three),
     )
 
 returns-2 : tie.Need-returns-2
@@ -51,8 +51,8 @@ returns-2 c =
     let a = start .args in
     let n = at-count .count-cells .ensures in
     let other : length (cells (a .line .now)) ≡ 3 → ⊥ = λ q. branch .if1 .left (n ∙ q) in (
-      meta-other (a .table) (a .slots .now) (idsOf (a .flags .now)) (a .control) (a .line-no) (cells (a .line .now)) (p1 .put-if .ensures) (rw n at (p2 .put-if2 .ensures)) (p3 .put-if3 .ensures) other (p4 .put-if4 .ensures),
-      keeps-other (a .slots .now) (start .pre .1 .1 .0) (a .line .now) other,
+      meta-other _ (a .table) (a .slots .now) (idsOf (a .flags .now)) (a .control) (a .line-no) (cells (a .line .now)) (p1 .put-if .ensures) (rw n at (p2 .put-if2 .ensures)) (p3 .put-if3 .ensures) other (p4 .put-if4 .ensures),
+      keeps-other _ (a .slots .now) (start .pre .1 .1 .0) (a .line .now) other,
     )
 
 pub judge-meta-spec : {M : Type 1} → statement M

@@ -30,13 +30,13 @@ judge-key-requires : tie.Need-judge-key-requires
 judge-key-requires c κs =
     let at-key = c .before .before .before in
     let start = at-key .before .before .before .before .before .before .before .before in
-    (rw (at-key .key .ensures) (in-slots _), (start .pre .1 .0, start .pre .1 .1 .0))
+    (rw (at-key .key .ensures) (in-slots _ _), (start .pre .1 .0, start .pre .1 .1 .0))
 
 mark-requires : tie.Need-mark-requires
 mark-requires c κs =
     let at-key = c .before .before .before .before .before in
     let start = at-key .before .before .before .before .before .before .before .before in
-    (rw (at-key .key .ensures) (in-slots _), start .pre .1 .1 .0)
+    (rw (at-key .key .ensures) (in-slots _ _), start .pre .1 .1 .0)
 
 put-value-requires : tie.Need-put-value-requires
 put-value-requires c κs =
@@ -60,7 +60,7 @@ returns c =
     let judged = rw found at (at-judge .judge-key .ensures) in
     let cut = three-cells (at-end .cell-end .ensures) (at-end2 .cell-end2 .ensures) n in
     let key = three-key (at-end .cell-end .ensures) (at-end2 .cell-end2 .ensures) n in (
-      three-puts (a .control) (a .line-no) judged (p1 .put-key .ensures) (p2 .put-value .ensures) (cells (a .line .now)) cut,
+      three-puts _ (a .control) (a .line-no) judged (p1 .put-key .ensures) (p2 .put-value .ensures) (cells (a .line .now)) cut,
       at-mark .mark .ensures ∙ rw (found, key),
     )
 

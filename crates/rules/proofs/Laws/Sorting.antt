@@ -10,8 +10,9 @@ use borrow.Author.Tests.{lt-ltb, le-ltb, ltb-true, ne-eqb}
 use Rattle.text.specs.Bytes.{Bytes, bytes, same, is, isEmpty, splitOn}
 use Rattle.text.specs.Lines.{cell, coded, isMeta}
 use Rattle.text.proofs.Laws.Same.{same-equal}
-use Rattle.book.specs.Book.{SECTIONS, Section, Book, codeIn, codedFrom, sectionBy}
+use Rattle.book.specs.Book.{SECTIONS, Section, Book, isSection, codeIn, codedFrom, sectionBy}
 use Rattle.book.proofs.Laws.Sized.{Sized}
+use Rattle.book.proofs.Laws.Directing.{section-here, section-within}
 use Rattle.rules.specs.Sorts.{codeSort, sortOf, isSilent}
 use Rattle.rules.specs.declared.sorts.Sort.{Sort}
 use Rattle.rules.specs.declared.sorts.Sort.the-variants.{Silent, Unknown, Meta, Header, Row}
@@ -123,43 +124,61 @@ unfolding isEmpty
 empty-test [] = refl
 empty-test (x ∷ xs) = ne-eqb (suc (length xs)) 0 (λ e. omega arith)
 
--- a header's and a row's section is from 1 on and below SECTIONS
-abbrev InSection : Sort → Type 0
-InSection (Header h) = (0 < h) × (h < SECTIONS)
-InSection (Row r) = (0 < r) × (r < SECTIONS)
-InSection Silent = Unit
-InSection Unknown = Unit
-InSection Meta = Unit
+-- THE SECTION of a header and of a row is one of the book's
+InBook : Book → Sort → Type 0
+InBook b (Header h) = isSection b h ≡ true
+InBook b (Row r) = isSection b r ≡ true
+InBook b Silent = Unit
+InBook b Unknown = Unit
+InBook b Meta = Unit
 
-either-in : (t : Bool) (a b : Sort) → (t ≡ true → InSection a) → InSection b → InSection (cond t a b)
-either-in true a b p q = p refl
-either-in false a b p q = q
+either-in : (b : Book) (t : Bool) (x y : Sort) → (t ≡ true → InBook b x) → InBook b y → InBook b (cond t x y)
+either-in b true x y p q = p refl
+either-in b false x y p q = q
 
-coded-below : (row : Bool) (n : ℕ) (ss : List Section) (code : Bytes) → 0 < n → codedFrom row n ss code < n + length ss
+coded-within : (row : Bool) (n : ℕ) (ss : List Section) (code : Bytes) → 0 < codedFrom row n ss code → (n ≤ codedFrom row n ss code) × (codedFrom row n ss code < n + length ss)
 unfolding codedFrom
-coded-below row n [] code h = omega arith
-coded-below row n (s ∷ ss) code h = go (is code (codeIn row s)) (coded-below row (n + 1) ss code (omega arith))
+coded-within row n [] code h = absurd (omega arith)
+coded-within row n (s ∷ ss) code h = go (is code (codeIn row s)) h (coded-within row (n + 1) ss code)
   where
-    go : (t : Bool) → codedFrom row (n + 1) ss code < n + 1 + length ss → cond t n (codedFrom row (n + 1) ss code) < n + suc (length ss)
-    go true q = omega arith
-    go false q = omega arith
+    later : ℕ
+    later = codedFrom row (n + 1) ss code
 
-module _ (b : Book) (k : Sized b) where
-  section-in : (row : Bool) (code : Bytes) → ltb 0 (sectionBy b row code) ≡ true → (0 < sectionBy b row code) × (sectionBy b row code < SECTIONS)
-  section-in row code e = (ltb-true 0 (sectionBy b row code) e, omega (arith, coded-below row (b .first) (b .sections) code (k .low), k .high))
+    go : (t : Bool) → 0 < cond t n later → (0 < later → (n + 1 ≤ later) × (later < n + 1 + length ss)) → (n ≤ cond t n later) × (cond t n later < n + suc (length ss))
+    go true q f = (omega arith, omega arith)
+    go false q f = let r = f q in (omega arith, omega arith)
 
-  sort-section : (l : Bytes) → InSection (sortOf b l)
-  unfolding sortOf codeSort
+module _ (b : Book) where
+  section-is : (row : Bool) (code : Bytes) → ltb 0 (sectionBy b row code) ≡ true → isSection b (sectionBy b row code) ≡ true
+  section-is row code e =
+      let w = coded-within row (b .first) (b .sections) code (ltb-true 0 (sectionBy b row code) e) in
+      section-here b (sectionBy b row code) (w .0) (omega (arith, w .0, w .1))
+
+  sort-section : (l : Bytes) → InBook b (sortOf b l)
+  unfolding sortOf codeSort InBook
   sort-section l =
       let c = cell 1 l in
-      either-in (isEmpty l) _ _ (λ e. tt)
-      (either-in (is c "COM") _ _ (λ e. tt)
-      (either-in (is c "MTD") _ _ (λ e. tt)
-      (either-in (ltb 0 (sectionBy b true c)) _ _ (section-in true c)
-      (either-in (ltb 0 (sectionBy b false c)) (Header (sectionBy b false c)) Unknown (section-in false c) tt))))
+      either-in b (isEmpty l) _ _ (λ e. tt)
+      (either-in b (is c "COM") _ _ (λ e. tt)
+      (either-in b (is c "MTD") _ _ (λ e. tt)
+      (either-in b (ltb 0 (sectionBy b true c)) _ _ (section-is true c)
+      (either-in b (ltb 0 (sectionBy b false c)) (Header (sectionBy b false c)) Unknown (section-is false c) tt))))
 
-  pub header-section : (l : Bytes) (h : ℕ) → sortOf b l ≡ Header h → (0 < h) × (h < SECTIONS)
-  header-section l h e = subst InSection e (sort-section l)
+  pub header-is : (l : Bytes) (h : ℕ) → sortOf b l ≡ Header h → isSection b h ≡ true
+  unfolding InBook
+  header-is l h e = subst (InBook b) e (sort-section l)
 
-  pub row-section : (l : Bytes) (r : ℕ) → sortOf b l ≡ Row r → (0 < r) × (r < SECTIONS)
-  row-section l r e = subst InSection e (sort-section l)
+  pub row-is : (l : Bytes) (r : ℕ) → sortOf b l ≡ Row r → isSection b r ≡ true
+  unfolding InBook
+  row-is l r e = subst (InBook b) e (sort-section l)
+
+  module _ (k : Sized b) where
+    -- so it is from 1 on and below SECTIONS
+    pub section-in : (s : ℕ) → isSection b s ≡ true → (0 < s) × (s < SECTIONS)
+    section-in s e = let w = section-within b s e in (omega (arith, w .0, k .low), omega (arith, w .0, w .1, k .high))
+
+    pub header-section : (l : Bytes) (h : ℕ) → sortOf b l ≡ Header h → (0 < h) × (h < SECTIONS)
+    header-section l h e = section-in h (header-is l h e)
+
+    pub row-section : (l : Bytes) (r : ℕ) → sortOf b l ≡ Row r → (0 < r) × (r < SECTIONS)
+    row-section l r e = section-in r (row-is l r e)

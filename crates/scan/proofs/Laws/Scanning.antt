@@ -21,10 +21,9 @@ use Rattle.scan.specs.Carried.{lineBreaks, Stands, Follows, from, last, 
 use Rattle.scan.specs.declared.state.State.{State}
 use Rattle.scan.proofs.Laws.Following.{stands-next}
 use Rattle.scan.proofs.Laws.Lining.{Knows, means}
-use Rattle.book.specs.Book.{Book, mzTab, bookOf}
-use Rattle.book.specs.Keys.{demanded}
 use Rattle.book.proofs.Laws.Sized.{Sized}
-use Rattle.rules.specs.Rules.{rules, endRules, breaksBy, breaks}
+use Rattle.book.specs.Book.{Book}
+use Rattle.rules.specs.Rules.{rules, endRules, ends, breaksBy}
 
 -- HOW MANY BREAKS THERE CAN BE: at most one of each rule at a cell, and at most two cells a byte
 
@@ -118,18 +117,18 @@ from-bound book F (l ∷ ls) n e =
     (omega (arith, length-append (atLine (rules book) (spot (take n F) l F) (suc n)) (from book F (suc n)), line-bound book (spot (take n F) l F) (suc n), from-bound book F ls (suc n) (lines-left book F n e)))
 
 -- so their count fits 32 bits with room
-pub breaks-bound : (b : Bytes) → length b ≤ LIMIT → length (breaks b) ≤ 671088645
-unfolding breaks breaksBy inLines atEnd endRules bookOf mzTab demanded
-breaks-bound b h =
+pub breaks-bound : (book : Book) → Sized book → (b : Bytes) → length b ≤ LIMIT → length (breaksBy book (lines b)) ≤ 671088645
+unfolding breaksBy inLines atEnd endRules
+breaks-bound book sized b h =
     let F = lines b in
-    let book = bookOf F in
     let z : length F ≡ length F - 0 = omega arith in
     omega (
       arith,
       length-append (inLines (rules book) F) (last book F),
       from-bound book F F 0 refl,
       widths-bound b,
-      each-bound 1 5 1 (atCell (endRules book) (spotAt F (length F + 1)) (length F + 1)) (at-bound (endRules book) (spotAt F (length F + 1)) (length F + 1)),
+      each-bound 1 (ends book) 1 (atCell (endRules book) (spotAt F (length F + 1)) (length F + 1)) (at-bound (endRules book) (spotAt F (length F + 1)) (length F + 1)),
+      sized .demands,
       ap (λ (k : ℕ). length (each k 1 (λ i. atLine (rules book) (spotAt F i) i))) z,
     )
 

@@ -1,33 +1,35 @@
--- `book::lay`. The invariant: as many bytes as were copied are the same. Assumes nothing.
+-- `book::lay`. The invariant: as many bytes as were copied stand behind what stood before `at`. Assumes nothing.
 use borrow.Author.Needs.{needs}
 use native.Mathlib.Omega.{arith}
-use mathlib.Core.Path.{_≡_, refl, sym, _∙_, ap}
-use Prim.Native.Nat.{ℕ, _-_, _≤_}
+use mathlib.Core.Path.{_≡_, refl}
+use mathlib.Core.List.{_++_}
+use Prim.Native.Nat.{_+_, _-_, _≤_}
 use lib.ListN.{length, take}
-use lib.Seq.{take-all}
-use Rattle.book.proofs.Laws.Held.{copied}
+use Rattle.book.proofs.Laws.Laying.{copied-none, copied, copied-all}
 use Rattle.book.proofs.layout.lay.Statement.{statement}
 use Rattle.book.proofs.layout.lay.Tie as tie
 
 abbrev Inv-loop : tie.InvT-loop
-Inv-loop book₀ rows i₀ book i = (i ≤ length rows) × (length book ≡ length book₀) × (take i book ≡ take i rows)
+Inv-loop text₀ at bytes i₀ text i = (i ≤ length bytes) × (length text ≡ length text₀) × (take (at + i) text ≡ take at text₀ ++ take i bytes)
 
 abbrev μ-loop : tie.MeasureT-loop
-μ-loop book₀ rows i₀ book i = length rows - i
+μ-loop text₀ at bytes i₀ text i = length bytes - i
+
+loop-holds : tie.Need-loop-holds Inv-loop μ-loop
+loop-holds c = let a = c .args in (omega arith, refl, copied-none (a .text .now) (a .bytes .now) (a .at))
 
 loop-again : tie.Need-loop-again Inv-loop μ-loop
 loop-again c =
     let i = c .before in
     let l = i .before .loop in
-    let s = i .before .before in
-    (search needs, search needs, copied (l .book) (s .args .rows .now) (l .i) (omega arith) (i .loop-test .taken) (l .inv .2))
+    let a = i .before .before .args in
+    (search needs, search needs, copied (l .text) (take (a .at) (a .text .now)) (a .bytes .now) (a .at) (l .i) (omega arith) (i .loop-test .taken) (l .inv .2))
 
 returns : tie.Need-returns Inv-loop μ-loop
 returns c =
     let l = c .before .loop in
-    let r = c .before .before .args .rows .now in
-    let e : l .i ≡ length r = omega arith in
-    (l .inv .1, ap (λ (k : ℕ). take k (l .book)) (sym e) ∙ l .inv .2 ∙ take-all (l .i) r (c .loop-test .left))
+    let a = c .before .before .args in
+    (l .inv .1, copied-all (l .text) (take (a .at) (a .text .now)) (a .bytes .now) (a .at) (l .i) (omega arith) (l .inv .2))
 
 pub lay-spec : {M : Type 1} → statement M
 lay-spec =
@@ -35,9 +37,10 @@ lay-spec =
     (tie.spec
     Inv-loop
     μ-loop
-    (λ c. (omega arith, refl, refl))
+    loop-holds
     (λ c. search needs)
-    (λ c. omega arith)
+    (λ c. search needs)
+    (λ c. search needs)
     (λ c. search needs)
     (λ c. search needs)
     loop-again

@@ -3,12 +3,13 @@ use mathlib.Core.Path.{refl}
 use Rattle.text.specs.Bytes.{bytes}
 use Rattle.book.specs.Keys.{keys}
 use Rattle.book.specs.Columns.{proteinColumns, peptideColumns, psmColumns, moleculeColumns}
-use Rattle.book.specs.Rows.{padded, laid, bookBytes}
+use Rattle.book.specs.Book.{mzTab}
+use Rattle.book.specs.Text.{padded, laid, allRows}
 use Rattle.book.proofs.layout.rows.Statement.{statement}
 use Rattle.book.proofs.layout.rows.Tie as tie
 
 returns : tie.Need-returns
-unfolding bytes keys proteinColumns peptideColumns psmColumns moleculeColumns padded laid bookBytes
+unfolding bytes keys proteinColumns peptideColumns psmColumns moleculeColumns mzTab padded laid allRows
 returns c = refl
 
 pub rows-spec : {M : Type 1} → statement M

@@ -9,7 +9,7 @@ use lib.ListN.{length, drop, length-take, length-drop}
 use Rattle.text.specs.Lines.{lines}
 use Rattle.text.proofs.Laws.Tests.{absurd-bool}
 use Rattle.scan.specs.Machine.{SLOTS}
-use Rattle.rules.specs.Rules.{breaks}
+use Rattle.rules.specs.Rules.{breaksBy}
 use Rattle.scan.specs.Carried.{Scan, from, last}
 use Rattle.scan.proofs.Laws.Scanning.{scan-step, scan-left, breaks-bound}
 use Rattle.stamps.specs.Stamps.{ROOM}
@@ -17,10 +17,12 @@ use Rattle.judging.proofs.Laws.Parting.{Parted, parted-start, parted-ne
 use Rattle.judging.proofs.Laws.Knowing.{flags-know, end-left}
 use Rattle.judging.proofs.parts.judge_part.Statement.{statement}
 use Rattle.judging.proofs.parts.judge_part.Tie as tie
+use Rattle.book.specs.Text.{bookIn}
+use Rattle.book.proofs.Laws.Sized.{book-sized}
 
 abbrev Inv-loop : tie.InvT-loop
 Inv-loop places₀ room book file flags kinds₀ slots₀ stamps₀ before state₀ at₀ n₀ k₀ places kinds slots stamps state at n k =
-    Scan file at n state kinds slots × Parted (breaks file) before places₀ places k (from (lines file) n ++ last (lines file)) × (k ≤ room + 1300) × (at₀ ≤ at) × (0 < k → at₀ < at) × (length places ≡ length places₀) × (length kinds ≡ 256) × (length slots ≡ SLOTS) × (length stamps ≡ ROOM)
+    Scan (bookIn book) file at n state kinds slots × Parted (breaksBy (bookIn book) (lines file)) before places₀ places k (from (bookIn book) (lines file) n ++ last (bookIn book) (lines file)) × (k ≤ room + 1300) × (at₀ ≤ at) × (0 < k → at₀ < at) × (length places ≡ length places₀) × (length kinds ≡ 256) × (length slots ≡ SLOTS) × (length stamps ≡ ROOM)
 
 abbrev μ-loop : tie.MeasureT-loop
 μ-loop places₀ room book file flags kinds₀ slots₀ stamps₀ before state₀ at₀ n₀ k₀ places kinds slots stamps state at n k = length file - at
@@ -30,13 +32,13 @@ start l = l .before .before .before .before .before .before .before .before
 
 -- the count of what was put stays far below 32 bits
 counts : (l : tie.At-loop Inv-loop μ-loop) → l .loop .k ≤ 671088645
-counts l = omega (arith, l .loop .inv .1 .most, breaks-bound (start l .args .file .now) (start l .pre .1 .1 .0))
+counts l = omega (arith, l .loop .inv .1 .most, breaks-bound _ (book-sized _) (start l .args .file .now) (start l .pre .1 .1 .0))
 
 add-before : tie.Need-add-before Inv-loop μ-loop
 add-before c =
     let s = c .before .before .before .before .before .before in
     let stand = s .args .stand in
-    let b : stand .before + stand .held ≤ 671088645 = omega (arith, s .pre .1 .1 .1 .0 .most, breaks-bound (s .args .file .now) (s .pre .1 .1 .0)) in
+    let b : stand .before + stand .held ≤ 671088645 = omega (arith, s .pre .1 .1 .1 .0 .most, breaks-bound _ (book-sized _) (s .args .file .now) (s .pre .1 .1 .0)) in
     omega (arith, b)
 
 loop-holds : tie.Need-loop-holds Inv-loop μ-loop
@@ -78,11 +80,12 @@ loop-again c =
     let a = start l .args in
     let inv = l .loop .inv in
     let F = lines (a .file .now) in
+    let b = bookIn (a .book .now) in
     let line = at-line .line-at .ensures in
     let puts = at-judge .judge-line .ensures .0 in
     let follows = at-judge .judge-line .ensures .1 .0 in
-    let knows = flags-know (a .flags .now) (a .file .now) (start l .pre .1 .1 .1 .1 .0) in
-    (scan-step (inv .0) line follows, parted-next (from F (l .loop .n + 1) ++ last F) (inv .1) puts (scan-left (inv .0) line knows), omega (arith, puts .most, at-line .before .if1 .left), omega (arith, line .on, inv .3), (λ h. omega (arith, line .on, inv .3)), search needs, follows .kind-places, follows .key-places, at-judge .judge-line .ensures .1 .1)
+    let knows = flags-know _ (a .flags .now) (a .file .now) (start l .pre .1 .1 .1 .1 .0) in
+    (scan-step (book-sized _) (inv .0) line follows, parted-next (from b F (l .loop .n + 1) ++ last b F) (inv .1) puts (scan-left (book-sized _) (inv .0) line knows), omega (arith, puts .most, at-line .before .if1 .left), omega (arith, line .on, inv .3), (λ h. omega (arith, line .on, inv .3)), search needs, follows .kind-places, follows .key-places, at-judge .judge-line .ensures .1 .1)
 
 add-judge-end : tie.Need-add-judge-end Inv-loop μ-loop
 add-judge-end c =
@@ -101,7 +104,7 @@ returns-2 c =
     let l = after .before in
     let inv = l .loop .inv in
     let puts = at-end .judge-end .ensures in
-    let e = end-left (inv .0) (after .loop-test .left) in
+    let e = end-left _ (inv .0) (after .loop-test .left) in
     let p = parted-next [] (inv .1) puts e in
     (record { before = refl; most = p .most; puts = p .puts; fits = omega (arith, puts .most, inv .2); full = λ h. absurd-bool h; further = λ h. absurd-bool h; all = λ h. parted-all [] (inv .1) puts e refl }, ((λ h. absurd-bool h), (inv .6, inv .7)))
 
