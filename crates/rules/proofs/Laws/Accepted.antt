@@ -9,12 +9,13 @@ use native.Mathlib.Omega.{arith}
 use lib.Dec.{ltb}
 use lib.ListN.{length, getD, take, drop, getElem?, length-take, length-drop}
 use lib.Seq.{getD-take, getD-drop}
-use borrow.Author.Tests.{ltb-true, ltb-false, le-leb, eqb-true}
+use borrow.Author.Tests.{ltb-false, le-leb, eqb-true}
 use Rattle.text.specs.Bytes.{Bytes, bytes, same, isEmpty, any, splitOn}
 use Rattle.text.specs.Lines.{lines, cells, coded, cell, width}
 use Rattle.text.proofs.Laws.Same.{same-equal}
 use Rattle.text.proofs.Laws.Each.{split-some}
 use Rattle.book.specs.Book.{Book, isSection, sectionOf, headerCode, codedFrom, mzTab, bookOf}
+use Rattle.book.proofs.Laws.Directing.{section-within}
 use Rattle.rules.specs.Sorts.{codeSort, sortOf, headerIn, isHeader, isSilent}
 use Rattle.rules.specs.Breaks.{Break, Spot, spotAt, Rule, Broken}
 use Rattle.rules.specs.Rules.{rules, breaks, isAccepted, isWide}
@@ -118,7 +119,7 @@ module _ (file : List Bytes) where
   code-sort (suc (suc zero)) e = refl
   code-sort (suc (suc (suc zero))) e = refl
   code-sort (suc (suc (suc (suc zero)))) e = refl
-  code-sort (suc (suc (suc (suc (suc s))))) e = absurd (omega (arith, ltb-true (suc (suc (suc (suc (suc s))))) 5 e))
+  code-sort (suc (suc (suc (suc (suc s))))) e = absurd (omega (arith, section-within (bookOf file) (suc (suc (suc (suc (suc s))))) e))
 
   no-code : (section : ℕ) → isSection (bookOf file) section ≡ true → same [] (headerCode (bookOf file) section) ≡ true → ⊥
   unfolding bookOf mzTab isSection sectionOf bytes same
@@ -127,7 +128,7 @@ module _ (file : List Bytes) where
   no-code (suc (suc zero)) e q = let z : _≡_ {A = ℕ} 0 1 = cc in omega arith
   no-code (suc (suc (suc zero))) e q = let z : _≡_ {A = ℕ} 0 1 = cc in omega arith
   no-code (suc (suc (suc (suc zero)))) e q = let z : _≡_ {A = ℕ} 0 1 = cc in omega arith
-  no-code (suc (suc (suc (suc (suc s))))) e q = omega (arith, ltb-true (suc (suc (suc (suc (suc s))))) 5 e)
+  no-code (suc (suc (suc (suc (suc s))))) e q = omega (arith, section-within (bookOf file) (suc (suc (suc (suc (suc s))))) e)
 
   pub header-coded : (section : ℕ) (l : Bytes) → isSection (bookOf file) section ≡ true → coded (headerCode (bookOf file) section) l ≡ true → sortOf (bookOf file) l ≡ Header section
   unfolding sortOf coded cell isEmpty splitOn
