@@ -17,6 +17,9 @@ ghost use Rattle.book.specs.Keys.{isColunit};
 ghost use Rattle.book.specs.Book.{keyOf, isOpt, columnEntries, columnOf};
 ghost use Rattle.book.specs.Text.{rowsOf, IsTable, bookIn, IsBook};
 
+// The numbers of sections are below this, in every book.
+pub const SECTIONS: usize = 5;
+
 // The bytes of the shortest columns.
 const SHORTEST: usize = 3;
 

@@ -1,15 +1,17 @@
 // What is carried from line to line: the state that stands for the lines above.
+use book::SECTIONS;
 ghost use mathlib.Core.Path.{_≡_};
 ghost use mathlib.Core.Bool.{cond};
 ghost use Prim.Native.Nat.{_<_};
 ghost use lib.Dec.{ltb};
+ghost use Rattle.book.specs.Book.{SECTIONS as limit};
 ghost use Rattle.scan.specs.Carried.{initial, afterHeader, afterRow};
 
 // Of the lines above: the sections that had a header, the highest of them, the nearest header's section and number of cells (0 and 1 where there is
 // none), and whether any is a header or row. `table` stands beside `seen`: at the end it would leave seven bytes of padding, which a copy takes in two halves
 // that overlap, and the next copy waits for both.
 pub struct State {
-    pub seen: [bool; 5],
+    pub seen: [bool; SECTIONS],
     pub table: bool,
     pub highest: u32,
     pub section: u32,
@@ -21,7 +23,7 @@ pub fn start() -> State
     ensures { λ r. ⌜ r ≡ initial ⌝ }
 {
     State {
-        seen: [false; 5],
+        seen: [false; SECTIONS],
         highest: 0,
         section: 0,
         width: 1,
@@ -38,7 +40,7 @@ fn higher(a: u32, b: u32) -> u32
 
 // A header of the section with so many cells is above too.
 pub fn after_header(state: State, section: u32, width: usize) -> State
-    requires { ⌜ section < 5 ⌝ }
+    requires { ⌜ section < limit ⌝ }
     ensures { λ r. ⌜ r ≡ afterHeader section width state ⌝ }
 {
     let mut next = state;

@@ -46,7 +46,7 @@ found-within t section name (Known e k f i j) h =
     let x = nth (columnEntries (bookIn t) section) e in
     let named : eqb (familyOf x) NONE ≡ false = rw (a .family) at none in
     let u : (ltb (familyNumber (familyOf x)) 4 && ltb 0 (holes (formOf x))) ≡ true = rw named at (all-at hasPlace (columnEntries (bookIn t) section) (entry 0 0 []) e (tables-have t section) (a .inside)) in
-    let q = and-both (ltb (familyNumber (familyOf x)) 4) (ltb 0 (holes (formOf x))) t in
+    let q = and-both (ltb (familyNumber (familyOf x)) 4) (ltb 0 (holes (formOf x))) u in
     let w = last-within (holes (formOf x)) i j (ltb-true 0 (holes (formOf x)) (q .1)) (a .shape) in
     (rw (a .family) (ltb-true (familyNumber (familyOf x)) 4 (q .0)), w .0, w .1)
 

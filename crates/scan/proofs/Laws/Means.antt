@@ -9,7 +9,7 @@ use lib.Seq.{getD-drop}
 use lib.ListN.{length, drop, getD, length-drop}
 use borrow.Author.Tests.{ne-eqb, le-leb, lt-ltb, le-ltb, leb-true, leb-false, eqb-true}
 use Rattle.text.specs.Bytes.{Bytes, any}
-use Rattle.text.specs.Lines.{isField, cells, cell, width, isThree}
+use Rattle.text.specs.Lines.{cells, cell, width, isThree}
 use Rattle.text.proofs.Laws.Tests.{and-both}
 use Rattle.book.specs.Keys.{isColunit}
 use Rattle.names.specs.Names.{isKnown}
@@ -76,28 +76,34 @@ module _ (book : Book) (sized : Sized book) where
 
     -- an unknown code: rule 1, and at cell 1 rule 2
     unknown-first : sortOf book l ≡ Unknown → (rest : List Break) → atCell (rules book) p n 1 ++ rest ≡ controlAt cc n 1 (when true (breakAt n 1 2) rest)
-    unfolding rules atRest isField
+    unfolding rules atRest
     unknown-first e rest = at-rest (rules book) p n 1 rest ∙ rw (meta-sort book l, e)
 
     unknown-later : sortOf book l ≡ Unknown → Says (atCell (rules book) p n) (plainCell cc n) (cells l) 1
-    unfolding rules atRest plainCell isField
+    unfolding rules atRest plainCell
     unknown-later e j a b rest = at-rest (rules book) p n (suc j) rest ∙ rw (meta-sort book l, e, later j a .0, later j a .1)
 
     -- a metadata line
     module _ (e : sortOf book l ≡ Meta) where
       meta-first : (table : Bool) → table ≡ any (isTable book) above → (rest : List Break) → atCell (rules book) p n 1 ++ rest ≡ controlAt cc n 1 (when (not (eqb (width l) 3)) (breakAt n 1 3) (when table (breakAt n 1 4) rest))
-      unfolding rules atRest isField
+      unfolding rules atRest
       meta-first table ta rest = at-rest (rules book) p n 1 rest ∙ rw (meta-sort book l, e, ta)
 
       meta-plain : isThree l ≡ false → Says (atCell (rules book) p n) (plainCell cc n) (cells l) 1
-      unfolding rules atRest plainCell isField
-      meta-plain t j a b rest = at-rest (rules book) p n (suc j) rest ∙ rw (meta-sort book l, e, later j a .0, later j a .1, t)
+      unfolding rules atRest plainCell
+      meta-plain t j a b rest = at-rest (rules book) p n (suc j) rest ∙ rw (meta-sort book l, e, later j a .0, later j a .1, t) (go (eqb (suc j) 2) (eqb (suc j) 3))
+        where
+          go : (u v : Bool) → controlAt cc n (suc j) (when (u && false) (breakAt n (suc j) 5) (when (u && false) (breakAt n (suc j) 6) (when (v && false) (breakAt n (suc j) 7) (when (v && false) (breakAt n (suc j) 8) rest)))) ≡ controlAt cc n (suc j) rest
+          go true true = refl
+          go true false = refl
+          go false true = refl
+          go false false = refl
 
       meta-cells : isThree l ≡ true → (slots : List Bool) (ids : Ids)
           → (isKnown (keyFound book l) && (not (isColunit (cell 2 l)) && any (sameKey l) above)) ≡ againIn slots (cell 2 l) (keyFound book l)
           → namesUndeclared book file (keyFound book l) (cell 3 l) ≡ undeclaredIn ids (keyFound book l) (cell 3 l)
           → Says (atCell (rules book) p n) (metaCell book slots ids (getD (cells l) 1 []) (getD (cells l) 2 []) cc n) (cells l) 1
-      unfolding rules atRest isField
+      unfolding rules atRest
       meta-cells t slots ids ag un j a b rest = at-rest (rules book) p n (suc j) rest ∙ rw (meta-sort book l, e, later j a .0, later j a .1, t, ag, un, cell-suc 1 l, cell-suc 2 l)
 
     -- a header
@@ -105,16 +111,16 @@ module _ (book : Book) (sized : Sized book) where
       header-first : (again after : Bool) → again ≡ any (ofSection book h) above → after ≡ any (ofLater book h) above
           → (rest : List Break) → atCell (rules book) p n 1 ++ rest
           ≡ controlAt cc n 1 (when again (breakAt n 1 9) (when after (breakAt n 1 10) (when (isWide l) (breakAt n 1 11) (when (not (isWide l) && lacksColumn book h (names l)) (breakAt n 1 16) rest))))
-      unfolding rules atRest isField
+      unfolding rules atRest
       header-first again after a b rest = at-rest (rules book) p n 1 rest ∙ rw (meta-sort book l, e, lt-ltb 0 h (header-section book sized l h e .0), a, b)
 
       header-wide : isWide l ≡ true → Says (atCell (rules book) p n) (plainCell cc n) (cells l) 1
-      unfolding rules atRest plainCell isField
+      unfolding rules atRest plainCell
       header-wide w j a b rest = at-rest (rules book) p n (suc j) rest ∙ rw (meta-sort book l, e, later j a .0, later j a .1, lt-ltb 0 h (header-section book sized l h e .0), w)
 
       header-later : (ids : Ids) → ((x : Bytes) → columnUndeclared book file (columnOf book h x) ≡ columnIn ids (columnOf book h x)) → isWide l ≡ false
           → Says (atCell (rules book) p n) (headCell book h (drop 1 (cells l)) ids cc n) (cells l) 1
-      unfolding rules atRest isField
+      unfolding rules atRest
       header-later ids d w j a b rest =
           at-rest (rules book) p n (suc j) rest ∙ rw (meta-sort book l, e, later j a .0, later j a .1, lt-ltb 0 h (header-section book sized l h e .0), w, cell-suc j l, d (getD (cells l) j []))
 
@@ -122,11 +128,11 @@ module _ (book : Book) (sized : Sized book) where
     module _ (r : ℕ) (e : sortOf book l ≡ Row r) (hs w : ℕ) (kinds : List ℕ) (eh : hs ≡ header book (nearest book above)) (ew : w ≡ width (nearest book above)) (ek : Kinds book (nearest book above) kinds) where
       row-first : (rest : List Break) → atCell (rules book) p n 1 ++ rest
           ≡ controlAt cc n 1 (when (not (eqb hs r)) (breakAt n 1 17) (when ((eqb hs r && leb w 256) && not (eqb (width l) w)) (breakAt n 1 18) rest))
-      unfolding rules atRest isField
+      unfolding rules atRest
       row-first rest = at-rest (rules book) p n 1 rest ∙ rw (meta-sort book l, e, lt-ltb 0 r (row-section book sized l r e .0), eh, ew, ← not-over (length (cells (nearest book above))))
 
       row-plain : ((eqb hs r && leb w 256) && eqb (width l) w) ≡ false → Says (atCell (rules book) p n) (plainCell cc n) (cells l) 1
-      unfolding rules atRest plainCell isField
+      unfolding rules atRest plainCell
       row-plain f j a b rest =
           at-rest (rules book) p n (suc j) rest
           ∙ rw (meta-sort book l, e, later j a .0, later j a .1, lt-ltb 0 r (row-section book sized l r e .0), not-over (length (cells (nearest book above))), ← eh, ← ew, f)
@@ -147,7 +153,7 @@ module _ (book : Book) (sized : Sized book) where
           ∙ kind-at (nearest book above) kinds j a (omega (arith, row-even f, ew)) (omega (arith, row-low f, ew)) ek
 
       row-under : ((eqb hs r && leb w 256) && eqb (width l) w) ≡ true → Says (atCell (rules book) p n) (rowCell kinds cc n) (cells l) 1
-      unfolding rules atRest isField
+      unfolding rules atRest
       row-under f j a b rest =
           at-rest (rules book) p n (suc j) rest
           ∙ rw (
@@ -170,7 +176,7 @@ module _ (book : Book) (sized : Sized book) where
   module _ (above file : List Bytes) (l : Bytes) (n : ℕ) (rest : List Break) where
     pub means-silent : sortOf book l ≡ Silent → rest ≡ atLine (rules book) (spot above l file) n ++ rest
     unfolding atLine
-    means-silent e = rw (silent-sort book l, silent-sort book l, e)
+    means-silent e = rw (silent-sort book l, e)
 
     pub means-unknown : sortOf book l ≡ Unknown → unknownBreaks (controlCell l) n rest ≡ atLine (rules book) (spot above l file) n ++ rest
     unfolding atLine unknownBreaks
