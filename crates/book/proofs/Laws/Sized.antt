@@ -1,11 +1,12 @@
 -- How many sections and keys a book has: what a scan sets room aside for. Assumes nothing.
 use Prim.Native.Nat.{ℕ, _+_, _≤_}
 use mathlib.Core.Path.{_≡_, refl}
+use mathlib.Core.List.{List}
 use native.Mathlib.Omega.{arith}
 use lib.ListN.{length}
 use Rattle.text.specs.Bytes.{Bytes, bytes}
 use Rattle.book.specs.Keys.{keys, demanded}
-use Rattle.book.specs.Book.{SECTIONS, Book, keyEntries, mzTab}
+use Rattle.book.specs.Book.{SECTIONS, Book, keyEntries, mzTab, bookOf}
 use Rattle.book.specs.Text.{bookIn}
 
 -- sections are numbered from 1 and below SECTIONS; there are at most 61 keys, and 5 that a file must have
@@ -18,3 +19,8 @@ pub record Sized (b : Book) : Type 0 where
 pub book-sized : (t : Bytes) → Sized (bookIn t)
 unfolding bookIn mzTab keys demanded bytes
 book-sized t = record { low = omega arith; high = omega arith; few = omega arith; demands = omega arith }
+
+-- the text of the code is of the book that a file goes by
+pub its-book : (t : Bytes) (file : List Bytes) → bookIn t ≡ bookOf file
+unfolding bookIn bookOf
+its-book t file = refl

@@ -32,13 +32,13 @@ start l = l .before .before .before .before .before .before .before .before
 
 -- the count of what was put stays far below 32 bits
 counts : (l : tie.At-loop Inv-loop μ-loop) → l .loop .k ≤ 671088645
-counts l = omega (arith, l .loop .inv .1 .most, breaks-bound _ (book-sized _) (start l .args .file .now) (start l .pre .1 .1 .0))
+counts l = omega (arith, l .loop .inv .1 .most, breaks-bound _ (book-sized (start l .args .book .now)) (start l .args .file .now) (start l .pre .1 .1 .0))
 
 add-before : tie.Need-add-before Inv-loop μ-loop
 add-before c =
     let s = c .before .before .before .before .before .before in
     let stand = s .args .stand in
-    let b : stand .before + stand .held ≤ 671088645 = omega (arith, s .pre .1 .1 .1 .0 .most, breaks-bound _ (book-sized _) (s .args .file .now) (s .pre .1 .1 .0)) in
+    let b : stand .before + stand .held ≤ 671088645 = omega (arith, s .pre .1 .1 .1 .0 .most, breaks-bound _ (book-sized (s .args .book .now)) (s .args .file .now) (s .pre .1 .1 .0)) in
     omega (arith, b)
 
 loop-holds : tie.Need-loop-holds Inv-loop μ-loop

@@ -21,7 +21,7 @@ judge-part-requires : tie.Need-judge-part-requires
 judge-part-requires c κs =
     let at-ids = c .before .before .before .before .before .before .before in
     let at-book = at-ids .before .before in
-    (omega arith, (at-book .book .ensures .1, (at-book .before .if1 .left, (midway-start (c .before .before .before .before .beginning .ensures) (λ i. same-everywhere 257725 i false), (at-ids .declared-ids .ensures, (refl, (length-replicate 257725 false, length-replicate {A = ℕ} ROOM 0)))))))
+    (omega arith, (at-book .book .ensures, (at-book .before .if1 .left, (midway-start _ (c .before .before .before .before .beginning .ensures) (λ i. same-everywhere 257725 i false), (at-ids .declared-ids .ensures, (refl, (length-replicate 257725 false, length-replicate {A = ℕ} ROOM 0)))))))
 
 returns-2 : tie.Need-returns-2
 unfolding judged
@@ -30,7 +30,7 @@ returns-2 c =
     let first = at-judge .before .before .before .before .before in
     let else = first .before .before .before .before .before .before in
     let limit = else .if1 .left in
-    rw (le-ltb LIMIT (length (else .before .before .before .args .file .now)) limit) (ap ended (part-whole (first .beginning .ensures) (at-judge .judge-part .ensures .0) limit (omega arith)))
+    rw (le-ltb LIMIT (length (else .before .before .before .args .file .now)) limit) (ap ended (all-put (first-book first) file _ _ (part-whole (book-sized (first-book first)) (first .beginning .ensures) (at-judge .judge-part .ensures .0) limit (omega arith)))
 
 pub judge-places-spec : {M : Type 1} → statement M
 judge-places-spec =
