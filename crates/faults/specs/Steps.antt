@@ -8,7 +8,7 @@ use lib.Seq.{sets}
 use lib.Dec.{ltb}
 use Rattle.numbers.specs.Numbers.{TOO-LONG}
 use Rattle.text.specs.Bytes.{Bytes}
-use Rattle.text.specs.Lines.{LIMIT}
+use Rattle.text.specs.Lines.{LIMIT, lines}
 use Rattle.ids.specs.Ids.{Declared}
 use Rattle.rules.specs.Breaks.{Break}
 use Rattle.rules.specs.Rules.{breaks}
@@ -17,6 +17,7 @@ use Rattle.judging.specs.Parts.{total, Midway}
 use Rattle.faults.specs.declared.Fault.{Fault}
 use Rattle.faults.specs.declared.steps.Progress.{Progress}
 use Rattle.faults.specs.Records.{faultOf}
+use Rattle.book.specs.Book.{bookOf}
 
 -- the places of a part: 4,096 breaks
 abbrev pub ROOM : ℕ
@@ -55,9 +56,9 @@ flagsOf s = s .samples ∷ s .assays ∷ s .variables ∷ s .runs ∷ []
 -- in the middle of a file
 pub record Going (file : Bytes) (s : Progress) (slots : List Bool) : Type 0 where
   pub limit : length file ≤ LIMIT
-  pub midway : Midway file (s .stand) (s .kinds) slots
+  pub midway : Midway (bookOf (lines file)) file (s .stand) (s .kinds) slots
   pub counted : s .count ≡ total (s .stand)
-  pub declared : Declared (flagsOf s) file
+  pub declared : Declared (bookOf (lines file)) (flagsOf s) file
   pub columns : length (s .kinds) ≡ 256
   pub keys : length slots ≡ SLOTS
 

@@ -1,5 +1,5 @@
 // The steps from part to part: each judges as many lines as a part has room for.
-use book::book;
+use book::layout::book;
 use ids::declared_ids;
 use judging::parts::Stand;
 use judging::parts::beginning;

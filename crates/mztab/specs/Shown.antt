@@ -8,11 +8,11 @@ use lib.ListN.{length}
 use lib.Dec.{ltb}
 use Rattle.numbers.specs.Numbers.{TOO-LONG, NO-SECTION, NO-ROW, NO-CELL}
 use Rattle.text.specs.Bytes.{Bytes, is}
-use Rattle.text.specs.Lines.{LIMIT, TAB, LF}
-use Rattle.book.specs.Book.{isSection}
+use Rattle.text.specs.Lines.{LIMIT, TAB, LF, lines}
 use Rattle.text.specs.Places.{part, after}
 use Rattle.rows.specs.Rows.{Line, rowOf, columnOf}
 use Rattle.mztab.specs.declared.cells.Place.{Place}
+use Rattle.book.specs.Book.{isSection, bookOf}
 
 -- what a cell call finds: a number, the numbers of the line and the cell, where the cell begins in the file, and its bytes
 pub record Sought : Type 0 where
@@ -38,11 +38,11 @@ abbrev pub soughtRow : Bytes → Option Line → ℕ → Sought
 soughtRow file none column = refused NO-ROW
 soughtRow file (some l) column = soughtCell (l .line) (column + 1) (startOf file l column) (columnOf (l .text) column)
 
--- the cell asked for by section, row and column: 1 file too long, 2 section not 1 to 4, 3 no such row, 4 no such cell, tried in this order
+-- the cell asked for by section, row and column: 1 file too long, 2 no such section, 3 no such row, 4 no such cell, tried in this order
 unfoldable pub sought : Bytes → ℕ → ℕ → ℕ → Sought
 sought file section row column =
     cond (ltb LIMIT (length file)) (refused TOO-LONG)
-    (cond (isSection section) (soughtRow file (rowOf file section row) column)
+    (cond (isSection (bookOf (lines file)) section) (soughtRow file (rowOf file section row) column)
     (refused NO-SECTION))
 
 -- what a call gives back: its number and the bytes of its view

@@ -1,5 +1,7 @@
 // The cell calls: one function finds the place, and each call shows it in its own way.
 use crate::records::Reading;
+use book::directory::directory;
+use book::directory::is_section;
 use numbers::NO_CELL;
 use numbers::NO_ROW;
 use numbers::NO_SECTION;
@@ -12,7 +14,6 @@ use rows::row_of;
 use text::LIMIT;
 use text::Part;
 use text::bytes::same_bytes;
-use text::codes::is_section;
 ghost use mathlib.Core.Path.{_≡_};
 ghost use Rattle.mztab.specs.Readings.{told, readingOf};
 ghost use Rattle.mztab.specs.Shown.{Placed, given, refusal, sought, shown, orElse};
@@ -46,7 +47,8 @@ pub fn locate(file: &[u8], section: u32, row: u32, column: u32) -> Place
     if LIMIT < file.len() {
         return refused(TOO_LONG);
     }
-    if !is_section(section) {
+    let book = directory();
+    if !is_section(&book, section) {
         return refused(NO_SECTION);
     }
     let Row::On(line, a, e) = row_of(file, section, row) else {

@@ -1,5 +1,5 @@
 // The judging call over plain places.
-use book::book;
+use book::layout::book;
 use ids::declared_ids;
 use judging::parts::beginning;
 use judging::parts::judge_part;

@@ -6,9 +6,9 @@ use lib.ListN.{length}
 use lib.Dec.{ltb}
 use Rattle.numbers.specs.Numbers.{TOO-LONG, NO-SECTION}
 use Rattle.text.specs.Bytes.{Bytes}
-use Rattle.text.specs.Lines.{LIMIT}
-use Rattle.book.specs.Book.{isSection}
+use Rattle.text.specs.Lines.{LIMIT, lines}
 use Rattle.rows.specs.Rows.{rowCount}
+use Rattle.book.specs.Book.{isSection, bookOf}
 
 -- its number and its answer
 pub record Counted : Type 0 where
@@ -18,11 +18,11 @@ pub record Counted : Type 0 where
 abbrev pub counted : ℕ → ℕ → Counted
 counted n k = record { number = n; rows = k }
 
--- the file too long, the section not 1 to 4: tried in this order, with 0
+-- the file too long, no such section: tried in this order, with 0
 unfoldable pub rowsIn : Bytes → ℕ → Counted
 rowsIn file section =
     cond (ltb LIMIT (length file)) (counted TOO-LONG 0)
-    (cond (isSection section) (counted 0 (rowCount file section))
+    (cond (isSection (bookOf (lines file)) section) (counted 0 (rowCount file section))
     (counted NO-SECTION 0))
 
 -- no second outcome fits

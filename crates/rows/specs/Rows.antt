@@ -8,12 +8,12 @@ use lib.ListN.{length, drop, getElem?}
 use lib.Dec.{eqb}
 use Rattle.text.specs.Bytes.{Bytes, same, count}
 use Rattle.text.specs.Lines.{TAB, LF, lines, cells, coded}
-use Rattle.book.specs.Book.{codeFor, rowCode}
 use Rattle.text.specs.Places.{part, after}
 use Rattle.text.specs.declared.Part.{Part}
 use Rattle.text.specs.declared.Part.the-variants.{At, Nothing}
 use Rattle.rows.specs.declared.Row.{Row}
 use Rattle.rows.specs.declared.Row.the-variants.{On, Absent}
+use Rattle.book.specs.Book.{rowCode, codeFor, bookOf}
 
 -- a line with its number
 pub record Line : Type 0 where
@@ -35,11 +35,11 @@ having code (l ∷ ls) = cond (coded code (l .text)) (l ∷ having code ls) (hav
 
 -- row 0 is the first header of the section, row r the r-th line with its row code
 unfoldable pub rowOf : Bytes → ℕ → ℕ → Option Line
-rowOf file section row = getElem? (having (codeFor section row) (numbered 1 (lines file))) (row - 1)
+rowOf file section row = getElem? (having (codeFor (bookOf (lines file)) section row) (numbered 1 (lines file))) (row - 1)
 
 -- how many rows a section has: the lines with its row code
 unfoldable pub rowCount : Bytes → ℕ → ℕ
-rowCount file section = count (coded (rowCode section)) (lines file)
+rowCount file section = count (coded (rowCode (bookOf (lines file)) section)) (lines file)
 
 -- the text of a section's first header; empty where it has none
 abbrev pub textOf : Option Line → Bytes

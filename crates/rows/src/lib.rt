@@ -1,11 +1,12 @@
 // The rows of a section, in the file's order, whatever breaks the file has, and the columns of a line.
+use book::directory::code_of;
+use book::directory::directory;
+use book::directory::is_section;
 use numbers::NO_SECTION;
 use numbers::TOO_LONG;
 use text::LIMIT;
 use text::Part;
 use text::cells;
-use text::codes::code_of;
-use text::codes::is_section;
 use text::lines;
 ghost use mathlib.Core.Path.{_≡_};
 ghost use mathlib.Core.Bool.{true};
@@ -13,7 +14,7 @@ ghost use Prim.Native.Nat.{_≤_};
 ghost use lib.ListN.{length, getElem?};
 ghost use Rattle.text.specs.Bytes.{count};
 ghost use Rattle.text.specs.Lines.{LIMIT as limit, lines, coded};
-ghost use Rattle.book.specs.Book.{isSection};
+ghost use Rattle.book.specs.Book.{isSection, bookOf};
 ghost use Rattle.rows.specs.Rows.{numbered, having, rowOf, FindsRow, FindsColumn};
 ghost use Rattle.rows.specs.Counted.{counted, rowsIn};
 
@@ -49,14 +50,15 @@ fn nth_coded(file: &[u8], code: &[u8], n: usize) -> Row
 
 // Row 0 is the section's first header, row r the r-th line with its row code.
 pub fn row_of(file: &[u8], section: u32, row: u32) -> Row
-    requires { ⌜ (length (now file) ≤ limit) × (isSection section ≡ true) ⌝ }
+    requires { ⌜ (length (now file) ≤ limit) × (isSection (bookOf (lines (now file))) section ≡ true) ⌝ }
     ensures { λ r. ⌜ FindsRow (now (file .entry)) (rowOf (now (file .entry)) section row) r ⌝ }
 {
-    let code = code_of(section, row);
+    let book = directory();
+    let code = code_of(&book, section, row);
     if row == 0 {
-        return nth_coded(file, &code, 0);
+        return nth_coded(file, code, 0);
     }
-    nth_coded(file, &code, (row - 1) as usize)
+    nth_coded(file, code, (row - 1) as usize)
 }
 
 // Column c of a line is its cell c + 1; there is no column 0.
@@ -95,11 +97,12 @@ pub fn rows(file: &[u8], section: u32, number: &mut u32) -> u32
         *number = TOO_LONG;
         return 0;
     }
-    if !is_section(section) {
+    let book = directory();
+    if !is_section(&book, section) {
         *number = NO_SECTION;
         return 0;
     }
     *number = 0;
-    let code = code_of(section, 1);
-    count_coded(file, &code)
+    let code = code_of(&book, section, 1);
+    count_coded(file, code)
 }

@@ -10,9 +10,9 @@ use lib.Seq.{sets, set-out, drop-drop, drop-cons, length-take-le}
 use lib.ListN.{length, getD, set, take, drop, length-set, length-map, length-drop, take-append-drop, drop-of-length-le}
 use borrow.Author.Tests.{le-ltb, lt-ltb, leb-true, leb-false}
 use Rattle.text.specs.Bytes.{Bytes}
-use Rattle.text.specs.Lines.{LIMIT}
+use Rattle.text.specs.Lines.{LIMIT, lines}
 use Rattle.rules.specs.Breaks.{Break, breakAt}
-use Rattle.rules.specs.Rules.{breaks}
+use Rattle.rules.specs.Rules.{breaksBy, breaks}
 use Rattle.scan.specs.Places.{Lent, lent, putAll}
 use Rattle.scan.proofs.Laws.Placing.{Holds, placed-at}
 use Rattle.judging.specs.Parts.{total, Parts}
@@ -21,6 +21,7 @@ use Rattle.faults.specs.declared.Fault.{Fault}
 use Rattle.faults.specs.declared.steps.Progress.{Progress}
 use Rattle.faults.specs.Records.{faultOf}
 use Rattle.faults.specs.Steps.{recordAt, records, found, numberOf, away}
+use Rattle.book.specs.Book.{bookOf}
 
 -- A RUN OF STORES
 
@@ -79,8 +80,8 @@ records-put bs ys (suc t) i e h =
 -- WHAT IS REPORTED of a file, by the limit
 module _ (file : Bytes) where
   module _ (h : length file ≤ LIMIT) where
-    pub found-all : found file ≡ breaks file
-    unfolding found
+    pub found-all : found file ≡ breaksBy (bookOf (lines file)) (lines file)
+    unfolding found breaks
     found-all = rw (le-ltb LIMIT (length file) h)
 
     pub number-none : numberOf file ≡ 0
@@ -98,21 +99,21 @@ module _ (file : Bytes) where
 
 -- A STEP: the places hold the breaks of a part
 
-module _ {file : Bytes} {room : ℕ} {s r : Stand} {ps ps' : List ℕ} (p : Parts file room s r ps ps') (fits : 3 * r .held ≤ length ps) where
+module _ {file : Bytes} {room : ℕ} {s r : Stand} {ps ps' : List ℕ} (p : Parts (bookOf (lines file)) file room s r ps ps') (fits : 3 * r .held ≤ length ps) where
   -- the breaks of the part, and those after it
   abbrev now : List Break
-  now = take (r .held) (drop (total s) (breaks file))
+  now = take (r .held) (drop (total s) (breaksBy (bookOf (lines file)) (lines file)))
 
   abbrev later : List Break
-  later = drop (total r) (breaks file)
+  later = drop (total r) (breaksBy (bookOf (lines file)) (lines file))
 
   as-many : length now ≡ r .held
-  as-many = length-take-le (r .held) (drop (total s) (breaks file)) (omega (arith, length-drop (total s) (breaks file), p .most, p .before))
+  as-many = length-take-le (r .held) (drop (total s) (breaksBy (bookOf (lines file)) (lines file))) (omega (arith, length-drop (total s) (breaksBy (bookOf (lines file)) (lines file)), p .most, p .before))
 
-  cut : drop (total s) (breaks file) ≡ now ++ later
+  cut : drop (total s) (breaksBy (bookOf (lines file)) (lines file)) ≡ now ++ later
   cut =
       let z : total s + r .held ≡ total r = omega (arith, p .before) in
-      sym (take-append-drop (r .held) (drop (total s) (breaks file))) ∙ ap (λ (xs : List Break). now ++ xs) (drop-drop (r .held) (total s) (breaks file) ∙ ap (λ (n : ℕ). drop n (breaks file)) z)
+      sym (take-append-drop (r .held) (drop (total s) (breaksBy (bookOf (lines file)) (lines file)))) ∙ ap (λ (xs : List Break). now ++ xs) (drop-drop (r .held) (total s) (breaksBy (bookOf (lines file)) (lines file)) ∙ ap (λ (n : ℕ). drop n (breaksBy (bookOf (lines file)) (lines file))) z)
 
   read : records ps' 0 (r .held) ≡ map faultOf now
   read =
@@ -120,8 +121,8 @@ module _ {file : Bytes} {room : ℕ} {s r : Stand} {ps ps' : List ℕ} (p : Part
       ∙ records-put now ps (r .held) 0 (omega (arith, as-many)) (omega (arith, as-many))
 
   step-writes : (cap : ℕ) (ys : List Fault) → length ys ≡ cap
-      → sets ys (total s) (map faultOf (drop (total s) (breaks file)))
-      ≡ sets (sets ys (min (r .before) cap) (records ps' 0 (min (r .held) (cap - min (r .before) cap)))) (total r) (map faultOf (drop (total r) (breaks file)))
+      → sets ys (total s) (map faultOf (drop (total s) (breaksBy (bookOf (lines file)) (lines file))))
+      ≡ sets (sets ys (min (r .before) cap) (records ps' 0 (min (r .held) (cap - min (r .before) cap)))) (total r) (map faultOf (drop (total r) (breaksBy (bookOf (lines file)) (lines file))))
   step-writes cap ys e =
       let T = total s in
       let from = min (r .before) cap in

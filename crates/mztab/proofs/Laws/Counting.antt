@@ -10,8 +10,7 @@ use lib.ListN.{length}
 use borrow.Author.Tests.{ltb-true, ltb-false, le-ltb}
 use Rattle.numbers.specs.Numbers.{TOO-LONG, NO-SECTION, NO-ROW}
 use Rattle.text.specs.Bytes.{Bytes}
-use Rattle.text.specs.Lines.{LIMIT}
-use Rattle.book.specs.Book.{isSection}
+use Rattle.text.specs.Lines.{LIMIT, lines}
 use Rattle.rows.specs.Rows.{Line, rowOf, rowCount, columnOf}
 use Rattle.rows.specs.Counted.{Counted, counted, rowsIn}
 use Rattle.rows.proofs.Laws.Rowing.{row-beyond, row-within}
@@ -20,6 +19,7 @@ use Rattle.rules.specs.Rules.{breaks}
 use Rattle.scan.proofs.Laws.Putting.{put-count}
 use Rattle.mztab.specs.Judged.{Outcome, outcome, judged}
 use Rattle.mztab.specs.Shown.{Shown, refused, startOf, soughtCell, soughtRow, sought, given, shown}
+use Rattle.book.specs.Book.{isSection, bookOf}
 
 -- a row that is there is refused with 4, if at all
 cell-there : (n c start : ℕ) (o : Option Bytes) → soughtCell n c start o .number ≡ NO-ROW → ⊥
@@ -36,7 +36,7 @@ pub rows-cell :
     → (n ≡ NO-ROW → k < row) × (k < row → n ≡ NO-ROW)
 unfolding rowsIn sought
 rows-cell file section row column {k} {n} a b low =
-    go (ltb LIMIT (length file)) (isSection section) (ap (λ (x : Counted). x .number) a) (ap (λ (x : Counted). x .rows) a) (ap (λ (x : Shown). x .number) b)
+    go (ltb LIMIT (length file)) (isSection (bookOf (lines file)) section) (ap (λ (x : Counted). x .number) a) (ap (λ (x : Counted). x .rows) a) (ap (λ (x : Shown). x .number) b)
   where
     go : (t u : Bool)
         → 0 ≡ cond t (counted TOO-LONG 0) (cond u (counted 0 (rowCount file section)) (counted NO-SECTION 0)) .number

@@ -8,8 +8,7 @@ use lib.ListN.{length, drop, length-take, length-drop}
 use borrow.Author.Tests.{lt-ltb, le-ltb, eq-eqb, ne-eqb}
 use Rattle.numbers.specs.Numbers.{TOO-LONG, NO-SECTION, NO-ROW, NO-CELL}
 use Rattle.text.specs.Bytes.{Bytes, is}
-use Rattle.text.specs.Lines.{LIMIT, TAB, LF}
-use Rattle.book.specs.Book.{isSection}
+use Rattle.text.specs.Lines.{LIMIT, TAB, LF, lines}
 use Rattle.text.specs.Places.{part, after}
 use Rattle.text.proofs.Laws.Parts.{part-part}
 use Rattle.rows.specs.Rows.{Line, lineOf, rowOf, columnOf}
@@ -18,6 +17,7 @@ use Rattle.mztab.specs.Readings.{told, unread, readingOf}
 use Rattle.mztab.specs.declared.cells.Place.{Place}
 use Rattle.readings.specs.Reading.{valueOf}
 use Rattle.readings.specs.declared.Value.{Value}
+use Rattle.book.specs.Book.{isSection, bookOf}
 
 -- a refusal's place
 pub placed-refused : (f : Bytes) {s : Sought} {n : ℕ} {p : Place} → p ≡ refusal n → refused n ≡ s → Placed f s p
@@ -51,11 +51,11 @@ module _ (f : Bytes) (section row column : ℕ) where
   sought-long h = rw (lt-ltb LIMIT (length f) h)
 
   module _ (fits : length f ≤ LIMIT) where
-    pub sought-nowhere : isSection section ≡ false → refused NO-SECTION ≡ sought f section row column
+    pub sought-nowhere : isSection (bookOf (lines f)) section ≡ false → refused NO-SECTION ≡ sought f section row column
     unfolding sought
     sought-nowhere h = rw (le-ltb LIMIT (length f) fits, h)
 
-    module _ (of : isSection section ≡ true) where
+    module _ (of : isSection (bookOf (lines f)) section ≡ true) where
       -- past the first tests, the row decides
       sought-in : sought f section row column ≡ soughtRow f (rowOf f section row) column
       unfolding sought

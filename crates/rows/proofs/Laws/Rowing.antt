@@ -12,7 +12,6 @@ use lib.ListN.{length, getD, getElem?, drop}
 use Rattle.numbers.specs.Numbers.{TOO-LONG, NO-SECTION}
 use Rattle.text.specs.Bytes.{Bytes, count}
 use Rattle.text.specs.Lines.{LIMIT, TAB, LF, lines, cells, coded}
-use Rattle.book.specs.Book.{isSection, headerCode, rowCode, codeFor}
 use Rattle.text.specs.Places.{part, after, LineAt, FindsCell}
 use Rattle.text.specs.declared.Part.{Part}
 use Rattle.text.specs.declared.Part.the-variants.{At, Nothing}
@@ -24,6 +23,7 @@ use Rattle.rows.specs.Rows.{Line, lineOf, numbered, having, rowOf, rowCo
 use Rattle.rows.specs.Counted.{counted, rowsIn}
 use Rattle.rows.specs.declared.Row.{Row}
 use Rattle.rows.specs.declared.Row.the-variants.{On, Absent}
+use Rattle.book.specs.Book.{isSection, headerCode, rowCode, codeFor, bookOf}
 
 -- the line at s has the number n: by whether it has the code, and the lines after it
 module _ (code : Bytes) (n : ℕ) {f : Bytes} {s e next : ℕ} (at : LineAt f s e next) where
@@ -114,21 +114,21 @@ get-some [] k h e = omega arith
 get-some (x ∷ xs) zero h e = let z : _≡_ {A = ℕ} 0 1 = cc in omega arith
 get-some (x ∷ xs) (suc k) h e = get-some xs k (omega arith) e
 
-pub rows-long : (file : Bytes) (section : ℕ) → length (having (rowCode section) (numbered 1 (lines file))) ≡ rowCount file section
+pub rows-long : (file : Bytes) (section : ℕ) → length (having (rowCode (bookOf (lines file)) section) (numbered 1 (lines file))) ≡ rowCount file section
 unfolding rowCount
-rows-long file section = having-count (rowCode section) 1 (lines file)
+rows-long file section = having-count (rowCode (bookOf (lines file)) section) 1 (lines file)
 
 -- row r is there exactly for r up to the count
 module _ (file : Bytes) (section row : ℕ) (low : 1 ≤ row) where
-  pub row-coded : rowOf file section row ≡ getElem? (having (rowCode section) (numbered 1 (lines file))) (row - 1)
+  pub row-coded : rowOf file section row ≡ getElem? (having (rowCode (bookOf (lines file)) section) (numbered 1 (lines file))) (row - 1)
   unfolding rowOf codeFor
   row-coded = rw (ne-eqb row 0 (λ e. omega arith))
 
   pub row-beyond : rowCount file section < row → rowOf file section row ≡ none
-  row-beyond h = row-coded ∙ get-none (having (rowCode section) (numbered 1 (lines file))) (row - 1) (omega (arith, rows-long file section))
+  row-beyond h = row-coded ∙ get-none (having (rowCode (bookOf (lines file)) section) (numbered 1 (lines file))) (row - 1) (omega (arith, rows-long file section))
 
   pub row-within : row ≤ rowCount file section → rowOf file section row ≡ none → ⊥
-  row-within h e = get-some (having (rowCode section) (numbered 1 (lines file))) (row - 1) (omega (arith, rows-long file section)) (sym row-coded ∙ e)
+  row-within h e = get-some (having (rowCode (bookOf (lines file)) section) (numbered 1 (lines file))) (row - 1) (omega (arith, rows-long file section)) (sym row-coded ∙ e)
 
 -- A ROW IS A LINE of the file: its number, its text and its code
 
@@ -156,9 +156,9 @@ having-line code n (x ∷ ls) k l e = go (coded code x) refl k e (λ j d. having
     go true c (suc j) d f = later (f j d)
     go false c j d f = later (f j d)
 
-pub header-line : (file : Bytes) (section : ℕ) (l : Line) → rowOf file section 0 ≡ some l → LineIn (headerCode section) 1 (lines file) l
+pub header-line : (file : Bytes) (section : ℕ) (l : Line) → rowOf file section 0 ≡ some l → LineIn (headerCode (bookOf (lines file)) section) 1 (lines file) l
 unfolding rowOf codeFor
-header-line file section l e = having-line (headerCode section) 1 (lines file) 0 l e
+header-line file section l e = having-line (headerCode (bookOf (lines file)) section) 1 (lines file) 0 l e
 
 -- THE CALL `rows`, by the tests that lead to each answer
 module _ (f : Bytes) (section : ℕ) where
@@ -166,10 +166,10 @@ module _ (f : Bytes) (section : ℕ) where
   unfolding rowsIn
   rows-over h = rw (lt-ltb LIMIT (length f) h)
 
-  pub rows-nowhere : length f ≤ LIMIT → isSection section ≡ false → counted NO-SECTION 0 ≡ rowsIn f section
+  pub rows-nowhere : length f ≤ LIMIT → isSection (bookOf (lines f)) section ≡ false → counted NO-SECTION 0 ≡ rowsIn f section
   unfolding rowsIn
   rows-nowhere h e = rw (le-ltb LIMIT (length f) h, e)
 
-  pub rows-there : length f ≤ LIMIT → isSection section ≡ true → {code : Bytes} {k : ℕ} → code ≡ codeFor section 1 → k ≡ count (coded code) (lines f) → counted 0 k ≡ rowsIn f section
+  pub rows-there : length f ≤ LIMIT → isSection (bookOf (lines f)) section ≡ true → {code : Bytes} {k : ℕ} → code ≡ codeFor (bookOf (lines f)) section 1 → k ≡ count (coded code) (lines f) → counted 0 k ≡ rowsIn f section
   unfolding rowsIn rowCount codeFor
   rows-there h e c d = rw (le-ltb LIMIT (length f) h, e, d, c)

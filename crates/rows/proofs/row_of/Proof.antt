@@ -3,20 +3,27 @@ use mathlib.Core.Path.{_≡_}
 use Prim.Native.Nat.{_-_}
 use native.Mathlib.Omega.{arith}
 use borrow.Author.Needs.{needs}
+use Rattle.book.specs.Book.{bookOf}
+use Rattle.book.specs.Text.{bookIn}
 use Rattle.rows.specs.Rows.{rowOf}
 use Rattle.rows.proofs.row_of.Statement.{statement}
 use Rattle.rows.proofs.row_of.Tie as tie
 
+code-of-requires : tie.Need-code-of-requires
+unfolding bookIn bookOf
+code-of-requires c κs = (c .before .directory .ensures .1, c .before .before .before .pre .1)
+
 returns : tie.Need-returns
-unfolding rowOf
+unfolding rowOf bookIn bookOf
 returns c =
-    let args = c .before .before .before .before .before .args in
+    let code = c .before .before in
+    let args = code .before .before .before .before .args in
     let z : args .row - 1 ≡ 0 = omega arith in
-    rw (← c .before .before .before .code-of .ensures, z) (c .nth-coded .ensures)
+    rw (← code .code-of .ensures, z) (c .nth-coded .ensures)
 
 returns-2 : tie.Need-returns-2
-unfolding rowOf
-returns-2 c = rw (← c .before .before .before .code-of .ensures) (c .nth-coded2 .ensures)
+unfolding rowOf bookIn bookOf
+returns-2 c = rw (← c .before .before .code-of .ensures) (c .nth-coded2 .ensures)
 
 pub row-of-spec : {M : Type 1} → statement M
 row-of-spec =
@@ -24,9 +31,9 @@ row-of-spec =
     (tie.spec
     (λ c κs. search needs)
     (λ c. search needs)
+    code-of-requires
     (λ c κs. search needs)
     returns
-    (λ c. search needs)
     (λ c. search needs)
     (λ c. search needs)
     (λ c κs. search needs)

@@ -4,7 +4,7 @@ use Prim.Native.Nat.{ℕ}
 use native.Mathlib.Omega.{arith}
 use borrow.Author.Needs.{needs}
 use lib.ListN.{length, take, drop, length-replicate}
-use Rattle.rules.specs.Rules.{breaks}
+use Rattle.rules.specs.Rules.{breaksBy}
 use Rattle.scan.specs.Places.{Lent}
 use Rattle.scan.proofs.Laws.Placing.{placed-length}
 use Rattle.scan.proofs.Laws.Scanning.{breaks-bound}
@@ -13,24 +13,30 @@ use Rattle.judging.specs.Parts.{total}
 use Rattle.faults.proofs.Laws.Stepping.{found-all, step-moves, step-less}
 use Rattle.faults.proofs.steps.next.Statement.{statement}
 use Rattle.faults.proofs.steps.next.Tie as tie
+use Rattle.book.specs.Book.{bookOf}
+use Rattle.book.specs.Text.{bookIn}
+use Rattle.book.proofs.Laws.Sized.{book-sized}
+use Rattle.text.specs.Lines.{lines}
 
 abbrev start : tie.After-judge-part → tie.Start
 start d = d .before .before .before .before .before .before .before .before .before .before .before .before .before .before
 
 judge-part-requires : tie.Need-judge-part-requires
+unfolding bookIn bookOf
 judge-part-requires c κs =
     let at-book = c .before .before .before .before .before .before .before .before .before .before .before in
     let s = at-book .before .before in
     let g = s .pre .0 .going (s .pre .1 .0) in
-    (omega arith, (at-book .book .ensures .1, (g .limit, (g .midway, (g .declared, (g .columns, (g .keys, length-replicate {A = ℕ} ROOM 0)))))))
+    (omega arith, (at-book .book .ensures, (g .limit, (g .midway, (g .declared, (g .columns, (g .keys, length-replicate {A = ℕ} ROOM 0)))))))
 
 add-count : tie.Need-add-count
 add-count c =
     let at-judge = c .before .before in
     let s = start at-judge in
-    omega (arith, at-judge .judge-part .ensures .0 .most, breaks-bound (s .args .file .now) (s .pre .0 .going (s .pre .1 .0) .limit))
+    omega (arith, at-judge .judge-part .ensures .0 .most, breaks-bound _ (book-sized (s .args .file .now)) (s .args .file .now) (s .pre .0 .going (s .pre .1 .0) .limit))
 
 returns : tie.Need-returns
+unfolding bookIn bookOf
 returns c =
     let at-judge = c .before .before .before .before .before .before .before in
     let s = start at-judge in
@@ -42,7 +48,7 @@ returns c =
     let p = said .0 in
     let from = c .before .before .before .least .ensures in
     let fit = c .least2 .ensures in
-    let room = placed-length (take (at-judge .judge-part .result .held) (drop (total (s .args .s .stand)) (breaks file))) (s .args .places .now) 0 in
+    let room = placed-length (take (at-judge .judge-part .result .held) (drop (total (s .args .s .stand)) (breaksBy (bookOf (lines file)) (lines file)))) (s .args .places .now) 0 in
     let kept : length (at-judge .judge-part .last .0) ≡ 12288 = ap (λ (o : Lent). length (o .places)) (p .puts) ∙ room ∙ s .pre .1 .1 in (
       record {
         number = good .number;

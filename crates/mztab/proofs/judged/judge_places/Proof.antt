@@ -12,6 +12,10 @@ use Rattle.stamps.specs.Stamps.{ROOM}
 use Rattle.judging.proofs.Laws.Parting.{midway-start, part-whole, same-everywhere}
 use Rattle.mztab.proofs.judged.judge_places.Statement.{statement}
 use Rattle.mztab.proofs.judged.judge_places.Tie as tie
+use Rattle.rules.specs.Rules.{breaks}
+use Rattle.book.specs.Book.{bookOf}
+use Rattle.book.specs.Text.{bookIn}
+use Rattle.book.proofs.Laws.Sized.{book-sized}
 
 returns : tie.Need-returns
 unfolding judged
@@ -24,13 +28,13 @@ judge-part-requires c κs =
     (omega arith, (at-book .book .ensures, (at-book .before .if1 .left, (midway-start _ (c .before .before .before .before .beginning .ensures) (λ i. same-everywhere 257725 i false), (at-ids .declared-ids .ensures, (refl, (length-replicate 257725 false, length-replicate {A = ℕ} ROOM 0)))))))
 
 returns-2 : tie.Need-returns-2
-unfolding judged
+unfolding judged breaks bookIn bookOf
 returns-2 c =
     let at-judge = c .before .before .before .before in
     let first = at-judge .before .before .before .before .before in
     let else = first .before .before .before .before .before .before in
     let limit = else .if1 .left in
-    rw (le-ltb LIMIT (length (else .before .before .before .args .file .now)) limit) (ap ended (all-put (first-book first) file _ _ (part-whole (book-sized (first-book first)) (first .beginning .ensures) (at-judge .judge-part .ensures .0) limit (omega arith)))
+    rw (le-ltb LIMIT (length (else .before .before .before .args .file .now)) limit) (ap ended (part-whole (book-sized (else .before .before .before .args .file .now)) (first .beginning .ensures) (at-judge .judge-part .ensures .0) limit (omega arith)))
 
 pub judge-places-spec : {M : Type 1} → statement M
 judge-places-spec =
