@@ -7,7 +7,7 @@ use lib.ListN.{length, getD, set}
 use lib.Dec.{eqb}
 use Rattle.text.specs.Bytes.{Bytes, is}
 use Rattle.text.specs.Lines.{LIMIT, cells, coded}
-use Rattle.book.specs.Book.{rowCode}
+use Rattle.book.specs.Book.{rowCode, mzTab}
 use Rattle.references.specs.References.{refTo}
 use Rattle.fee.specs.Sums.{bit}
 use Rattle.weights.specs.Weights.{PROTEIN, WORD, VARIABLES}
@@ -50,7 +50,7 @@ marks ms i j = eqb (getD ms j 0) i
 
 -- what a line adds to weight i: a protein row its cells, any other nothing
 abbrev pub lineAdds : List ℕ → ℕ → Bytes → ℕ
-lineAdds ms i l = cond (coded (rowCode PROTEIN) l) (adds (marks ms i) 0 (cells l)) 0
+lineAdds ms i l = cond (coded (rowCode mzTab PROTEIN) l) (adds (marks ms i) 0 (cells l)) 0
 
 unfoldable pub linesAdd : List ℕ → ℕ → List Bytes → ℕ
 linesAdd ms i [] = 0

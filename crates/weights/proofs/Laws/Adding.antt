@@ -11,7 +11,7 @@ use lib.Seq.{getD-set-same, getD-set-other}
 use borrow.Author.Tests.{eq-eqb, ne-eqb, eqb-true, eqb-false, ltb-true, ltb-false}
 use Rattle.text.specs.Bytes.{Bytes, is}
 use Rattle.text.specs.Lines.{LIMIT, TAB, lines, cells, coded}
-use Rattle.book.specs.Book.{rowCode}
+use Rattle.book.specs.Book.{rowCode, mzTab}
 use Rattle.text.specs.Places.{part, Ends, LineAt}
 use Rattle.text.proofs.Laws.Lines.{lines-done}
 use Rattle.text.proofs.Laws.Pieces.{piece-cut, piece-last}
@@ -103,13 +103,13 @@ lines-none ms i f s h = rw (lines-done f s h)
 
 -- a line by whether it is a protein row
 module _ (ms : List ℕ) (l : Bytes) where
-  pub row-room : coded (rowCode PROTEIN) l ≡ true → {ws : List ℕ} → Room (λ (i : ℕ). lineAdds ms i l) ws → Room (λ (i : ℕ). adds (marks ms i) 0 (cells l)) ws
+  pub row-room : coded (rowCode mzTab PROTEIN) l ≡ true → {ws : List ℕ} → Room (λ (i : ℕ). lineAdds ms i l) ws → Room (λ (i : ℕ). adds (marks ms i) 0 (cells l)) ws
   row-room t r = record { long = r .long; fits = λ i h. rw t at (r .fits i h) }
 
-  pub row-counted : coded (rowCode PROTEIN) l ≡ true → {ws ws' : List ℕ} → Adds (λ (i : ℕ). adds (marks ms i) 0 (cells l)) ws ws' → Adds (λ (i : ℕ). lineAdds ms i l) ws ws'
+  pub row-counted : coded (rowCode mzTab PROTEIN) l ≡ true → {ws ws' : List ℕ} → Adds (λ (i : ℕ). adds (marks ms i) 0 (cells l)) ws ws' → Adds (λ (i : ℕ). lineAdds ms i l) ws ws'
   row-counted t a = record { long = a .long; each = λ i h. rw t (a .each i h) }
 
-  pub other-line : coded (rowCode PROTEIN) l ≡ false → (ws : List ℕ) → Adds (λ (i : ℕ). lineAdds ms i l) ws ws
+  pub other-line : coded (rowCode mzTab PROTEIN) l ≡ false → (ws : List ℕ) → Adds (λ (i : ℕ). lineAdds ms i l) ws ws
   other-line t ws = record { long = refl; each = λ i h. rw t (omega arith) }
 
 -- ONE TURN over the lines: the line at s has room, and was counted

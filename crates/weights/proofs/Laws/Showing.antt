@@ -11,7 +11,7 @@ use lib.ListN.{length, getElem?}
 use borrow.Author.Tests.{le-ltb}
 use Rattle.text.specs.Bytes.{Bytes, is, count}
 use Rattle.text.specs.Lines.{LIMIT, lines, coded}
-use Rattle.book.specs.Book.{rowCode}
+use Rattle.book.specs.Book.{rowCode, mzTab, bookOf, isSection}
 use Rattle.rows.specs.Rows.{Line, lineOf, numbered, having, rowOf, rowCount, headerOf, columnNamed, columnOf}
 use Rattle.rows.proofs.Laws.Rowing.{row-coded, rows-long}
 use Rattle.mztab.specs.Shown.{Sought, soughtCell, soughtRow, startOf, sought}
@@ -36,13 +36,13 @@ sum-first (suc n) f = omega (arith, sum-first n f)
 
 -- the rows with such a cell, in the order of the rows and in that of the lines
 rows-given : (c n : ℕ) (ls : List Bytes)
-    → sumTo (length (having (rowCode PROTEIN) (numbered n ls))) (λ (j : ℕ). bit (given c (getElem? (having (rowCode PROTEIN) (numbered n ls)) j))) ≡ count (hasIn c) ls
+    → sumTo (length (having (rowCode mzTab PROTEIN) (numbered n ls))) (λ (j : ℕ). bit (given c (getElem? (having (rowCode mzTab PROTEIN) (numbered n ls)) j))) ≡ count (hasIn c) ls
 unfolding having numbered count hasIn sumTo
 rows-given c n [] = refl
-rows-given c n (l ∷ ls) = go (coded (rowCode PROTEIN) l) (isGiven (columnOf l c)) refl (rows-given c (suc n) ls)
+rows-given c n (l ∷ ls) = go (coded (rowCode mzTab PROTEIN) l) (isGiven (columnOf l c)) refl (rows-given c (suc n) ls)
   where
     rest : List Line
-    rest = having (rowCode PROTEIN) (numbered (suc n) ls)
+    rest = having (rowCode mzTab PROTEIN) (numbered (suc n) ls)
 
     go : (t u : Bool) → isGiven (columnOf l c) ≡ u → sumTo (length rest) (λ (j : ℕ). bit (given c (getElem? rest j))) ≡ count (hasIn c) ls
         → sumTo (length (cond t (lineOf n l ∷ rest) rest)) (λ (j : ℕ). bit (given c (getElem? (cond t (lineOf n l ∷ rest) rest) j))) ≡ cond (t && u) (suc (count (hasIn c) ls)) (count (hasIn c) ls)
@@ -61,16 +61,18 @@ row-shown file (some l) c = cell-shown (l .line) (c + 1) (startOf file l c) (col
 
 module _ (file : Bytes) (fits : length file ≤ LIMIT) (c : ℕ) where
   abbrev protein : List Line
-  protein = having (rowCode PROTEIN) (numbered 1 (lines file))
+  protein = having (rowCode mzTab PROTEIN) (numbered 1 (lines file))
 
   row-at : (j : ℕ) → rowOf file PROTEIN (suc j) ≡ getElem? protein j
+  unfolding bookOf
   row-at j = let z : suc j - 1 ≡ j = omega arith in row-coded file PROTEIN (suc j) (omega arith) ∙ ap (getElem? protein) z
 
   sought-given : (j : ℕ) → isShown (sought file PROTEIN (suc j) c) ≡ given c (getElem? protein j)
-  unfolding sought
+  unfolding sought bookOf mzTab isSection
   sought-given j = rw (le-ltb LIMIT (length file) fits) (row-shown file (rowOf file PROTEIN (suc j)) c ∙ ap (given c) (row-at j))
 
   rows-shown : sumTo (rowCount file PROTEIN) (λ (j : ℕ). bit (isShown (sought file PROTEIN (suc j) c))) ≡ count (hasIn c) (lines file)
+  unfolding bookOf
   rows-shown =
       sum-same (rowCount file PROTEIN) (λ (j : ℕ). bit (isShown (sought file PROTEIN (suc j) c))) (λ (j : ℕ). bit (given c (getElem? protein j))) (λ j h. ap bit (sought-given j))
       ∙ ap (λ (n : ℕ). sumTo n (λ (j : ℕ). bit (given c (getElem? protein j)))) (sym (rows-long file PROTEIN)) ∙ rows-given c 1 (lines file)

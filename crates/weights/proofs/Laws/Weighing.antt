@@ -11,7 +11,7 @@ use lib.Seq.{getD-drop}
 use borrow.Author.Tests.{ne-eqb, eqb-true, eqb-false, ltb-true, ltb-false}
 use Rattle.text.specs.Bytes.{Bytes, bytes, same, is, begins, splitOn, count}
 use Rattle.text.specs.Lines.{LIMIT, lines, cells, coded}
-use Rattle.book.specs.Book.{headerCode, rowCode}
+use Rattle.book.specs.Book.{headerCode, rowCode, mzTab, isSection, sectionOf, bookOf}
 use Rattle.text.proofs.Laws.Same.{same-equal, same-self}
 use Rattle.text.proofs.Laws.Counts.{count-most, count-less, lines-most}
 use Rattle.references.specs.References.{refTo}
@@ -38,8 +38,8 @@ sound-none : Sound []
 unfolding splitOn
 sound-none = record { narrow = omega arith; apart = λ a b la ab bw e. omega arith; first = none-named }
 
-code-unnamed : variableOf (headerCode PROTEIN) ≡ 0
-unfolding variableOf refTo begins bytes headerCode
+code-unnamed : variableOf (headerCode mzTab PROTEIN) ≡ 0
+unfolding variableOf refTo begins bytes mzTab isSection sectionOf
 code-unnamed = refl
 
 not-same : {x y : Bytes} → same x y ≡ false → x ≡ y → ⊥
@@ -48,25 +48,26 @@ not-same {x} {y} e q =
     let z : _≡_ {A = ℕ} 0 1 = cc in
     omega arith
 
-sound-line : (file : Bytes) → breaks file ≡ [] → (n : ℕ) → 1 ≤ n → n ≤ length (lines file) → coded (headerCode PROTEIN) (getD (lines file) (n - 1) []) ≡ true
+sound-line : (file : Bytes) → breaks file ≡ [] → (n : ℕ) → 1 ≤ n → n ≤ length (lines file) → coded (headerCode mzTab PROTEIN) (getD (lines file) (n - 1) []) ≡ true
     → Sound (getD (lines file) (n - 1) [])
-unfolding coded
+unfolding coded bookOf mzTab isSection
 sound-line file kept n lo hi e =
-    let head : isHeader (getD (lines file) (n - 1) []) ≡ true = rw (header-coded PROTEIN (getD (lines file) (n - 1) []) refl e) in
+    let head : isHeader (bookOf (lines file)) (getD (lines file) (n - 1) []) ≡ true = rw (header-coded (lines file) PROTEIN (getD (lines file) (n - 1) []) refl e) in
     record {
       narrow = accepted-width file kept n lo hi head;
       apart = λ a b la ab bw q. not-same (accepted-apart file kept n lo hi head a b la ab bw) q;
-      first = ap variableOf (same-equal (getD (cells (getD (lines file) (n - 1) [])) 0 []) (headerCode PROTEIN) e) ∙ code-unnamed;
+      first = ap variableOf (same-equal (getD (cells (getD (lines file) (n - 1) [])) 0 []) (headerCode mzTab PROTEIN) e) ∙ code-unnamed;
     }
 
 sound-header : (file : Bytes) → breaks file ≡ [] → Sound (headerOf file PROTEIN)
+unfolding bookOf
 sound-header file kept = go (rowOf file PROTEIN 0) refl
   where
     go : (o : Option Line) → rowOf file PROTEIN 0 ≡ o → Sound (textOf o)
     go none e = sound-none
     go (some l) e =
         let at = header-line file PROTEIN l e in
-        subst Sound (at .2) (sound-line file kept (l .line) (at .0) (omega (arith, at .1)) (subst (λ (x : Bytes). coded (headerCode PROTEIN) x ≡ true) (sym (at .2)) (at .3)))
+        subst Sound (at .2) (sound-line file kept (l .line) (at .0) (omega (arith, at .1)) (subst (λ (x : Bytes). coded (headerCode mzTab PROTEIN) x ≡ true) (sym (at .2)) (at .3)))
 
 -- ONE COLUMN: where one passes the test and no other does, the cell there decides
 adds-one : (p : ℕ → Bool) (k c : ℕ) (cs : List Bytes) → k ≤ c → p c ≡ true → ((j : ℕ) → (j ≡ c → ⊥) → p j ≡ false) → adds p k cs ≡ bit (isGiven (getElem? cs (c - k)))
@@ -219,7 +220,7 @@ module _ {header : Bytes} (sound : Sound header) (i : ℕ) (lo : 1 ≤ i) (hi : 
     lines-count : (ls : List Bytes) → linesAdd (m .of) i ls ≡ count (hasIn c) ls
     unfolding linesAdd count hasIn
     lines-count [] = refl
-    lines-count (l ∷ ls) = go (coded (rowCode PROTEIN) l) (isGiven (columnOf l c)) refl (lines-count ls)
+    lines-count (l ∷ ls) = go (coded (rowCode mzTab PROTEIN) l) (isGiven (columnOf l c)) refl (lines-count ls)
       where
         row : adds (marks (m .of) i) 0 (cells l) ≡ bit (isGiven (columnOf l c))
         row = adds-alike (marks (m .of) i) p 0 (cells l) marks-alike ∙ row-adds l
@@ -243,17 +244,17 @@ weight-most file i = omega (arith, count-most (hasIn (columnNamed (headerOf file
 -- EVERY WEIGHT IS ONE THAT A SPLIT TAKES: where some row counts there is a header too, so the rows are fewer than the lines
 
 -- a line with the header's code has not the row's
-not-row : (l : Bytes) → coded (headerCode PROTEIN) l ≡ true → coded (rowCode PROTEIN) l ≡ false
-unfolding coded headerCode rowCode bytes same
-not-row l e = ap (λ (x : Bytes). same x (rowCode PROTEIN)) (same-equal (getD (cells l) 0 []) (headerCode PROTEIN) e)
+not-row : (l : Bytes) → coded (headerCode mzTab PROTEIN) l ≡ true → coded (rowCode mzTab PROTEIN) l ≡ false
+unfolding coded mzTab isSection sectionOf bytes same
+not-row l e = ap (λ (x : Bytes). same x (rowCode mzTab PROTEIN)) (same-equal (getD (cells l) 0 []) (headerCode mzTab PROTEIN) e)
 
-not-has : (c : ℕ) (l : Bytes) → coded (headerCode PROTEIN) l ≡ true → hasIn c l ≡ false
+not-has : (c : ℕ) (l : Bytes) → coded (headerCode mzTab PROTEIN) l ≡ true → hasIn c l ≡ false
 unfolding hasIn
 not-has c l e = rw (not-row l e)
 
 none-has : (name l : Bytes) → hasIn (columnNamed [] name) l ≡ false
 unfolding hasIn columnOf placeOf splitOn
-none-has name l = and-false (coded (rowCode PROTEIN) l)
+none-has name l = and-false (coded (rowCode mzTab PROTEIN) l)
 
 count-zero : (p : Bytes → Bool) → ((l : Bytes) → p l ≡ false) → (ls : List Bytes) → count p ls ≡ 0
 unfolding count
@@ -261,7 +262,7 @@ count-zero p h [] = refl
 count-zero p h (l ∷ ls) = rw (h l) (count-zero p h ls)
 
 pub weight-small : (file : Bytes) (i : ℕ) → length file ≤ LIMIT → weightOf file i < LIMIT
-unfolding weightOf
+unfolding weightOf bookOf
 weight-small file i fits = go (rowOf file PROTEIN 0) refl
   where
     go : (o : Option Line) → rowOf file PROTEIN 0 ≡ o → count (hasIn (columnNamed (textOf o) (abundance i))) (lines file) < LIMIT
@@ -269,5 +270,5 @@ weight-small file i fits = go (rowOf file PROTEIN 0) refl
     go (some l) e =
         let c = columnNamed (l .text) (abundance i) in
         let at = header-line file PROTEIN l e in
-        let out : hasIn c (getD (lines file) (l .line - 1) []) ≡ false = not-has c (getD (lines file) (l .line - 1) []) (subst (λ (x : Bytes). coded (headerCode PROTEIN) x ≡ true) (sym (at .2)) (at .3)) in
+        let out : hasIn c (getD (lines file) (l .line - 1) []) ≡ false = not-has c (getD (lines file) (l .line - 1) []) (subst (λ (x : Bytes). coded (headerCode mzTab PROTEIN) x ≡ true) (sym (at .2)) (at .3)) in
         omega (arith, count-less (hasIn c) (lines file) [] (l .line - 1) (omega (arith, at .0, at .1)) out, lines-most file)

@@ -2,20 +2,20 @@
 use mathlib.Core.Path.{sym, _∙_}
 use borrow.Author.Needs.{needs}
 use Rattle.text.specs.Bytes.{bytes}
-use Rattle.book.specs.Book.{rowCode}
+use Rattle.book.specs.Book.{isSection, mzTab, sectionOf}
 use Rattle.weights.proofs.Laws.Adding.{row-room, row-counted, other-line}
 use Rattle.weights.proofs.count_line.Statement.{statement}
 use Rattle.weights.proofs.count_line.Tie as tie
 
 count-row-requires : tie.Need-count-row-requires
-unfolding rowCode bytes
+unfolding mzTab isSection sectionOf bytes
 count-row-requires c κs =
     let at-code = c .before .before in
     let start = at-code .before .before .before .before in
     (start .pre .0, row-room (start .args .marks .now) (start .args .line .now) (sym (at-code .has-code .ensures) ∙ c .before .if1 .taken) (start .pre .1))
 
 returns : tie.Need-returns
-unfolding rowCode bytes
+unfolding mzTab isSection sectionOf bytes
 returns c =
     let at-row = c .before .before in
     let at-code = at-row .before .before .before in
@@ -23,7 +23,7 @@ returns c =
     row-counted (start .args .marks .now) (start .args .line .now) (sym (at-code .has-code .ensures) ∙ at-row .before .before .if1 .taken) (at-row .count-row .ensures)
 
 returns-2 : tie.Need-returns-2
-unfolding rowCode bytes
+unfolding mzTab isSection sectionOf bytes
 returns-2 c =
     let at-code = c .before in
     let start = at-code .before .before .before .before in

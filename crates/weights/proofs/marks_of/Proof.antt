@@ -7,6 +7,7 @@ use lib.ListN.{length}
 use Rattle.text.specs.Bytes.{Bytes}
 use Rattle.text.specs.Lines.{LF}
 use Rattle.text.specs.Places.{part, after}
+use Rattle.book.specs.Book.{isSection, mzTab, bookOf}
 use Rattle.rows.specs.Rows.{lineOf, rowOf, textOf}
 use Rattle.rows.proofs.Laws.Rowing.{row-found, row-missing}
 use Rattle.weights.specs.Weights.{PROTEIN}
@@ -25,6 +26,10 @@ header-here c =
     let file = at-row .before .before .args .file .now in
     let g = c .a .given .0 in
     row-found file (rowOf file PROTEIN 0) (at-row .row-of .result) (g .0) (g .1 .0) (g .1 .1 .0) (c .a .given .1) (at-row .row-of .ensures)
+
+row-of-requires : tie.Need-row-of-requires
+unfolding bookOf mzTab isSection
+row-of-requires c κs = search needs
 
 returns : tie.Need-returns
 returns c =
@@ -49,7 +54,7 @@ pub marks-of-spec : {M : Type 1} → statement M
 marks-of-spec =
     tie.close
     (tie.spec
-    (λ c κs. search needs)
+    row-of-requires
     (λ c. search needs)
     (λ c. search needs)
     (λ c. search needs)

@@ -30,6 +30,7 @@ judge-part-requires c κs =
     (omega arith, (at-book .book .ensures, (g .limit, (g .midway, (g .declared, (g .columns, (g .keys, length-replicate {A = ℕ} ROOM 0)))))))
 
 add-count : tie.Need-add-count
+unfolding bookIn
 add-count c =
     let at-judge = c .before .before in
     let s = start at-judge in
