@@ -61,7 +61,14 @@ fn head_names(
     ensures { λ r. ⌜ Puts (nameBreaks (bookIn (now (book .entry))) section (idsOf (now (flags .entry))) control «line_no» (cells (drop from (now (line .entry))))) 1276 (lent (now (places .entry)) count) (lent (now (places .exit)) r) ⌝ }
     ensures { λ r. ⌜ Kept (bookIn (now (book .entry))) section (cells (drop from (now (line .entry)))) (now (kinds .exit)) (now (stamps .exit)) ⌝ }
 {
-    let k = put_if(places, count, lacks(book, line, from, section), 16, line_no, 1);
+    let k = put_if(
+        places,
+        count,
+        lacks(book, line, from, section),
+        16,
+        line_no,
+        1,
+    );
     head_cells(
         places,
         k,
