@@ -6,7 +6,7 @@ use mathlib.Core.Bool.{Bool, true, false, cond, _&&_}
 use mathlib.Core.List.{List, [], _∷_, map}
 use lib.ListN.{length, getD}
 use lib.Dec.{eqb, leb, ltb}
-use Rattle.text.specs.Bytes.{Bytes, bytes, is, begins}
+use Rattle.text_bytes.specs.Bytes.{Bytes, bytes, is, begins}
 use Rattle.names.specs.Names.{Entry, entryOf, lookupIn}
 use Rattle.names.specs.declared.Found.{Found}
 use Rattle.names.specs.declared.Found.the-variants.{Unknown, Known}

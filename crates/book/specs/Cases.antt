@@ -3,7 +3,7 @@ use Prim.Native.Nat.{ℕ}
 use Prim.Native.String.{String}
 use mathlib.Core.Path.{_≡_, refl}
 use mathlib.Core.List.{[], _∷_, map}
-use Rattle.text.specs.Bytes.{bytes, begins}
+use Rattle.text_bytes.specs.Bytes.{bytes, begins}
 use Rattle.references.specs.Index.{digits, number, bracketed, indexAt}
 use Rattle.names.specs.Names.{piecesFrom, entryOf, fits, firstOf}
 use Rattle.book.specs.Keys.{keys}

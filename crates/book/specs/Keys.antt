@@ -3,7 +3,7 @@
 use Prim.Native.String.{String}
 use mathlib.Core.Bool.{Bool}
 use mathlib.Core.List.{List, [], _∷_}
-use Rattle.text.specs.Bytes.{Bytes, bytes, begins}
+use Rattle.text_bytes.specs.Bytes.{Bytes, bytes, begins}
 
 -- the known keys
 unfoldable pub keys : List String

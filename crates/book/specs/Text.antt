@@ -6,9 +6,9 @@ use mathlib.Core.Path.{_≡_}
 use mathlib.Core.Bool.{Bool, true, false}
 use mathlib.Core.List.{List, [], _∷_, _++_, map}
 use lib.ListN.{length, getD, drop}
-use Rattle.text.specs.Bytes.{Bytes, bytes, SPACE}
+use Rattle.text_bytes.specs.Bytes.{Bytes, bytes, SPACE}
+use Rattle.text_bytes.specs.Places.{part}
 use Rattle.text.specs.Lines.{TAB, cells}
-use Rattle.text.specs.Places.{part}
 use Rattle.names.specs.Names.{Entry}
 use Rattle.names.specs.Table.{WIDTH, entries}
 use Rattle.names.specs.Links.{HEADS, Linked}

@@ -1,6 +1,6 @@
 // The directory at the front of a book's text: the sections with their line codes, and where each table stands.
-use references::index::wide;
-use text::bytes::same_bytes;
+use text_bytes::same_bytes;
+use text_bytes::wide;
 ghost use mathlib.Core.Path.{_≡_};
 ghost use mathlib.Core.Bool.{true};
 ghost use Prim.Native.Nat.{_+_, _*_, _<_};

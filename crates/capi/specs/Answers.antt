@@ -2,7 +2,7 @@
 use Prim.Native.Nat.{ℕ, _+_, _≤_}
 use mathlib.Core.Path.{_≡_}
 use lib.ListN.{length, take, drop}
-use Rattle.text.specs.Bytes.{Bytes}
+use Rattle.text_bytes.specs.Bytes.{Bytes}
 use lib.IntN.{ℤ}
 use lib.Ieee.{Float}
 use Rattle.readings.specs.Reading.{numberOf, wholeOf, placesOf, doubleOf}

@@ -1,7 +1,7 @@
 -- That no second outcome fits, for the calls for hosts. Assumes nothing.
 use Prim.Native.Nat.{ℕ}
 use mathlib.Core.Path.{_≡_, sym, _∙_}
-use Rattle.text.specs.Bytes.{Bytes}
+use Rattle.text_bytes.specs.Bytes.{Bytes}
 use Rattle.mztab.specs.Shown.{Sought}
 use lib.IntN.{ℤ}
 use lib.Ieee.{Float}

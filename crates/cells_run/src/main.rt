@@ -7,9 +7,9 @@ use mztab::cells::cell;
 use mztab::cells::cell_or;
 use mztab::cells::reading;
 use telling::tell;
-use text::bytes::same_bytes;
-use text::bytes::seek;
 use text::lines::line_at;
+use text_bytes::same_bytes;
+use text_bytes::seek;
 ghost use Prim.Native.Nat.{_≤_};
 ghost use lib.ListN.{length};
 

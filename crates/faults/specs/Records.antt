@@ -6,7 +6,7 @@ use lib.ListN.{length}
 use lib.Seq.{sets}
 use lib.Dec.{ltb}
 use Rattle.numbers.specs.Numbers.{TOO-LONG}
-use Rattle.text.specs.Bytes.{Bytes}
+use Rattle.text_bytes.specs.Bytes.{Bytes}
 use Rattle.text.specs.Lines.{LIMIT}
 use Rattle.rules.specs.Breaks.{Break}
 use Rattle.rules.specs.Rules.{breaks}

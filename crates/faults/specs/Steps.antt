@@ -7,7 +7,7 @@ use lib.ListN.{length, drop, getD}
 use lib.Seq.{sets}
 use lib.Dec.{ltb}
 use Rattle.numbers.specs.Numbers.{TOO-LONG}
-use Rattle.text.specs.Bytes.{Bytes}
+use Rattle.text_bytes.specs.Bytes.{Bytes}
 use Rattle.text.specs.Lines.{LIMIT, lines}
 use Rattle.ids.specs.Ids.{Declared}
 use Rattle.rules.specs.Breaks.{Break}

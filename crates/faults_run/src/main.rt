@@ -4,7 +4,7 @@ use faults::Fault;
 use faults::judge;
 use report::print_break;
 use report::print_count;
-use text::bytes::seek;
+use text_bytes::seek;
 ghost use mathlib.Core.Path.{_≡_};
 ghost use lib.ListN.{replicate};
 ghost use Rattle.faults.specs.Records.{judged};

@@ -1,6 +1,6 @@
 // The fields of a line, with a space between them, and the numbers that they write: for the run tests.
-use text::bytes::SPACE;
-use text::bytes::seek;
+use text_bytes::SPACE;
+use text_bytes::seek;
 ghost use Prim.Native.Nat.{_≤_};
 ghost use lib.ListN.{length};
 

@@ -1,13 +1,13 @@
 // The names of a header: whether a required one is absent.
 use book::directory::wanted_at;
-use references::index::wide;
-use text::bytes::same_bytes;
 use text::cells::cell_end;
+use text_bytes::same_bytes;
+use text_bytes::wide;
 ghost use mathlib.Core.Path.{_≡_};
 ghost use mathlib.Core.Bool.{true, not};
 ghost use Prim.Native.Nat.{_≤_};
 ghost use lib.ListN.{length, take, drop};
-ghost use Rattle.text.specs.Bytes.{any, all, same};
+ghost use Rattle.text_bytes.specs.Bytes.{any, all, same};
 ghost use Rattle.text.specs.Lines.{cells};
 ghost use Rattle.book.specs.Book.{isSection};
 ghost use Rattle.book.specs.Text.{bookIn, IsBook};

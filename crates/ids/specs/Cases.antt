@@ -1,7 +1,7 @@
 -- Worked examples of the ids that a file declares, computed. Assumes nothing.
 use mathlib.Core.Path.{_≡_, refl}
 use mathlib.Core.Bool.{true, false}
-use Rattle.text.specs.Bytes.{bytes, same, begins, any, onFirst, splitOn}
+use Rattle.text_bytes.specs.Bytes.{bytes, same, begins, any, onFirst, splitOn}
 use Rattle.text.specs.Lines.{startsLf, lines, coded, isField}
 use Rattle.references.specs.Index.{written, digits, number, bracketed, indexAt}
 use Rattle.names.specs.Names.{piecesFrom, entryOf, fits, firstOf}

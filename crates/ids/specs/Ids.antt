@@ -5,7 +5,7 @@ use mathlib.Core.Bool.{Bool, true, false, cond, _&&_}
 use mathlib.Core.List.{List, [], _∷_, _++_, map}
 use lib.Dec.{eqb}
 use lib.ListN.{length, getD, drop, set}
-use Rattle.text.specs.Bytes.{Bytes, bytes, begins, any}
+use Rattle.text_bytes.specs.Bytes.{Bytes, bytes, begins, any}
 use Rattle.text.specs.Lines.{lines, isField, keyCell}
 use Rattle.references.specs.Index.{written, indexAt}
 use Rattle.references.specs.References.{families, family}

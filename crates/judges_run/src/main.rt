@@ -1,7 +1,7 @@
 // Judges each of the files of a table on standard input, and prints what the program `judge` would, with a line '.' after each. A file ends with the
 // byte 30.
 use report::print_judged;
-use text::bytes::seek;
+use text_bytes::seek;
 
 const FILE_END: u8 = 30;
 

@@ -2,7 +2,7 @@
 use mathlib.Core.Path.{_≡_, refl}
 use mathlib.Core.Bool.{Bool, true, false, Bool·beq}
 use mathlib.Core.List.{List, [], _∷_}
-use Rattle.text.specs.Bytes.{Bytes, bytes, same, begins, isEmpty, all, onFirst, splitOn, isSpace}
+use Rattle.text_bytes.specs.Bytes.{Bytes, bytes, same, begins, isEmpty, all, onFirst, splitOn, isSpace}
 use Rattle.references.specs.Index.{digits, number, bracketed, indexAt}
 use Rattle.values.specs.Values.{areDigits, unsigned, dotted, isNumeral, isText, isWhole, isDecimal, isDecimals, isWindow, isNull}
 use Rattle.parameters.specs.Parameters.{quotedAfter, cut, hasFields, isParameter}

@@ -2,7 +2,7 @@
 use Prim.Native.Nat.{ℕ}
 use mathlib.Core.Bool.{Bool, false, cond, not, _&&_, _||_}
 use lib.Dec.{eqb}
-use Rattle.text.specs.Bytes.{Bytes, is}
+use Rattle.text_bytes.specs.Bytes.{Bytes, is}
 use Rattle.values.specs.Values.{isText, isWhole, isDecimal, isDecimals, isWindow, isNull}
 use Rattle.parameters.specs.Parameters.{isParameter, isParameters}
 use Rattle.references.specs.References.{family, refTo, isIndex, isReferences}

@@ -4,7 +4,7 @@ use parameters::is_parameters;
 use references::Named;
 use references::reference;
 use references::references;
-use text::bytes::same_bytes;
+use text_bytes::same_bytes;
 use values::is_decimal;
 use values::is_decimals;
 use values::is_null;
@@ -13,7 +13,7 @@ use values::is_whole;
 use values::is_window;
 ghost use mathlib.Core.Path.{_≡_};
 ghost use mathlib.Core.Bool.{_||_};
-ghost use Rattle.text.specs.Bytes.{same};
+ghost use Rattle.text_bytes.specs.Bytes.{same};
 ghost use Rattle.references.specs.References.{refTo, Tells};
 ghost use Rattle.kinds.specs.Kinds.{familyNumber, wordOf, isKept, isFixed, ofKind, cellOfKind};
 

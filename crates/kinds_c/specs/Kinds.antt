@@ -2,7 +2,7 @@
 use Prim.Native.Nat.{ℕ}
 use mathlib.Core.Bool.{Bool, false, cond}
 use lib.Dec.{eqb}
-use Rattle.text.specs.Bytes.{Bytes}
+use Rattle.text_bytes.specs.Bytes.{Bytes}
 use Rattle.values.specs.Values.{isText, isWhole, isDecimal, isDecimals, isWindow}
 use Rattle.parameters.specs.Parameters.{isParameter, isParameters}
 

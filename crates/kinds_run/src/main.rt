@@ -6,7 +6,7 @@ use readings::read;
 use references::reference;
 use references::references;
 use telling::tell;
-use text::bytes::seek;
+use text_bytes::seek;
 use values::is_decimal;
 use values::is_decimals;
 use values::is_text;

@@ -2,7 +2,7 @@
 use Prim.Native.Nat.{ℕ}
 use mathlib.Core.Path.{_≡_}
 use mathlib.Core.Bool.{not, _&&_}
-use Rattle.text.specs.Bytes.{Bytes, any}
+use Rattle.text_bytes.specs.Bytes.{Bytes, any}
 use Rattle.kinds.specs.Kinds.{ofKind, familyNumber}
 use Rattle.rules.specs.Rules.{namedIn}
 use Rattle.scan.specs.Machine.{Ids}

@@ -2,9 +2,9 @@
 use mathlib.Core.Path.{_≡_, refl}
 use mathlib.Core.List.{[]}
 use Rattle.numbers.specs.Numbers.{NO-ROW, NO-CELL}
-use Rattle.text.specs.Bytes.{Bytes, bytes, same, onFirst, splitOn}
+use Rattle.text_bytes.specs.Bytes.{Bytes, bytes, same, onFirst, splitOn}
+use Rattle.text_bytes.specs.Places.{after}
 use Rattle.text.specs.Lines.{lines, startsLf, coded}
-use Rattle.text.specs.Places.{after}
 use Rattle.book.specs.Book.{isSection, sectionOf, codeFor, bookOf, mzTab}
 use Rattle.rows.specs.Rows.{numbered, having, rowOf, columnOf}
 use Rattle.mztab.specs.Shown.{refused, sought}

@@ -1,7 +1,7 @@
 -- That no second outcome fits: what each call ensures leaves one number and one view. Assumes nothing.
 use Prim.Native.Nat.{ℕ}
 use mathlib.Core.Path.{_≡_, sym, ap, _∙_}
-use Rattle.text.specs.Bytes.{Bytes}
+use Rattle.text_bytes.specs.Bytes.{Bytes}
 use mathlib.Core.List.{List}
 use Rattle.mztab.specs.Judged.{Outcome, outcome, judged}
 use Rattle.mztab.specs.Readings.{Told, told, readingOf}

@@ -7,9 +7,9 @@ use mathlib.Core.Option.{Option, none, some}
 use lib.ListN.{length}
 use lib.Dec.{ltb}
 use Rattle.numbers.specs.Numbers.{TOO-LONG, NO-SECTION, NO-ROW, NO-CELL}
-use Rattle.text.specs.Bytes.{Bytes, is}
+use Rattle.text_bytes.specs.Bytes.{Bytes, is}
+use Rattle.text_bytes.specs.Places.{part, after}
 use Rattle.text.specs.Lines.{LIMIT, TAB, LF, lines}
-use Rattle.text.specs.Places.{part, after}
 use Rattle.rows.specs.Rows.{Line, rowOf, columnOf}
 use Rattle.mztab.specs.declared.cells.Place.{Place}
 use Rattle.book.specs.Book.{isSection, bookOf}

@@ -13,7 +13,7 @@ use rows::column_of;
 use rows::row_of;
 use text::LIMIT;
 use text::Part;
-use text::bytes::same_bytes;
+use text_bytes::same_bytes;
 ghost use mathlib.Core.Path.{_≡_};
 ghost use Rattle.mztab.specs.Readings.{told, readingOf};
 ghost use Rattle.mztab.specs.Shown.{Placed, given, refusal, sought, shown, orElse};

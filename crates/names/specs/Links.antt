@@ -5,7 +5,7 @@ use mathlib.Core.Bool.{cond}
 use mathlib.Core.List.{List, [], _∷_}
 use lib.Dec.{eqb}
 use lib.ListN.{length, getD, take, drop}
-use Rattle.text.specs.Bytes.{Bytes, SPACE}
+use Rattle.text_bytes.specs.Bytes.{Bytes, SPACE}
 use Rattle.names.specs.Names.{OPEN, Piece, byte, place, Entry, formOf}
 use Rattle.names.specs.Table.{entries}
 

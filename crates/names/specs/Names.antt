@@ -4,7 +4,7 @@ use mathlib.Core.Bool.{Bool, true, false, cond, _&&_, _||_}
 use mathlib.Core.List.{List, [], _∷_, _++_}
 use lib.Dec.{eqb}
 use lib.ListN.{getD, drop}
-use Rattle.text.specs.Bytes.{Bytes, SPACE}
+use Rattle.text_bytes.specs.Bytes.{Bytes, SPACE}
 use Rattle.references.specs.Index.{written, indexAt}
 use Rattle.references.specs.declared.index.Index.{Index}
 use Rattle.references.specs.declared.index.Index.the-variants.{Not, Is}

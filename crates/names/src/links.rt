@@ -1,7 +1,7 @@
 // The links of a table: for each byte the first row that begins with it, and for each row the next one that begins with the same byte; the number past the last row where there is none.
 use crate::NAME;
 use crate::WIDTH;
-use references::index::wide;
+use text_bytes::wide;
 ghost use mathlib.Core.Path.{_≡_};
 ghost use Prim.Native.Nat.{ℕ, _+_, _/_, _≤_, _<_};
 ghost use lib.ListN.{length, getD, take, drop};

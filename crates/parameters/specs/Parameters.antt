@@ -4,8 +4,8 @@ use mathlib.Core.Bool.{Bool, false, cond, _&&_, not}
 use mathlib.Core.List.{List, [], _∷_}
 use lib.ListN.{length, getD}
 use lib.Dec.{eqb, leb}
-use Rattle.text.specs.Bytes.{Bytes, BAR, COMMA, isSpace, all, onFirst}
-use Rattle.text.specs.Places.{part}
+use Rattle.text_bytes.specs.Bytes.{Bytes, BAR, COMMA, isSpace, all, onFirst}
+use Rattle.text_bytes.specs.Places.{part}
 
 abbrev pub MARK : ℕ
 MARK = 34

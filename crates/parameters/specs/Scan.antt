@@ -3,7 +3,7 @@ use Prim.Native.Nat.{ℕ, _+_}
 use mathlib.Core.Bool.{Bool, false, cond, _&&_, _||_, not}
 use mathlib.Core.List.{[], _∷_}
 use lib.Dec.{eqb, ltb}
-use Rattle.text.specs.Bytes.{Bytes, BAR, COMMA, SPACE}
+use Rattle.text_bytes.specs.Bytes.{Bytes, BAR, COMMA, SPACE}
 use Rattle.parameters.specs.Parameters.{turn, separates}
 use Rattle.parameters.specs.declared.Scan.{Scan}
 

@@ -1,14 +1,14 @@
 // Parameters and lists of them, in one pass: the two scans call each other at each quotation mark.
-use text::bytes::BAR;
-use text::bytes::COMMA;
-use text::bytes::SPACE;
+use text_bytes::BAR;
+use text_bytes::COMMA;
+use text_bytes::SPACE;
 ghost use mathlib.Core.Path.{_≡_};
 ghost use mathlib.Core.Bool.{true, false, cond, _&&_};
 ghost use Prim.Native.Nat.{_+_, _≤_, _<_};
 ghost use lib.ListN.{length, drop};
 ghost use lib.Dec.{eqb};
-ghost use Rattle.text.specs.Places.{part};
-ghost use Rattle.text.specs.Bytes.{BAR as bar, COMMA as comma};
+ghost use Rattle.text_bytes.specs.Places.{part};
+ghost use Rattle.text_bytes.specs.Bytes.{BAR as bar, COMMA as comma};
 ghost use Rattle.parameters.specs.Parameters.{isParameter, isParameters};
 ghost use Rattle.parameters.specs.Scan.{state, start, more, held, run};
 

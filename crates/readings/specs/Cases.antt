@@ -4,7 +4,7 @@ use mathlib.Core.List.{[], _∷_, map}
 use Prim.Native.Nat.{ℕ}
 use lib.IntN.{ℤ, pos, negsuc}
 use lib.Ieee.{binary64, ofInt, div, neg, ofBits, toBits, round, units, odd, size, span, climb}
-use Rattle.text.specs.Bytes.{Bytes, bytes, same, isEmpty, all, onFirst, splitOn}
+use Rattle.text_bytes.specs.Bytes.{Bytes, bytes, same, isEmpty, all, onFirst, splitOn}
 use Rattle.references.specs.Index.{number}
 use Rattle.values.specs.Values.{areDigits, unsigned, dotted, isNumeral, isWhole, isNull}
 use Rattle.readings.specs.Reading.{hasMinus, decimalOf, isShort, valueOf, numberOf, wholeOf, placesOf, doubleOf}

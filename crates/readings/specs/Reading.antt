@@ -6,7 +6,7 @@ use lib.Dec.{eqb, leb}
 use lib.IntN.{ℤ, pos, negℤ}
 use lib.Ieee.{Float, binary64, div, neg, ofInt, ofBits}
 use lib.ListN.{length, getD}
-use Rattle.text.specs.Bytes.{Bytes, is, splitOn}
+use Rattle.text_bytes.specs.Bytes.{Bytes, is, splitOn}
 use Rattle.references.specs.Index.{number}
 use Rattle.values.specs.Values.{MINUS, DOT, unsigned, isNull, isWhole, isNumeral}
 use Rattle.readings.specs.declared.Value.{Value}

@@ -1,6 +1,6 @@
 // The reading of a cell: what its bytes say.
-use text::bytes::same_bytes;
-use text::bytes::seek;
+use text_bytes::same_bytes;
+use text_bytes::seek;
 use values::DOT;
 use values::MINUS;
 use values::is_dotted;
@@ -11,7 +11,7 @@ ghost use mathlib.Core.Path.{_≡_};
 ghost use mathlib.Core.Bool.{true, cond};
 ghost use Prim.Native.Nat.{_+_, _≤_, _<_, _^_};
 ghost use lib.ListN.{length};
-ghost use Rattle.text.specs.Bytes.{is, all, splitOn};
+ghost use Rattle.text_bytes.specs.Bytes.{is, all, splitOn};
 ghost use Rattle.references.specs.Index.{isDigit, number};
 ghost use Rattle.values.specs.Values.{DOT as dot, dotted};
 ghost use Rattle.readings.specs.Reading.{hasMinus, signed, double, beforeDot, afterDot, decimalOf, isShort, valueOf};

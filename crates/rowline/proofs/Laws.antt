@@ -7,8 +7,8 @@ use native.Mathlib.Omega.{arith}
 use lib.Dec.{eqb, leb}
 use lib.ListN.{length, drop}
 use borrow.Author.Tests.{leb-true, eqb-true, not-true, not-false}
-use Rattle.text.specs.Bytes.{Bytes, isEmpty}
-use Rattle.text.proofs.Laws.Tests.{and-left, and-right}
+use Rattle.text_bytes.specs.Bytes.{Bytes, isEmpty}
+use Rattle.text_bytes.proofs.Laws.Tests.{and-left, and-right}
 use Rattle.kinds.specs.Kinds.{cellOfKind}
 use Rattle.rules.specs.Breaks.{breakAt, when}
 use Rattle.scan.specs.Places.{Lent, Puts}

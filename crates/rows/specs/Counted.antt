@@ -5,7 +5,7 @@ use mathlib.Core.Bool.{cond}
 use lib.ListN.{length}
 use lib.Dec.{ltb}
 use Rattle.numbers.specs.Numbers.{TOO-LONG, NO-SECTION}
-use Rattle.text.specs.Bytes.{Bytes}
+use Rattle.text_bytes.specs.Bytes.{Bytes}
 use Rattle.text.specs.Lines.{LIMIT, lines}
 use Rattle.rows.specs.Rows.{rowCount}
 use Rattle.book.specs.Book.{isSection, bookOf}

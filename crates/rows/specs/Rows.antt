@@ -6,9 +6,9 @@ use mathlib.Core.List.{List, [], _∷_}
 use mathlib.Core.Option.{Option, none, some}
 use lib.ListN.{length, drop, getElem?}
 use lib.Dec.{eqb}
-use Rattle.text.specs.Bytes.{Bytes, same, count}
+use Rattle.text_bytes.specs.Bytes.{Bytes, same, count}
+use Rattle.text_bytes.specs.Places.{part, after}
 use Rattle.text.specs.Lines.{TAB, LF, lines, cells, coded}
-use Rattle.text.specs.Places.{part, after}
 use Rattle.text.specs.declared.Part.{Part}
 use Rattle.text.specs.declared.Part.the-variants.{At, Nothing}
 use Rattle.rows.specs.declared.Row.{Row}

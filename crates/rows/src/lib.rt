@@ -12,7 +12,7 @@ ghost use mathlib.Core.Path.{_≡_};
 ghost use mathlib.Core.Bool.{true};
 ghost use Prim.Native.Nat.{_≤_};
 ghost use lib.ListN.{length, getElem?};
-ghost use Rattle.text.specs.Bytes.{count};
+ghost use Rattle.text_bytes.specs.Bytes.{count};
 ghost use Rattle.text.specs.Lines.{LIMIT as limit, lines, coded};
 ghost use Rattle.book.specs.Book.{isSection, bookOf};
 ghost use Rattle.rows.specs.Rows.{numbered, having, rowOf, FindsRow, FindsColumn};

@@ -5,7 +5,7 @@ use mathlib.Core.Bool.{Bool, true, false, cond}
 use mathlib.Core.List.{List, [], _∷_, _++_}
 use mathlib.Core.Logic.{_⊎_}
 use lib.ListN.{length, getD, take}
-use Rattle.text.specs.Bytes.{Bytes}
+use Rattle.text_bytes.specs.Bytes.{Bytes}
 use Rattle.text.specs.Lines.{width}
 use Rattle.rules.specs.Sorts.{isSilent}
 

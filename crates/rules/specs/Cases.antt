@@ -5,7 +5,7 @@ use mathlib.Core.List.{List, [], _∷_, _++_}
 use Prim.Native.Nat.{ℕ}
 use lib.Dec.{eqb}
 use Rattle.kinds.specs.Cases.{Case, isA, agrees, cases}
-use Rattle.text.specs.Bytes.{Bytes, bytes, same, begins, isEmpty, any, all, onFirst, splitOn, isSpace}
+use Rattle.text_bytes.specs.Bytes.{Bytes, bytes, same, begins, isEmpty, any, all, onFirst, splitOn, isSpace}
 use Rattle.text.specs.Lines.{lines, startsLf, coded, cell, isField, control, firstControl}
 use Rattle.references.specs.Index.{written, digits, number, bracketed, indexAt}
 use Rattle.values.specs.Values.{areDigits, unsigned, dotted, isText, isWhole, isNumeral, isDecimal, isDecimals, isWindow, isNull}

@@ -5,7 +5,7 @@ use mathlib.Core.Bool.{Bool, false, cond, not, _&&_}
 use mathlib.Core.List.{List, [], _∷_, _++_}
 use lib.ListN.{length, getD, take, drop}
 use lib.Dec.{eqb, leb, ltb}
-use Rattle.text.specs.Bytes.{Bytes, bytes, same, isEmpty, any, all}
+use Rattle.text_bytes.specs.Bytes.{Bytes, bytes, same, isEmpty, any, all}
 use Rattle.text.specs.Lines.{lines, cells, cell, width, isMeta, isThree, isField}
 use Rattle.book.specs.Keys.{isColunit}
 use Rattle.book.specs.Book.{Book, sectionOf, keyOf, isOpt, columnOf, bookOf}

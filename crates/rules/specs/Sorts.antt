@@ -2,7 +2,7 @@
 use Prim.Native.Nat.{ℕ}
 use mathlib.Core.Bool.{Bool, true, false, cond, _||_}
 use lib.Dec.{ltb}
-use Rattle.text.specs.Bytes.{Bytes, is, isEmpty}
+use Rattle.text_bytes.specs.Bytes.{Bytes, is, isEmpty}
 use Rattle.text.specs.Lines.{cells, cell, firstControl}
 use Rattle.book.specs.Book.{Book, sectionBy}
 use Rattle.rules.specs.declared.sorts.Sort.{Sort}

@@ -1,7 +1,7 @@
 // The sort of a line, by its code.
 use book::directory::section_of;
-use text::bytes::same_bytes;
 use text::cells::cell_end;
+use text_bytes::same_bytes;
 ghost use mathlib.Core.Path.{_≡_};
 ghost use Rattle.book.specs.Text.{bookIn, HasDirectory};
 ghost use Rattle.rules.specs.Sorts.{codeSort, sortOf};

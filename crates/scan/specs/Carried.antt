@@ -5,7 +5,7 @@ use mathlib.Core.Bool.{Bool, true, false, cond, _||_}
 use mathlib.Core.List.{List, [], _∷_}
 use lib.ListN.{length, getD, set, take, drop}
 use lib.Dec.{ltb}
-use Rattle.text.specs.Bytes.{Bytes, any}
+use Rattle.text_bytes.specs.Bytes.{Bytes, any}
 use Rattle.text.specs.Lines.{cells, lines, width}
 use Rattle.book.specs.Book.{SECTIONS, Book}
 use Rattle.rules.specs.Sorts.{sortOf, header, isTable, controlCell}

@@ -6,7 +6,7 @@ use mathlib.Core.Bool.{Bool, true, false, cond, not, _&&_}
 use mathlib.Core.List.{List, [], _∷_}
 use lib.ListN.{length, getD, take, drop}
 use lib.Dec.{eqb, leb, ltb}
-use Rattle.text.specs.Bytes.{Bytes, same, isEmpty, any}
+use Rattle.text_bytes.specs.Bytes.{Bytes, same, isEmpty, any}
 use Rattle.book.specs.Letters.{NONE}
 use Rattle.book.specs.Keys.{isColunit}
 use Rattle.book.specs.Book.{Book, keyOf, isOpt, columnOf}

@@ -2,8 +2,8 @@
 use Prim.Native.Nat.{ℕ, zero, suc, _+_, _*_, _/_, _%_, _^_, _<_}
 use mathlib.Core.List.{List, [], _∷_}
 use lib.ListN.{getD, set}
-use Rattle.text.specs.Bytes.{Bytes}
-use Rattle.text.specs.Places.{part}
+use Rattle.text_bytes.specs.Bytes.{Bytes}
+use Rattle.text_bytes.specs.Places.{part}
 
 -- PLACES: the stamps, and from here on their doors, the doors of the forks, what each fork asks, where each name begins, and where it ends
 abbrev pub DOORS : ℕ

@@ -5,7 +5,7 @@ use mathlib.Core.Path.{_≡_}
 use mathlib.Core.Bool.{Bool, false, _||_}
 use mathlib.Core.List.{List}
 use lib.ListN.{length, getD}
-use Rattle.text.specs.Bytes.{Bytes, same}
+use Rattle.text_bytes.specs.Bytes.{Bytes, same}
 use Rattle.stamps.specs.Stamps.{ROOM, DOORS, BRANCHES, ASKS, STARTS, ENDS, IsDoor, branch, nameAt, hashOf, sideOf}
 
 -- from the last door back to the first: a door that holds a fork leads to that of its doors which is on the name's side

@@ -1,12 +1,13 @@
 // Whether a name of a header came before in it, where each name is compared with one earlier name at most, whatever the names are. A name leaves its line's
 // number as a stamp, at a place that its bytes give. From the stamp's door the names of that stamp go apart by forks, each of which asks for four bits.
-use text::bytes::same_bytes;
+use text_bytes::same_bytes;
+use text_bytes::wide;
 ghost use mathlib.Core.Path.{_≡_};
 ghost use mathlib.Core.Bool.{true, false};
 ghost use Prim.Native.Nat.{_+_, _*_, _/_, _%_, _^_, _≤_, _<_};
 ghost use lib.ListN.{length};
+ghost use Rattle.text_bytes.specs.Places.{part};
 ghost use Rattle.text.specs.Lines.{LIMIT};
-ghost use Rattle.text.specs.Places.{part};
 ghost use Rattle.stamps.specs.Stamps.{ROOM as room, IsDoor, BRANCHES as branches, hashOf, codeAt, sideOf, filled, entered, forked};
 ghost use Rattle.stamps.specs.Ways.{Astray, Doors, FindsDoor, Noted, Adds};
 
@@ -37,13 +38,6 @@ const STAMPS: usize = 4096;
 
 // A fork has so many doors, one for each side that four bits can give.
 const SIDES: usize = 16;
-
-// A byte as a number of an index's width.
-fn wide(x: u8) -> usize
-    ensures { λ r. ⌜ r ≡ x ⌝ }
-{
-    x as usize
-}
 
 // A number of the list as an index.
 fn index(x: u32) -> usize

@@ -4,7 +4,7 @@ use mathlib.Core.Bool.{Bool, false, cond, _&&_, _||_, not}
 use mathlib.Core.List.{List, [], _∷_}
 use lib.ListN.{length}
 use lib.Dec.{eqb, leb}
-use Rattle.text.specs.Bytes.{Bytes, BAR, is, isEmpty, all, splitOn}
+use Rattle.text_bytes.specs.Bytes.{Bytes, BAR, is, isEmpty, all, splitOn}
 use Rattle.references.specs.Index.{isDigit}
 
 abbrev pub MINUS : ℕ

@@ -1,9 +1,9 @@
 // Text, whole, decimal, decimal list, window and null. Each answers for any bytes, the empty ones too.
-use text::bytes::BAR;
-use text::bytes::same_bytes;
-use text::bytes::seek;
+use text_bytes::BAR;
+use text_bytes::same_bytes;
+use text_bytes::seek;
 ghost use mathlib.Core.Path.{_≡_};
-ghost use Rattle.text.specs.Bytes.{splitOn};
+ghost use Rattle.text_bytes.specs.Bytes.{splitOn};
 ghost use Rattle.references.specs.Index.{isDigit};
 ghost use Rattle.values.specs.Values.{DOT as dot, areDigits, unsigned, dotted, isText, isWhole, isDecimal, isDecimals, isWindow, isNull};
 

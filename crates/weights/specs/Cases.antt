@@ -1,6 +1,6 @@
 -- Worked examples of weights, computed. Assumes nothing.
 use mathlib.Core.Path.{_≡_, refl}
-use Rattle.text.specs.Bytes.{Bytes, bytes, same, onFirst, splitOn, count}
+use Rattle.text_bytes.specs.Bytes.{Bytes, bytes, same, onFirst, splitOn, count}
 use Rattle.text.specs.Lines.{lines, startsLf, coded}
 use Rattle.book.specs.Book.{codeFor, bookOf, isSection, mzTab, sectionOf}
 use Rattle.references.specs.Index.{written}

@@ -5,7 +5,7 @@ use mathlib.Core.Bool.{Bool, cond, not, _&&_}
 use mathlib.Core.List.{List, [], _∷_}
 use lib.ListN.{length, getD, set}
 use lib.Dec.{eqb}
-use Rattle.text.specs.Bytes.{Bytes, is}
+use Rattle.text_bytes.specs.Bytes.{Bytes, is}
 use Rattle.text.specs.Lines.{LIMIT, cells, coded}
 use Rattle.book.specs.Book.{rowCode, mzTab}
 use Rattle.references.specs.References.{refTo}

@@ -7,7 +7,7 @@ use mathlib.Core.Option.{Option, none, some}
 use lib.ListN.{length}
 use lib.Dec.{eqb, ltb}
 use Rattle.numbers.specs.Numbers.{TOO-LONG, NOT-ACCEPTED, NOT-AS-MANY}
-use Rattle.text.specs.Bytes.{Bytes, bytes, is, count}
+use Rattle.text_bytes.specs.Bytes.{Bytes, bytes, is, count}
 use Rattle.text.specs.Lines.{LIMIT, lines, coded}
 use Rattle.book.specs.Book.{rowCode, mzTab}
 use Rattle.references.specs.Index.{written}

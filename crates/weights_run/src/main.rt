@@ -2,7 +2,7 @@
 // for the sections 0 to 5, three lines `weights` for lists of 64, 63 and 65 places, each with the number and the places afterwards, which held 9 before, and a
 // line '.'.
 use rows::rows;
-use text::bytes::seek;
+use text_bytes::seek;
 use weights::weights;
 ghost use Prim.Native.Nat.{_≤_};
 

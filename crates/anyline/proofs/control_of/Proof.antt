@@ -2,7 +2,7 @@
 use native.Mathlib.Omega.{arith}
 use borrow.Author.Needs.{needs}
 use Rattle.text.specs.Lines.{TAB, cells}
-use Rattle.text.proofs.Laws.Pieces.{pieces-bound}
+use Rattle.text_bytes.proofs.Laws.Pieces.{pieces-bound}
 use Rattle.scan.proofs.Laws.Celling.{first-bound}
 use Rattle.anyline.proofs.control_of.Statement.{statement}
 use Rattle.anyline.proofs.control_of.Tie as tie

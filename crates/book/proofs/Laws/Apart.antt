@@ -2,7 +2,7 @@
 use Prim.Native.Nat.{ℕ}
 use mathlib.Core.Path.{_≡_, refl}
 use mathlib.Core.Bool.{true}
-use Rattle.text.specs.Bytes.{Bytes, bytes, all}
+use Rattle.text_bytes.specs.Bytes.{Bytes, bytes, all}
 use Rattle.names.specs.Names.{piecesFrom, entryOf}
 use Rattle.names.proofs.Laws.Apart.{apart, apartFrom, allApart}
 use Rattle.book.specs.Keys.{keys}

@@ -6,9 +6,9 @@ use mathlib.Core.List.{List, [], _∷_}
 use native.Mathlib.Omega.{arith}
 use lib.ListN.{length, getD}
 use borrow.Author.Tests.{lt-ltb, le-ltb}
-use Rattle.text.specs.Bytes.{Bytes, bytes, all}
-use Rattle.text.proofs.Laws.Begins.{begins-short}
-use Rattle.text.proofs.Laws.Tests.{and-both}
+use Rattle.text_bytes.specs.Bytes.{Bytes, bytes, all}
+use Rattle.text_bytes.proofs.Laws.Begins.{begins-short}
+use Rattle.text_bytes.proofs.Laws.Tests.{and-both}
 use Rattle.names.specs.Names.{Entry, piecesFrom, entryOf, firstOf, lookupIn}
 use Rattle.names.specs.declared.Found.the-variants.{Unknown, Known}
 use Rattle.names.proofs.Laws.Lengths.{textOf, isLong, first-short}

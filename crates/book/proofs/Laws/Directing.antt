@@ -8,9 +8,9 @@ use lib.Dec.{eqb, leb, ltb}
 use lib.ListN.{length, getD, drop, drop-of-length-le}
 use lib.Seq.{drop-cons}
 use borrow.Author.Tests.{leb-true, ltb-true, le-leb, lt-leb, le-ltb, lt-ltb}
-use Rattle.text.specs.Bytes.{Bytes, bytes, same}
-use Rattle.text.specs.Places.{part}
-use Rattle.text.proofs.Laws.Tests.{and-both}
+use Rattle.text_bytes.specs.Bytes.{Bytes, bytes, same}
+use Rattle.text_bytes.specs.Places.{part}
+use Rattle.text_bytes.proofs.Laws.Tests.{and-both}
 use Rattle.names.specs.Names.{lookupIn}
 use Rattle.names.specs.Table.{entries}
 use Rattle.names.specs.Links.{Linked}

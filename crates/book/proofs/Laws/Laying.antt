@@ -11,10 +11,10 @@ use lib.ListN.{length, getD, take, drop, set, length-append, length-take}
 use lib.Seq.{take-length, take-take, take-suc, take-suc-set, getD-take}
 use borrow.Author.Count.{below-none, below-more}
 use borrow.Author.Tests.{leb-true, ltb-true}
-use Rattle.text.specs.Bytes.{Bytes, bytes, splitOn, onFirst}
+use Rattle.text_bytes.specs.Bytes.{Bytes, bytes, splitOn, onFirst}
+use Rattle.text_bytes.specs.Places.{part}
 use Rattle.text.specs.Lines.{cells}
-use Rattle.text.specs.Places.{part}
-use Rattle.text.proofs.Laws.Parts.{drop-take}
+use Rattle.text_bytes.proofs.Laws.Parts.{drop-take}
 use Rattle.names.specs.Names.{entryOf, piecesFrom}
 use Rattle.names.specs.Table.{cut, rows, entries}
 use Rattle.names.specs.Links.{Linked, Links}

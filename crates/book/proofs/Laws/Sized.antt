@@ -4,7 +4,7 @@ use mathlib.Core.Path.{_≡_, refl}
 use mathlib.Core.List.{List}
 use native.Mathlib.Omega.{arith}
 use lib.ListN.{length}
-use Rattle.text.specs.Bytes.{Bytes, bytes}
+use Rattle.text_bytes.specs.Bytes.{Bytes, bytes}
 use Rattle.book.specs.Keys.{keys, demanded}
 use Rattle.book.specs.Book.{SECTIONS, Book, keyEntries, mzTab, bookOf}
 use Rattle.book.specs.Text.{bookIn}

@@ -1,6 +1,6 @@
 -- `book::is_colunit`: the word of the code is the paper's. Assumes nothing.
 use borrow.Author.Needs.{needs}
-use Rattle.text.specs.Bytes.{bytes}
+use Rattle.text_bytes.specs.Bytes.{bytes}
 use Rattle.book.specs.Keys.{isColunit}
 use Rattle.book.proofs.is_colunit.Statement.{statement}
 use Rattle.book.proofs.is_colunit.Tie as tie

@@ -1,6 +1,6 @@
 -- `book::is_opt`: the word of the code is the paper's. Assumes nothing.
 use borrow.Author.Needs.{needs}
-use Rattle.text.specs.Bytes.{bytes}
+use Rattle.text_bytes.specs.Bytes.{bytes}
 use Rattle.book.specs.Book.{isOpt}
 use Rattle.book.proofs.is_opt.Statement.{statement}
 use Rattle.book.proofs.is_opt.Tie as tie

@@ -6,7 +6,7 @@ use Prim.Native.Nat.{ℕ, suc, _+_, _-_, _*_, _<_}
 use native.Mathlib.Numerals.{add-one}
 use native.Mathlib.Omega.{arith}
 use lib.ListN.{getD}
-use Rattle.text.specs.Bytes.{any}
+use Rattle.text_bytes.specs.Bytes.{any}
 use Rattle.names.specs.Names.{slotOf}
 use Rattle.scan.specs.Machine.{upFrom}
 

@@ -7,7 +7,7 @@ use native.Mathlib.Omega.{arith}
 use lib.ListN.{length, drop, drop-of-length-le}
 use lib.Seq.{sets}
 use lib.Dec.{ltb}
-use Rattle.text.specs.Bytes.{Bytes}
+use Rattle.text_bytes.specs.Bytes.{Bytes}
 use Rattle.text.specs.Lines.{LIMIT}
 use Rattle.rules.specs.Breaks.{Break}
 use Rattle.rules.specs.Rules.{breaks}

@@ -9,7 +9,7 @@ use lib.Dec.{leb}
 use lib.Seq.{sets, set-out, drop-drop, drop-cons, length-take-le}
 use lib.ListN.{length, getD, set, take, drop, length-set, length-map, length-drop, take-append-drop, drop-of-length-le}
 use borrow.Author.Tests.{le-ltb, lt-ltb, leb-true, leb-false}
-use Rattle.text.specs.Bytes.{Bytes}
+use Rattle.text_bytes.specs.Bytes.{Bytes}
 use Rattle.text.specs.Lines.{LIMIT, lines}
 use Rattle.rules.specs.Breaks.{Break, breakAt}
 use Rattle.rules.specs.Rules.{breaksBy, breaks}

@@ -7,7 +7,7 @@ use native.Mathlib.Nat.{eq-or-lt-of-le}
 use native.Mathlib.Omega.{arith}
 use lib.Seq.{getD-set-same, getD-set-other}
 use lib.ListN.{length, drop, getD, set}
-use Rattle.text.specs.Bytes.{Bytes}
+use Rattle.text_bytes.specs.Bytes.{Bytes}
 use Rattle.book.specs.Book.{Book, columnOf}
 use Rattle.rules.specs.Rules.{kindIn}
 use Rattle.scan.proofs.Laws.Celling.{column-here}

@@ -7,7 +7,7 @@ use Prim.Native.Nat.{ℕ, _+_, _-_, _*_, _≤_, _<_}
 use native.Mathlib.Omega.{arith}
 use borrow.Author.Needs.{needs}
 use lib.ListN.{length, take, drop, length-set}
-use Rattle.text.specs.Bytes.{Bytes, any, same}
+use Rattle.text_bytes.specs.Bytes.{Bytes, any, same}
 use Rattle.text.specs.Lines.{cells}
 use Rattle.book.specs.Book.{isOpt, columnOf}
 use Rattle.rules.specs.Breaks.{Break}

@@ -6,7 +6,7 @@ use Prim.Native.Nat.{ℕ}
 use native.Mathlib.Omega.{arith}
 use lib.Dec.{ltb}
 use lib.ListN.{length, drop}
-use Rattle.text.specs.Bytes.{Bytes}
+use Rattle.text_bytes.specs.Bytes.{Bytes}
 use Rattle.rules.specs.Breaks.{breakAt, when}
 use Rattle.scan.specs.Places.{Lent, Puts}
 use Rattle.scan.specs.Machine.{Ids, eachCell, plainRest, headBreaks, headFirst, nameBreaks}

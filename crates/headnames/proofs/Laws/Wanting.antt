@@ -11,9 +11,9 @@ use Rattle.text.specs.Lines.{cells}
 use Rattle.rules.specs.Rules.{among, lacksColumn}
 use Rattle.scan.proofs.Laws.Celling.{cell-here, cells-next, cells-last}
 use Rattle.headnames.specs.Wanted.{isIn}
-use Rattle.text.specs.Bytes.{Bytes, bytes, any, all}
-use Rattle.text.specs.Places.{part, Ends}
-use Rattle.text.proofs.Laws.Each.{all-at}
+use Rattle.text_bytes.specs.Bytes.{Bytes, bytes, any, all}
+use Rattle.text_bytes.specs.Places.{part, Ends}
+use Rattle.text_bytes.proofs.Laws.Each.{all-at}
 use Rattle.book.specs.Book.{Section, Book, noSection, isSection, sectionOf, mzTab}
 use Rattle.book.specs.Columns.{proteinRequired, peptideRequired, psmRequired, moleculeRequired}
 use Rattle.book.specs.Text.{wantedAt, Wants, IsText, bookIn}

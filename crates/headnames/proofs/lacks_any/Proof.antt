@@ -5,7 +5,7 @@ use Prim.Native.Nat.{_-_, _≤_}
 use native.Mathlib.Omega.{arith}
 use borrow.Author.Needs.{needs}
 use lib.ListN.{length, take, drop}
-use Rattle.text.specs.Bytes.{all}
+use Rattle.text_bytes.specs.Bytes.{all}
 use Rattle.text.specs.Lines.{cells}
 use Rattle.headnames.specs.Wanted.{isIn}
 use Rattle.headnames.proofs.Laws.Wanting.{all-miss, all-next, all-last}

@@ -4,7 +4,7 @@ use Prim.Native.Nat.{_≤_}
 use native.Mathlib.Omega.{arith}
 use borrow.Author.Needs.{needs}
 use lib.ListN.{length, take, drop}
-use Rattle.text.specs.Bytes.{any, same}
+use Rattle.text_bytes.specs.Bytes.{any, same}
 use Rattle.text.specs.Lines.{cells}
 use Rattle.scan.proofs.Laws.Celling.{any-hit, any-next, any-last}
 use Rattle.headnames.proofs.named_before.Statement.{statement}

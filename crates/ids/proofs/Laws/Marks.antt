@@ -9,9 +9,10 @@ use lib.Dec.{eqb}
 use lib.ListN.{length, getD, getElem?, drop, set, replicate, length-set, getD-replicate}
 use lib.Seq.{getD-set-same, getD-set-other}
 use borrow.Author.Tests.{eq-eqb, ne-eqb, eqb-true, eqb-false}
-use Rattle.text.specs.Bytes.{bytes, begins, any}
+use Rattle.text_bytes.specs.Bytes.{bytes, begins, any}
+use Rattle.text_bytes.specs.Places.{part}
 use Rattle.text.specs.Lines.{lines, cells, coded, isField, keyCell}
-use Rattle.text.specs.Places.{part, LineAt}
+use Rattle.text.specs.Places.{LineAt}
 use Rattle.text.proofs.Laws.Lines.{lines-done}
 use Rattle.references.specs.Index.{written}
 use Rattle.references.specs.References.{family}

@@ -7,8 +7,8 @@ use native.Mathlib.Omega.{arith}
 use lib.Dec.{eqb}
 use lib.ListN.{length, getD, drop}
 use borrow.Author.Tests.{eq-eqb, ne-eqb, eqb-true, eqb-false}
-use Rattle.text.specs.Bytes.{bytes, begins}
-use Rattle.text.proofs.Laws.Begins.{begins-is, begins-self}
+use Rattle.text_bytes.specs.Bytes.{bytes, begins}
+use Rattle.text_bytes.proofs.Laws.Begins.{begins-is, begins-self}
 use Rattle.references.specs.Index.{indexAt, written}
 use Rattle.references.specs.declared.index.Index.{Index}
 use Rattle.references.specs.declared.index.Index.the-variants.{Not, Is}
@@ -17,7 +17,7 @@ use Rattle.references.proofs.Laws.Indices.{index-read, index-written}
 use Rattle.ids.specs.Ids.{valueOf, indexAfter, idIn, idOf}
 use Rattle.ids.specs.declared.Id.{Id}
 use Rattle.ids.specs.declared.Id.the-variants.{Nothing, Of}
-use Rattle.text.proofs.Laws.Tests.{absurd-bool, and-both}
+use Rattle.text_bytes.proofs.Laws.Tests.{absurd-bool, and-both}
 
 -- WORDS
 -- two words, one after the other

@@ -6,7 +6,7 @@ use mathlib.Core.List.{List}
 use mathlib.Core.Bool.{Bool}
 use Prim.Native.Nat.{_-_, _≤_}
 use lib.ListN.{length}
-use Rattle.text.specs.Places.{part}
+use Rattle.text_bytes.specs.Places.{part}
 use Rattle.book.specs.Text.{bookIn}
 use Rattle.ids.specs.Ids.{Flags, lineId}
 use Rattle.ids.proofs.Laws.Marks.{Left, start-flags, left-start, left-next, left-done, marked-flags, line-range}

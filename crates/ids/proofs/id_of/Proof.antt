@@ -2,7 +2,7 @@
 use mathlib.Core.Path.{sym, _∙_}
 use mathlib.Core.List.{List}
 use Prim.Native.Nat.{ℕ}
-use Rattle.text.specs.Bytes.{bytes}
+use Rattle.text_bytes.specs.Bytes.{bytes}
 use Rattle.ids.specs.Ids.{idOf}
 use Rattle.ids.proofs.Laws.Words.{id-here, id-later, id-nowhere}
 use borrow.Author.Needs.{needs}

@@ -8,7 +8,7 @@ use lib.ListN.{length, drop, take, length-drop}
 use lib.Seq.{take-all}
 use Rattle.references.specs.Index.{indexAt}
 use Rattle.ids.specs.Ids.{valueOf, indexAfter}
-use Rattle.text.proofs.Laws.Begins.{begins-within}
+use Rattle.text_bytes.proofs.Laws.Begins.{begins-within}
 use Rattle.ids.proofs.Laws.Words.{after-none, after-some}
 use Rattle.ids.proofs.index_after.Statement.{statement}
 use Rattle.ids.proofs.index_after.Tie as tie

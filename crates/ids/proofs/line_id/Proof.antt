@@ -7,9 +7,9 @@ use mathlib.Core.Option.{some}
 use Prim.Native.Nat.{ℕ, _≤_}
 use lib.ListN.{length, getElem?}
 use borrow.Author.Tests.{not-true, not-false}
-use Rattle.text.specs.Bytes.{bytes}
+use Rattle.text_bytes.specs.Bytes.{bytes}
+use Rattle.text_bytes.specs.Places.{part}
 use Rattle.text.specs.Lines.{cells}
-use Rattle.text.specs.Places.{part}
 use Rattle.text.proofs.Laws.Parts.{found, missing}
 use Rattle.ids.specs.Ids.{keyId}
 use Rattle.ids.proofs.Laws.Marks.{line-other, line-cells, line-key, second-none, second-some}

@@ -7,7 +7,7 @@ use Rattle.judges_run.proofs.run_all.Reads as reads
 use Rattle.judges_run.proofs.run_all.Lts as lts
 use Rattle.io.proofs.write_all.Reads as write-all-reads
 use Rattle.report.proofs.print_judged.Reads as print-judged-reads
-use Rattle.text.proofs.bytes.seek.Reads as seek-reads
+use Rattle.text_bytes.proofs.seek.Reads as seek-reads
 
 abbrev Inv-loop : tie.InvT-loop
 Inv-loop table at₀ t4 at = at ≤ length table

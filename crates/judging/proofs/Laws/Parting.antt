@@ -6,7 +6,7 @@ use Prim.Native.Nat.{ℕ, zero, suc, _+_, _≤_, _<_}
 use native.Mathlib.Omega.{arith}
 use lib.Seq.{drop-drop, take-all, take-add, take-append-seam, drop-append-seam}
 use lib.ListN.{length, getD, replicate, take, drop, length-append, length-drop}
-use Rattle.text.specs.Bytes.{Bytes}
+use Rattle.text_bytes.specs.Bytes.{Bytes}
 use Rattle.text.specs.Lines.{LIMIT, lines}
 use Rattle.rules.specs.Breaks.{Break}
 use Rattle.rules.specs.Rules.{breaksBy}

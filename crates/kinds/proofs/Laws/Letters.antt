@@ -4,7 +4,7 @@ use mathlib.Core.Path.{_≡_, refl}
 use mathlib.Core.Bool.{Bool, true, false, _||_, and-false, and-true}
 use mathlib.Core.List.{[], _∷_}
 use borrow.Author.Tests.{eq-eqb, ne-eqb}
-use Rattle.text.specs.Bytes.{Bytes, bytes, same, isEmpty}
+use Rattle.text_bytes.specs.Bytes.{Bytes, bytes, same, isEmpty}
 use Rattle.values.specs.Values.{isText, isNull, isWhole, isDecimal}
 use Rattle.parameters.specs.Parameters.{isParameters}
 use Rattle.kinds.specs.Kinds.{familyNumber, isKept, ofKind, cellOfKind}

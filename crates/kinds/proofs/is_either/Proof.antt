@@ -1,7 +1,7 @@
 -- `kinds::is_either`. Assumes nothing.
 use borrow.Author.Needs.{needs}
 use mathlib.Core.Path.{sym, _∙_}
-use Rattle.text.proofs.Laws.Tests.{either-first, either-second}
+use Rattle.text_bytes.proofs.Laws.Tests.{either-first, either-second}
 use Rattle.kinds.proofs.is_either.Statement.{statement}
 use Rattle.kinds.proofs.is_either.Tie as tie
 

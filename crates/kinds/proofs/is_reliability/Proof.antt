@@ -1,9 +1,9 @@
 -- `kinds::is_reliability`: the three values of the code are the paper's. Assumes nothing.
 use borrow.Author.Needs.{needs}
 use mathlib.Core.Path.{sym, _∙_}
-use Rattle.text.specs.Bytes.{bytes}
+use Rattle.text_bytes.specs.Bytes.{bytes}
 use Rattle.kinds.specs.Kinds.{isFixed}
-use Rattle.text.proofs.Laws.Tests.{either-first, either-second}
+use Rattle.text_bytes.proofs.Laws.Tests.{either-first, either-second}
 use Rattle.kinds.proofs.is_reliability.Statement.{statement}
 use Rattle.kinds.proofs.is_reliability.Tie as tie
 

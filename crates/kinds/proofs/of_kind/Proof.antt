@@ -3,7 +3,7 @@ use borrow.Author.Needs.{needs}
 use mathlib.Core.Path.{_≡_, sym, ap, _∙_}
 use mathlib.Core.List.{List}
 use Prim.Native.Nat.{ℕ}
-use Rattle.text.specs.Bytes.{bytes}
+use Rattle.text_bytes.specs.Bytes.{bytes}
 use Rattle.references.specs.References.{isIndex}
 use Rattle.kinds.specs.Kinds.{isFixed, ofKind}
 use Rattle.kinds.proofs.Laws.Letters.{other-text}

@@ -8,7 +8,7 @@ use lib.Dec.{eqb}
 use lib.Seq.{getD-set-same, getD-set-other}
 use lib.ListN.{length, getD, set, length-set}
 use borrow.Author.Tests.{eqb-true, eqb-false}
-use Rattle.text.specs.Bytes.{Bytes}
+use Rattle.text_bytes.specs.Bytes.{Bytes}
 use Rattle.names.specs.Names.{slotOf}
 use Rattle.book.specs.Book.{keyEntries, keyOf}
 use Rattle.names.specs.declared.Found.{Found}

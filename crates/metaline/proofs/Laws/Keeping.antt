@@ -4,7 +4,7 @@ use mathlib.Core.Bool.{Bool, true, false, or-false, and-false}
 use mathlib.Core.List.{List, []}
 use lib.ListN.{length, getD}
 use borrow.Author.Tests.{eq-eqb, ne-eqb}
-use Rattle.text.specs.Bytes.{Bytes}
+use Rattle.text_bytes.specs.Bytes.{Bytes}
 use Rattle.text.specs.Lines.{cells, cell, isMeta, isField}
 use Rattle.book.specs.Book.{Book, keyOf}
 use Rattle.scan.specs.Machine.{SLOTS, hasSlot}

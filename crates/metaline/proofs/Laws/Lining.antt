@@ -9,9 +9,9 @@ use native.Mathlib.Omega.{arith}
 use lib.Dec.{eqb}
 use lib.ListN.{length, getD, drop}
 use borrow.Author.Tests.{eq-eqb, ne-eqb}
-use Rattle.text.specs.Bytes.{Bytes}
+use Rattle.text_bytes.specs.Bytes.{Bytes}
+use Rattle.text_bytes.specs.Places.{Ends}
 use Rattle.text.specs.Lines.{cells}
-use Rattle.text.specs.Places.{Ends}
 use Rattle.book.specs.Book.{Book, keyOf}
 use Rattle.rules.specs.Breaks.{breakAt, when}
 use Rattle.scan.specs.Places.{Lent, Puts}

@@ -6,9 +6,9 @@ use mathlib.Core.List.{List, [], _∷_}
 use native.Mathlib.Omega.{arith}
 use lib.Dec.{eqb, ltb}
 use borrow.Author.Tests.{ltb-true, eqb-true, eqb-false}
-use Rattle.text.specs.Bytes.{Bytes, bytes, any, all}
+use Rattle.text_bytes.specs.Bytes.{Bytes, bytes, any, all}
 use Rattle.text.specs.Lines.{lines}
-use Rattle.text.proofs.Laws.Each.{all-at}
+use Rattle.text_bytes.proofs.Laws.Each.{all-at}
 use Rattle.references.specs.References.{refTo, refsTo}
 use Rattle.book.specs.Letters.{REFERENCE, REFERENCES}
 use Rattle.names.specs.Names.{Entry, entry, piecesFrom, entryOf, kindOf, familyOf}

@@ -6,12 +6,12 @@ use mathlib.Core.List.{List, [], _∷_, map}
 use native.Mathlib.Omega.{arith}
 use lib.Dec.{leb}
 use borrow.Author.Tests.{le-leb, leb-true, ne-eqb}
-use Rattle.text.specs.Bytes.{Bytes, any, all, splitOn, COMMA}
+use Rattle.text_bytes.specs.Bytes.{Bytes, any, all, splitOn, COMMA}
 use Rattle.references.specs.References.{refTo, spaced, refsTo, isIndex, isReferences}
 use Rattle.references.proofs.Laws.Names.{ref-le}
 use Rattle.book.specs.Letters.{REFERENCE, REFERENCES}
 use Rattle.kinds.specs.Kinds.{wordOf, ofKind}
-use Rattle.text.proofs.Laws.Tests.{absurd-bool, and-left, and-right}
+use Rattle.text_bytes.proofs.Laws.Tests.{absurd-bool, and-left, and-right}
 use Rattle.rules.specs.Rules.{namedIn}
 
 -- BY KINDS

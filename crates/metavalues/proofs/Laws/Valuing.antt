@@ -6,9 +6,9 @@ use mathlib.Core.List.{List, [], _∷_}
 use native.Mathlib.Omega.{arith}
 use lib.Dec.{eqb, leb}
 use borrow.Author.Tests.{le-leb, lt-leb, leb-true, eqb-true, eqb-false}
-use Rattle.text.specs.Bytes.{Bytes, any, all}
+use Rattle.text_bytes.specs.Bytes.{Bytes, any, all}
 use Rattle.references.specs.References.{refTo}
-use Rattle.text.proofs.Laws.Tests.{and-left, and-right}
+use Rattle.text_bytes.proofs.Laws.Tests.{and-left, and-right}
 use Rattle.book.specs.Letters.{REFERENCE, REFERENCES}
 use Rattle.kinds.specs.Kinds.{familyNumber, wordOf, ofKind}
 use Rattle.rules.specs.Rules.{namedIn}

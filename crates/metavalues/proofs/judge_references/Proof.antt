@@ -7,7 +7,7 @@ use native.Mathlib.Omega.{arith}
 use borrow.Author.Needs.{needs}
 use borrow.Author.Tests.{not-true, not-false}
 use lib.Dec.{eqb}
-use Rattle.text.specs.Bytes.{any, all}
+use Rattle.text_bytes.specs.Bytes.{any, all}
 use Rattle.references.specs.References.{refsTo, isReferences}
 use Rattle.kinds.specs.Kinds.{familyNumber, wordOf}
 use Rattle.scan.specs.Machine.{idsOf}

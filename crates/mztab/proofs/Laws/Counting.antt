@@ -9,7 +9,7 @@ use lib.Dec.{ltb}
 use lib.ListN.{length}
 use borrow.Author.Tests.{ltb-true, ltb-false, le-ltb}
 use Rattle.numbers.specs.Numbers.{TOO-LONG, NO-SECTION, NO-ROW}
-use Rattle.text.specs.Bytes.{Bytes}
+use Rattle.text_bytes.specs.Bytes.{Bytes}
 use Rattle.text.specs.Lines.{LIMIT, lines}
 use Rattle.rows.specs.Rows.{Line, rowOf, rowCount, columnOf}
 use Rattle.rows.specs.Counted.{Counted, counted, rowsIn}

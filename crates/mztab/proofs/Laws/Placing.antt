@@ -7,10 +7,10 @@ use native.Mathlib.Omega.{arith}
 use lib.ListN.{length, drop, length-take, length-drop}
 use borrow.Author.Tests.{lt-ltb, le-ltb, eq-eqb, ne-eqb}
 use Rattle.numbers.specs.Numbers.{TOO-LONG, NO-SECTION, NO-ROW, NO-CELL}
-use Rattle.text.specs.Bytes.{Bytes, is}
+use Rattle.text_bytes.specs.Bytes.{Bytes, is}
+use Rattle.text_bytes.specs.Places.{part, after}
 use Rattle.text.specs.Lines.{LIMIT, TAB, LF, lines}
-use Rattle.text.specs.Places.{part, after}
-use Rattle.text.proofs.Laws.Parts.{part-part}
+use Rattle.text_bytes.proofs.Laws.Parts.{part-part}
 use Rattle.rows.specs.Rows.{Line, lineOf, rowOf, columnOf}
 use Rattle.mztab.specs.Shown.{Sought, refused, refusal, startOf, soughtRow, sought, Shown, given, shown, orElse, Placed}
 use Rattle.mztab.specs.Readings.{told, unread, readingOf}

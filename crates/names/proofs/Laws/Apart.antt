@@ -15,7 +15,7 @@ use Rattle.names.specs.declared.Match.the-variants.{Differs, Fits}
 use Rattle.names.specs.declared.Found.{Found}
 use Rattle.names.specs.declared.Found.the-variants.{Unknown, Known}
 use Rattle.names.proofs.Laws.Known.{never, both, on-index, holes, Shape, filled-fits, nth, known, unknown-miss}
-use Rattle.text.proofs.Laws.Tests.{absurd-bool, and-both}
+use Rattle.text_bytes.proofs.Laws.Tests.{absurd-bool, and-both}
 
 -- two patterns that no text fits both: at some piece they part
 unfoldable pub apart : List Piece → List Piece → Bool

@@ -7,7 +7,7 @@ use native.Mathlib.Omega.{arith}
 use lib.Dec.{eqb, ltb}
 use lib.ListN.{length, getD, drop}
 use borrow.Author.Tests.{eq-eqb, eqb-true, eqb-false}
-use Rattle.text.proofs.Laws.Tests.{absurd-bool}
+use Rattle.text_bytes.proofs.Laws.Tests.{absurd-bool}
 use Rattle.references.specs.Index.{written}
 use Rattle.names.specs.Names.{Piece, byte, place, pieces, filled, fits, mayEnd}
 use Rattle.names.specs.declared.Match.{Match}

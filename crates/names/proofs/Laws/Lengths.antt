@@ -7,8 +7,8 @@ use native.Mathlib.Omega.{arith}
 use lib.Dec.{eqb, leb, ltb}
 use lib.ListN.{length, drop, length-drop}
 use borrow.Author.Tests.{eqb-true, leb-true, ltb-true, ltb-false}
-use Rattle.text.specs.Bytes.{all}
-use Rattle.text.proofs.Laws.Tests.{and-both}
+use Rattle.text_bytes.specs.Bytes.{all}
+use Rattle.text_bytes.proofs.Laws.Tests.{and-both}
 use Rattle.references.specs.Index.{indexAt}
 use Rattle.references.specs.declared.index.Index.{Index}
 use Rattle.references.specs.declared.index.Index.the-variants.{Not, Is}

@@ -8,11 +8,11 @@ use lib.Dec.{eqb}
 use lib.ListN.{length, getD, drop, drop-of-length-le}
 use lib.Seq.{drop-drop}
 use borrow.Author.Tests.{eq-eqb, ne-eqb, eqb-true, eqb-false}
-use Rattle.text.proofs.Laws.Pieces.{drop-step}
+use Rattle.text_bytes.proofs.Laws.Pieces.{drop-step}
 use Rattle.references.specs.Index.{indexAt}
 use Rattle.references.specs.declared.index.Index.the-variants.{Not, Is}
 use Rattle.references.proofs.Laws.Indices.{index-unopened}
-use Rattle.text.proofs.Laws.Tests.{absurd-bool}
+use Rattle.text_bytes.proofs.Laws.Tests.{absurd-bool}
 use Rattle.names.specs.Names.{Piece, byte, place, pieces, piecesFrom, fits, mayFit}
 use Rattle.names.specs.Links.{headOf}
 use Rattle.names.specs.declared.Match.{Match}

@@ -4,7 +4,7 @@ use mathlib.Core.Path.{refl, sym, _∙_}
 use Prim.Native.Nat.{_+_}
 use lib.ListN.{length}
 use borrow.Author.Tests.{not-true}
-use Rattle.text.proofs.Laws.Tests.{absurd-bool}
+use Rattle.text_bytes.proofs.Laws.Tests.{absurd-bool}
 use Rattle.names.proofs.Laws.Lasts.{no-end-differs}
 use Rattle.names.proofs.cannot_fit.Statement.{statement}
 use Rattle.names.proofs.cannot_fit.Tie as tie

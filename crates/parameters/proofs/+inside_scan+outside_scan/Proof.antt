@@ -4,7 +4,7 @@ use mathlib.Core.Path.{_≡_, refl, sym, _∙_}
 use native.Mathlib.Omega.{arith}
 use mathlib.Core.Logic.{⊎-elim}
 use mathlib.Core.Bool.{true, false}
-use Rattle.text.specs.Places.{part}
+use Rattle.text_bytes.specs.Places.{part}
 use Rattle.parameters.specs.Scan.{state, run}
 use Rattle.parameters.proofs.Laws.Scans.{run-none, run-inner, run-closes, run-opens, run-stops, run-comma, run-field}
 use Prim.Native.Nat.{ℕ, _-_, _≤_, _<_}

@@ -9,8 +9,8 @@ use borrow.Author.Tests.{eq-eqb, ne-eqb, eqb-true, lt-leb, le-leb, ltb-false}
 use lib.Dec.{eqb, leb, ltb, eqb·suc-suc}
 use lib.ListN.{length, take, drop, getD, length-drop}
 use lib.Seq.{take-suc, take-all, getD-take, getD-drop, length-take-le}
-use Rattle.text.specs.Bytes.{all, onFirst, isSpace}
-use Rattle.text.specs.Places.{part}
+use Rattle.text_bytes.specs.Bytes.{all, onFirst, isSpace}
+use Rattle.text_bytes.specs.Places.{part}
 use Rattle.parameters.specs.Parameters.{turn, separates, quotedAfter, cut, hasFields, isParameter}
 use Rattle.parameters.specs.Scan.{state, start, more, held, step, run, good}
 use Rattle.parameters.specs.declared.Scan.{Scan}

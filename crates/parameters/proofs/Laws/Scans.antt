@@ -11,9 +11,9 @@ use borrow.Author.Tests.{eq-eqb, ne-eqb, eqb-true}
 use lib.Dec.{eqb}
 use lib.ListN.{length, take, drop, getD, length-drop, take-append-drop, drop-of-length-le}
 use lib.Seq.{drop-drop, take-all, length-take-le}
-use Rattle.text.specs.Bytes.{all, onFirst}
-use Rattle.text.specs.Places.{part}
-use Rattle.text.proofs.Laws.Pieces.{drop-step}
+use Rattle.text_bytes.specs.Bytes.{all, onFirst}
+use Rattle.text_bytes.specs.Places.{part}
+use Rattle.text_bytes.proofs.Laws.Pieces.{drop-step}
 use Rattle.parameters.specs.Parameters.{turn, separates, cut}
 use Rattle.parameters.specs.Scan.{state, start, more, held, step, run}
 use Rattle.parameters.specs.declared.Scan.{Scan}

@@ -2,7 +2,7 @@
 use mathlib.Core.Path.{sym, ap, _∙_}
 use mathlib.Core.Bool.{Bool}
 use Rattle.parameters.specs.Scan.{state, run}
-use Rattle.text.specs.Places.{part}
+use Rattle.text_bytes.specs.Places.{part}
 use borrow.Author.Needs.{needs}
 use Rattle.parameters.proofs.block.Statement.{statement}
 use Rattle.parameters.proofs.block.Tie as tie

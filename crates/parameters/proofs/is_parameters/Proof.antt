@@ -5,7 +5,7 @@ use native.Mathlib.Omega.{arith}
 use mathlib.Core.Bool.{false}
 use borrow.Author.Tests.{not-true, not-false}
 use lib.ListN.{length, drop}
-use Rattle.text.specs.Bytes.{all, BAR}
+use Rattle.text_bytes.specs.Bytes.{all, BAR}
 use Rattle.parameters.specs.Parameters.{cut, isParameter, isParameters}
 use Rattle.parameters.proofs.Laws.Scans.{bar-within, bar-run, bar-good, bar-last, bar-bad}
 use Rattle.parameters.proofs.is_parameters.Statement.{statement}

@@ -14,12 +14,12 @@ use lib.ListN.{length, getD, drop, drop-of-length-le}
 use mir.Syntax.{w64}
 use mir.Val.{SFits, toZ}
 use mir.ValLaws.{toZ-pos}
-use Rattle.text.specs.Bytes.{all}
-use Rattle.text.proofs.Laws.Pieces.{drop-step}
+use Rattle.text_bytes.specs.Bytes.{all}
+use Rattle.text_bytes.proofs.Laws.Pieces.{drop-step}
 use Rattle.references.specs.Index.{isDigit, more, number}
 use Rattle.readings.specs.Reading.{quotient}
-use Rattle.text.proofs.Laws.Tests.{and-left, and-right}
-use Rattle.text.proofs.Laws.Each.{all-next}
+use Rattle.text_bytes.proofs.Laws.Tests.{and-left, and-right}
+use Rattle.text_bytes.proofs.Laws.Each.{all-next}
 
 -- DIGITS, one by one
 

@@ -11,16 +11,16 @@ use lib.Dec.{leb}
 use lib.Ieee.{Float}
 use lib.IntN.{ℤ}
 use lib.ListN.{length, take, drop, getD, length-append, drop-of-length-le}
-use Rattle.text.specs.Bytes.{bytes, same, is, isEmpty, all, onFirst, splitOn}
-use Rattle.text.specs.Places.{upTo, Ends}
-use Rattle.text.proofs.Laws.Pieces.{upTo-le, split-last, piece-cut}
+use Rattle.text_bytes.specs.Bytes.{bytes, same, is, isEmpty, all, onFirst, splitOn}
+use Rattle.text_bytes.specs.Places.{upTo, Ends}
+use Rattle.text_bytes.proofs.Laws.Pieces.{upTo-le, split-last, piece-cut}
 use Rattle.references.specs.Index.{isDigit, number}
 use Rattle.values.specs.Values.{areDigits, unsigned, dotted, isNull, isWhole, isNumeral}
 use Rattle.readings.specs.Reading.{hasMinus, signed, double, beforeDot, afterDot, decimalOf, isShort, valueOf}
 use Rattle.readings.specs.declared.Value.the-variants.{Missing, Whole, Decimal, Infinite, NotANumber, LongDecimal, Text}
-use Rattle.text.proofs.Laws.Same.{same-equal}
-use Rattle.text.proofs.Laws.Tests.{and-left, and-right}
-use Rattle.text.proofs.Laws.Each.{to-end}
+use Rattle.text_bytes.proofs.Laws.Same.{same-equal}
+use Rattle.text_bytes.proofs.Laws.Tests.{and-left, and-right}
+use Rattle.text_bytes.proofs.Laws.Each.{to-end}
 use Rattle.values.proofs.Laws.Digits.{dotted-none, dotted-one, digits-dot}
 use Rattle.readings.proofs.Laws.Numbers.{number-append}
 

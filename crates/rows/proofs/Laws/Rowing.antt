@@ -10,15 +10,16 @@ use lib.Dec.{eqb}
 use borrow.Author.Tests.{ne-eqb, eqb-true, lt-ltb, le-ltb}
 use lib.ListN.{length, getD, getElem?, drop}
 use Rattle.numbers.specs.Numbers.{TOO-LONG, NO-SECTION}
-use Rattle.text.specs.Bytes.{Bytes, count}
+use Rattle.text_bytes.specs.Bytes.{Bytes, count}
+use Rattle.text_bytes.specs.Places.{part, after}
 use Rattle.text.specs.Lines.{LIMIT, TAB, LF, lines, cells, coded}
-use Rattle.text.specs.Places.{part, after, LineAt, FindsCell}
+use Rattle.text.specs.Places.{LineAt, FindsCell}
 use Rattle.text.specs.declared.Part.{Part}
 use Rattle.text.specs.declared.Part.the-variants.{At, Nothing}
-use Rattle.text.proofs.Laws.Starts.{after-more}
+use Rattle.text_bytes.proofs.Laws.Starts.{after-more}
+use Rattle.text_bytes.proofs.Laws.Parts.{get-next, get-below}
+use Rattle.text_bytes.proofs.Laws.Pieces.{pieces-bound}
 use Rattle.text.proofs.Laws.Lines.{lines-done}
-use Rattle.text.proofs.Laws.Parts.{get-next, get-below}
-use Rattle.text.proofs.Laws.Pieces.{pieces-bound}
 use Rattle.rows.specs.Rows.{Line, lineOf, numbered, having, rowOf, rowCount, columnOf, FindsRow, FindsColumn}
 use Rattle.rows.specs.Counted.{counted, rowsIn}
 use Rattle.rows.specs.declared.Row.{Row}

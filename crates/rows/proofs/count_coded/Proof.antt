@@ -4,7 +4,7 @@ use Prim.Native.Nat.{_+_, _-_, _≤_}
 use native.Mathlib.Omega.{arith}
 use borrow.Author.Needs.{needs}
 use lib.ListN.{length, drop}
-use Rattle.text.specs.Bytes.{count}
+use Rattle.text_bytes.specs.Bytes.{count}
 use Rattle.text.specs.Lines.{lines, coded}
 use Rattle.text.proofs.Laws.Counts.{count-hit, count-miss, count-done}
 use Rattle.rows.proofs.count_coded.Statement.{statement}

@@ -3,8 +3,8 @@ use mathlib.Core.Path.{_≡_, refl, sym, _∙_}
 use Prim.Native.Nat.{_+_, _-_, _≤_}
 use borrow.Author.Needs.{needs}
 use lib.ListN.{length, drop, getElem?}
+use Rattle.text_bytes.specs.Places.{after}
 use Rattle.text.specs.Lines.{LF, lines}
-use Rattle.text.specs.Places.{after}
 use Rattle.rows.specs.Rows.{numbered, having}
 use Rattle.rows.proofs.Laws.Rowing.{row-here, row-next, row-miss, row-none, start-first, start-next}
 use Rattle.rows.proofs.nth_coded.Statement.{statement}

@@ -10,10 +10,10 @@ use lib.Dec.{ltb}
 use lib.ListN.{length, getD, take, drop, getElem?, length-take, length-drop}
 use lib.Seq.{getD-take, getD-drop}
 use borrow.Author.Tests.{ltb-false, le-leb, eqb-true}
-use Rattle.text.specs.Bytes.{Bytes, bytes, same, isEmpty, any, splitOn}
+use Rattle.text_bytes.specs.Bytes.{Bytes, bytes, same, isEmpty, any, splitOn}
 use Rattle.text.specs.Lines.{lines, cells, coded, cell, width}
-use Rattle.text.proofs.Laws.Same.{same-equal}
-use Rattle.text.proofs.Laws.Each.{split-some}
+use Rattle.text_bytes.proofs.Laws.Same.{same-equal}
+use Rattle.text_bytes.proofs.Laws.Each.{split-some}
 use Rattle.book.specs.Book.{Book, isSection, sectionOf, headerCode, codedFrom, mzTab, bookOf}
 use Rattle.book.proofs.Laws.Directing.{section-within}
 use Rattle.rules.specs.Sorts.{codeSort, sortOf, headerIn, isHeader, isSilent}

@@ -5,7 +5,7 @@ use mathlib.Core.List.{List, [], _∷_}
 use mathlib.Core.Logic.{_⊎_, inl}
 use Prim.Native.Nat.{ℕ}
 use borrow.Author.Needs.{needs}
-use Rattle.text.specs.Bytes.{Bytes}
+use Rattle.text_bytes.specs.Bytes.{Bytes}
 use Rattle.text.specs.Lines.{lines}
 use Rattle.rules.specs.Breaks.{Break, breakAt, Breaks, Lacks, In, Sorted, Rising}
 use Rattle.book.specs.Book.{Book, bookOf}

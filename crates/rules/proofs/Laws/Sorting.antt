@@ -7,9 +7,9 @@ use native.Mathlib.Omega.{arith}
 use lib.Dec.{eqb, ltb}
 use lib.ListN.{length}
 use borrow.Author.Tests.{lt-ltb, le-ltb, ltb-true, ne-eqb}
-use Rattle.text.specs.Bytes.{Bytes, bytes, same, is, isEmpty, splitOn}
+use Rattle.text_bytes.specs.Bytes.{Bytes, bytes, same, is, isEmpty, splitOn}
 use Rattle.text.specs.Lines.{cell, coded, isMeta}
-use Rattle.text.proofs.Laws.Same.{same-equal}
+use Rattle.text_bytes.proofs.Laws.Same.{same-equal}
 use Rattle.book.specs.Book.{SECTIONS, Section, Book, isSection, codeIn, codedFrom, sectionBy}
 use Rattle.book.proofs.Laws.Sized.{Sized}
 use Rattle.book.proofs.Laws.Directing.{section-here, section-within}

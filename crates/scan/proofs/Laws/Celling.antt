@@ -10,10 +10,10 @@ use native.Mathlib.Omega.{arith}
 use lib.Dec.{eqb}
 use lib.Seq.{take-all, take-suc, take-nil, getD-drop, drop-drop}
 use lib.ListN.{length, take, drop, getD, length-drop}
-use Rattle.text.specs.Bytes.{Bytes, any, onFirst, splitOn}
+use Rattle.text_bytes.specs.Bytes.{Bytes, any, onFirst, splitOn}
+use Rattle.text_bytes.specs.Places.{Ends}
 use Rattle.text.specs.Lines.{cells, control, firstControl}
-use Rattle.text.specs.Places.{Ends}
-use Rattle.text.proofs.Laws.Pieces.{piece-cut, piece-last}
+use Rattle.text_bytes.proofs.Laws.Pieces.{piece-cut, piece-last}
 use Rattle.rules.specs.Breaks.{Break}
 use Rattle.scan.specs.Places.{Lent, putAll, Puts}
 use Rattle.scan.specs.Machine.{eachCell}

@@ -10,8 +10,8 @@ use native.Mathlib.Omega.{arith}
 use lib.Dec.{eqb}
 use lib.ListN.{length, getD, drop}
 use borrow.Author.Tests.{eq-eqb, eqb-true}
-use Rattle.text.specs.Bytes.{Bytes, bytes, same, any, all}
-use Rattle.text.proofs.Laws.Tests.{absurd-bool}
+use Rattle.text_bytes.specs.Bytes.{Bytes, bytes, same, any, all}
+use Rattle.text_bytes.proofs.Laws.Tests.{absurd-bool}
 use Rattle.names.specs.Names.{piecesFrom, entryOf, slotOf, formOf}
 use Rattle.names.specs.declared.Found.{Found}
 use Rattle.names.specs.declared.Found.the-variants.{Unknown, Known}

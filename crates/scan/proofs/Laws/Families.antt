@@ -7,9 +7,9 @@ use native.Mathlib.Omega.{arith}
 use lib.Dec.{eqb, ltb}
 use lib.ListN.{length}
 use borrow.Author.Tests.{ltb-true, eqb-false, ne-eqb}
-use Rattle.text.specs.Bytes.{Bytes, bytes, all}
-use Rattle.text.proofs.Laws.Tests.{and-both}
-use Rattle.text.proofs.Laws.Each.{all-at}
+use Rattle.text_bytes.specs.Bytes.{Bytes, bytes, all}
+use Rattle.text_bytes.proofs.Laws.Tests.{and-both}
+use Rattle.text_bytes.proofs.Laws.Each.{all-at}
 use Rattle.book.specs.Letters.{NONE}
 use Rattle.names.specs.Names.{Entry, entry, entryOf, familyOf, formOf, piecesFrom, lookupIn}
 use Rattle.kinds.specs.Kinds.{familyNumber}

@@ -9,7 +9,7 @@ use lib.Dec.{eqb, ltb}
 use lib.Seq.{getD-set-same, getD-set-other}
 use lib.ListN.{getD, set, length-set}
 use borrow.Author.Tests.{ne-eqb, lt-ltb, le-ltb, ltb-true, ltb-false, eqb-true, eqb-false}
-use Rattle.text.specs.Bytes.{Bytes, any, isEmpty, splitOn}
+use Rattle.text_bytes.specs.Bytes.{Bytes, any, isEmpty, splitOn}
 use Rattle.text.specs.Lines.{width}
 use Rattle.rules.specs.Sorts.{sortOf, headerIn, rowIn, isTable}
 use Rattle.rules.specs.Rules.{ofSection, ofLater, nearer, nearest, nearestIn}

@@ -5,8 +5,8 @@ use mathlib.Core.List.{List, [], _∷_}
 use Prim.Native.Nat.{ℕ, _<_}
 use native.Mathlib.Omega.{arith}
 use borrow.Author.Tests.{eq-eqb, eqb-true}
-use Rattle.text.specs.Bytes.{Bytes, same, any}
-use Rattle.text.proofs.Laws.Same.{same-equal, same-self}
+use Rattle.text_bytes.specs.Bytes.{Bytes, same, any}
+use Rattle.text_bytes.proofs.Laws.Same.{same-equal, same-self}
 use Rattle.names.specs.Names.{slotOf, isKnown}
 use Rattle.book.specs.Keys.{isColunit}
 use Rattle.names.specs.declared.Found.{Found}

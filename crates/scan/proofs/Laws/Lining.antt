@@ -5,7 +5,7 @@ use mathlib.Core.Bool.{Bool, false}
 use Prim.Native.Nat.{ℕ}
 use lib.Dec.{ltb}
 use lib.ListN.{getD}
-use Rattle.text.specs.Bytes.{Bytes}
+use Rattle.text_bytes.specs.Bytes.{Bytes}
 use Rattle.text.specs.Lines.{cells, cell}
 use Rattle.rules.specs.Sorts.{sortOf, controlCell}
 use Rattle.rules.specs.Breaks.{Break, spot, atLine}

@@ -8,9 +8,9 @@ use lib.Dec.{eqb, ltb, leb}
 use lib.Seq.{getD-drop}
 use lib.ListN.{length, drop, getD, length-drop}
 use borrow.Author.Tests.{ne-eqb, le-leb, lt-ltb, le-ltb, leb-true, leb-false, eqb-true}
-use Rattle.text.specs.Bytes.{Bytes, any}
+use Rattle.text_bytes.specs.Bytes.{Bytes, any}
 use Rattle.text.specs.Lines.{cells, cell, width, isThree}
-use Rattle.text.proofs.Laws.Tests.{and-both}
+use Rattle.text_bytes.proofs.Laws.Tests.{and-both}
 use Rattle.book.specs.Keys.{isColunit}
 use Rattle.names.specs.Names.{isKnown}
 use Rattle.rules.specs.Sorts.{sortOf, header, isTable, controlCell}

@@ -8,7 +8,7 @@ use lib.Dec.{eqb, leb}
 use lib.Seq.{getD-drop, drop-drop}
 use lib.ListN.{length, drop, getD, length-drop}
 use borrow.Author.Tests.{le-leb, lt-leb, leb-true, eqb-true, eqb-false}
-use Rattle.text.specs.Bytes.{Bytes, any, onFirst, splitOn}
+use Rattle.text_bytes.specs.Bytes.{Bytes, any, onFirst, splitOn}
 use Rattle.text.specs.Lines.{cells, control, firstControl, width}
 use Rattle.rules.specs.Sorts.{controlCell}
 use Rattle.rules.specs.Breaks.{Break, breakAt, when, each}

@@ -9,11 +9,12 @@ use native.Mathlib.Omega.{arith}
 use lib.Dec.{eqb}
 use lib.Seq.{getD-drop, drop-drop, take-suc}
 use lib.ListN.{length, take, drop, getD, length-append, length-drop}
-use Rattle.text.specs.Bytes.{Bytes, onFirst, splitOn}
+use Rattle.text_bytes.specs.Bytes.{Bytes, onFirst, splitOn}
+use Rattle.text_bytes.specs.Places.{part}
 use Rattle.text.specs.Lines.{LIMIT, lines, startsLf, width}
-use Rattle.text.specs.Places.{part, LineAt}
+use Rattle.text.specs.Places.{LineAt}
+use Rattle.text_bytes.proofs.Laws.Pieces.{onFirst-length}
 use Rattle.text.proofs.Laws.Lines.{lines-done}
-use Rattle.text.proofs.Laws.Pieces.{onFirst-length}
 use Rattle.rules.specs.Sorts.{isSilent}
 use Rattle.rules.specs.Breaks.{Break, breakAt, when, Spot, spot, spotAt, Rule, each, atCell, atLine, inLines, atEnd}
 use Rattle.scan.specs.Machine.{Ids}

@@ -9,8 +9,8 @@ use lib.Dec.{eqb}
 use lib.Seq.{getD-set-same, getD-set-other}
 use lib.ListN.{length, getD, set, length-set}
 use borrow.Author.Tests.{eqb-true, eqb-false}
-use Rattle.text.specs.Bytes.{Bytes}
-use Rattle.text.specs.Places.{part}
+use Rattle.text_bytes.specs.Bytes.{Bytes}
+use Rattle.text_bytes.specs.Places.{part}
 use Rattle.stamps.specs.Stamps.{DOORS, BRANCHES, ASKS, ROOM, IsDoor, branch, nameAt, hashOf, sideOf, entered, forked}
 use Rattle.stamps.specs.Ways.{Way, here, Astray, Known, Noted, Adds}
 use Rattle.stamps.proofs.Laws.Asking.{hash-below, side-below}

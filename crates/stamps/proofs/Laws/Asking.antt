@@ -8,9 +8,9 @@ use native.Mathlib.Omega.{arith}
 use lib.Dec.{ltb}
 use lib.ListN.{length, drop, getD, drop-of-length-le}
 use borrow.Author.Tests.{ltb-true, ltb-false}
-use Rattle.text.specs.Bytes.{Bytes, same}
-use Rattle.text.proofs.Laws.Pieces.{drop-step}
-use Rattle.text.proofs.Laws.Same.{same-equal, same-end}
+use Rattle.text_bytes.specs.Bytes.{Bytes, same}
+use Rattle.text_bytes.proofs.Laws.Pieces.{drop-step}
+use Rattle.text_bytes.proofs.Laws.Same.{same-equal, same-end}
 use Rattle.stamps.specs.Stamps.{DOORS, hashFrom, hashOf, codeAt, sideOf}
 
 -- THE HASH

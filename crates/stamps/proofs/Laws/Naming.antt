@@ -8,9 +8,9 @@ use native.Mathlib.Nat.{not-suc-le-zero, eq-or-lt-of-le, le-of-suc-le-suc}
 use native.Mathlib.Numerals.{add-one}
 use native.Mathlib.Omega.{arith}
 use lib.ListN.{getD}
-use Rattle.text.specs.Bytes.{Bytes, same}
-use Rattle.text.proofs.Laws.Same.{same-equal, same-self}
-use Rattle.text.specs.Places.{part}
+use Rattle.text_bytes.specs.Bytes.{Bytes, same}
+use Rattle.text_bytes.proofs.Laws.Same.{same-equal, same-self}
+use Rattle.text_bytes.specs.Places.{part}
 use Rattle.stamps.specs.Stamps.{STARTS, ENDS, nameAt}
 use Rattle.stamps.specs.Ways.{isNamed}
 

@@ -6,8 +6,8 @@ use Prim.Native.Nat.{ℕ, _+_, _≤_, _<_}
 use native.Mathlib.Nat.{not-suc-le-zero, eq-or-lt-of-le}
 use native.Mathlib.Omega.{arith}
 use lib.ListN.{length, getD}
-use Rattle.text.specs.Bytes.{Bytes}
-use Rattle.text.specs.Places.{part}
+use Rattle.text_bytes.specs.Bytes.{Bytes}
+use Rattle.text_bytes.specs.Places.{part}
 use Rattle.stamps.specs.Stamps.{DOORS, ASKS, STARTS, ENDS, ROOM, IsDoor, branch, nameAt, hashOf, sideOf, entered}
 use Rattle.stamps.specs.Ways.{Way, Known, Noted}
 use Rattle.stamps.proofs.Laws.Asking.{hash-below}

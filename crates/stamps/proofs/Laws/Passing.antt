@@ -7,7 +7,7 @@ use native.Mathlib.Omega.{arith}
 use lib.Dec.{ltb}
 use lib.ListN.{getD}
 use borrow.Author.Tests.{le-ltb, ltb-false}
-use Rattle.text.specs.Bytes.{Bytes}
+use Rattle.text_bytes.specs.Bytes.{Bytes}
 use Rattle.stamps.specs.Stamps.{DOORS, BRANCHES, ASKS, IsDoor, branch, sideOf}
 use Rattle.stamps.specs.Ways.{Way, here, on}
 use Rattle.stamps.proofs.Laws.Asking.{side-below}

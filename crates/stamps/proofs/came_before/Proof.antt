@@ -5,10 +5,10 @@ use Prim.Native.Nat.{_+_, _≤_, _<_}
 use native.Mathlib.Omega.{arith}
 use borrow.Author.Needs.{needs}
 use lib.ListN.{length, getD, length-set}
-use Rattle.text.specs.Bytes.{Bytes, same}
-use Rattle.text.specs.Places.{part}
-use Rattle.text.proofs.Laws.Same.{same-equal, same-self}
-use Rattle.text.proofs.Laws.Tests.{absurd-bool}
+use Rattle.text_bytes.specs.Bytes.{Bytes, same}
+use Rattle.text_bytes.specs.Places.{part}
+use Rattle.text_bytes.proofs.Laws.Same.{same-equal, same-self}
+use Rattle.text_bytes.proofs.Laws.Tests.{absurd-bool}
 use Rattle.stamps.specs.Stamps.{DOORS, nameAt, hashOf, sideOf}
 use Rattle.stamps.specs.Ways.{Way, Astray}
 use Rattle.stamps.proofs.Laws.Asking.{hash-below, side-below}

@@ -4,8 +4,8 @@ use Prim.Native.Nat.{_-_, _≤_}
 use native.Mathlib.Omega.{arith}
 use borrow.Author.Needs.{needs}
 use lib.ListN.{length, drop}
-use Rattle.text.specs.Bytes.{same}
-use Rattle.text.proofs.Laws.Same.{same-hit}
+use Rattle.text_bytes.specs.Bytes.{same}
+use Rattle.text_bytes.proofs.Laws.Same.{same-hit}
 use Rattle.stamps.proofs.Laws.Asking.{code-here, code-past, codes-end}
 use Rattle.stamps.proofs.first_difference.Statement.{statement}
 use Rattle.stamps.proofs.first_difference.Tie as tie

@@ -3,7 +3,7 @@ use mathlib.Core.Path.{sym, _∙_}
 use native.Mathlib.Omega.{arith}
 use borrow.Author.Needs.{needs}
 use borrow.Author.Tests.{not-true, eqb-false}
-use Rattle.text.proofs.Laws.Tests.{absurd-bool}
+use Rattle.text_bytes.proofs.Laws.Tests.{absurd-bool}
 use Rattle.stamps.proofs.is_astray.Statement.{statement}
 use Rattle.stamps.proofs.is_astray.Tie as tie
 

@@ -2,7 +2,7 @@
 use Prim.Native.Nat.{_%_}
 use native.Mathlib.Omega.{arith}
 use borrow.Author.Tests.{ltb-true, ltb-false}
-use Rattle.text.proofs.Laws.Tests.{absurd-bool}
+use Rattle.text_bytes.proofs.Laws.Tests.{absurd-bool}
 use Rattle.stamps.proofs.is_live.Statement.{statement}
 use Rattle.stamps.proofs.is_live.Tie as tie
 

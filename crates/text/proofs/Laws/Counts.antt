@@ -6,11 +6,12 @@ use Prim.Native.Nat.{ℕ, zero, suc, _+_, _≤_, _<_}
 use native.Mathlib.Omega.{arith}
 use lib.Dec.{eqb}
 use lib.ListN.{length, drop, getD}
-use Rattle.text.specs.Bytes.{Bytes, count, onFirst}
+use Rattle.text_bytes.specs.Bytes.{Bytes, count, onFirst}
+use Rattle.text_bytes.specs.Places.{part}
 use Rattle.text.specs.Lines.{lines, startsLf}
-use Rattle.text.specs.Places.{part, LineAt}
+use Rattle.text.specs.Places.{LineAt}
+use Rattle.text_bytes.proofs.Laws.Pieces.{onFirst-length}
 use Rattle.text.proofs.Laws.Lines.{lines-done}
-use Rattle.text.proofs.Laws.Pieces.{onFirst-length}
 
 -- the line at s passes the test or does not; those after it are left
 module _ (p : Bytes → Bool) {f : Bytes} {s e next : ℕ} (at : LineAt f s e next) where

@@ -6,10 +6,10 @@ use Prim.Native.Nat.{ℕ, _+_, _-_, _<_}
 use native.Mathlib.Omega.{arith}
 use borrow.Author.Tests.{ne-eqb}
 use lib.ListN.{length, take, drop}
-use Rattle.text.specs.Bytes.{is, all, splitOn}
-use Rattle.text.specs.Places.{Ends}
-use Rattle.text.proofs.Laws.Pieces.{piece-cut, piece-last, count-last, count-next}
-use Rattle.text.proofs.Laws.Each.{split-some}
+use Rattle.text_bytes.specs.Bytes.{is, all, splitOn}
+use Rattle.text_bytes.specs.Places.{Ends}
+use Rattle.text_bytes.proofs.Laws.Pieces.{piece-cut, piece-last, count-last, count-next}
+use Rattle.text_bytes.proofs.Laws.Each.{split-some}
 use Rattle.values.specs.Values.{unsigned, dotted, isNumeral, isDecimal, isDecimals, isWindow}
 
 -- at the first bar, at none, and at a second

@@ -10,10 +10,10 @@ use borrow.Author.Tests.{eq-eqb, ne-eqb, eqb-true, lt-ltb, lt-leb, le-leb}
 use lib.Dec.{eqb, ltb, leb}
 use lib.ListN.{length, take, drop, getD}
 use lib.Seq.{take-all}
-use Rattle.text.specs.Bytes.{isEmpty, all, splitOn}
-use Rattle.text.specs.Places.{upTo, Ends}
-use Rattle.text.proofs.Laws.Pieces.{upTo-le, split-cut, split-last, piece-cut, piece-last}
-use Rattle.text.proofs.Laws.Each.{split-some, to-end}
+use Rattle.text_bytes.specs.Bytes.{isEmpty, all, splitOn}
+use Rattle.text_bytes.specs.Places.{upTo, Ends}
+use Rattle.text_bytes.proofs.Laws.Pieces.{upTo-le, split-cut, split-last, piece-cut, piece-last}
+use Rattle.text_bytes.proofs.Laws.Each.{split-some, to-end}
 use Rattle.references.specs.Index.{isDigit}
 use Rattle.values.specs.Values.{areDigits, unsigned, dotted, isText, isWhole}
 

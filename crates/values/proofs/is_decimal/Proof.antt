@@ -1,7 +1,7 @@
 -- `values::is_decimal` meets its contract. Assumes nothing.
 use mathlib.Core.Path.{sym, _∙_}
 use Rattle.values.proofs.Laws.Decimals.{decimal-dotted, decimal-inf, decimal-nan}
-use Rattle.text.specs.Bytes.{bytes}
+use Rattle.text_bytes.specs.Bytes.{bytes}
 use borrow.Author.Needs.{needs}
 use Rattle.values.proofs.is_decimal.Statement.{statement}
 use Rattle.values.proofs.is_decimal.Tie as tie

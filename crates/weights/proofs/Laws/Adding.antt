@@ -9,12 +9,13 @@ use lib.Dec.{eqb, ltb}
 use lib.ListN.{length, drop, getD, set, List·getD-eq-default}
 use lib.Seq.{getD-set-same, getD-set-other}
 use borrow.Author.Tests.{eq-eqb, ne-eqb, eqb-true, eqb-false, ltb-true, ltb-false}
-use Rattle.text.specs.Bytes.{Bytes, is}
+use Rattle.text_bytes.specs.Bytes.{Bytes, is}
 use Rattle.text.specs.Lines.{LIMIT, TAB, lines, cells, coded}
 use Rattle.book.specs.Book.{rowCode, mzTab}
-use Rattle.text.specs.Places.{part, Ends, LineAt}
+use Rattle.text_bytes.specs.Places.{part, Ends}
+use Rattle.text.specs.Places.{LineAt}
+use Rattle.text_bytes.proofs.Laws.Pieces.{piece-cut, piece-last}
 use Rattle.text.proofs.Laws.Lines.{lines-done}
-use Rattle.text.proofs.Laws.Pieces.{piece-cut, piece-last}
 use Rattle.fee.specs.Sums.{bit}
 use Rattle.weights.specs.Weights.{PROTEIN}
 use Rattle.weights.specs.Marks.{Good, withCell, adds, marks, lineAdds, linesAdd, Room, Adds}

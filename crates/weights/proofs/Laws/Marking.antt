@@ -8,10 +8,10 @@ use lib.Dec.{eqb, ltb}
 use lib.ListN.{length, drop, getD, set, replicate, length-set}
 use lib.Seq.{getD-set-same, getD-set-other}
 use borrow.Author.Tests.{eqb-true, eqb-false, ltb-true, ltb-false}
-use Rattle.text.specs.Bytes.{Bytes, bytes, begins}
+use Rattle.text_bytes.specs.Bytes.{Bytes, bytes, begins}
+use Rattle.text_bytes.specs.Places.{part, Ends}
 use Rattle.text.specs.Lines.{TAB, cells}
-use Rattle.text.specs.Places.{part, Ends}
-use Rattle.text.proofs.Laws.Pieces.{piece-cut, piece-last}
+use Rattle.text_bytes.proofs.Laws.Pieces.{piece-cut, piece-last}
 use Rattle.references.specs.References.{refTo}
 use Rattle.references.proofs.Laws.Names.{ref-le}
 use Rattle.scan.proofs.Laws.Celling.{cell-here}

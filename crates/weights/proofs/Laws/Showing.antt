@@ -9,7 +9,7 @@ use native.Mathlib.Omega.{arith}
 use lib.Dec.{eqb}
 use lib.ListN.{length, getElem?}
 use borrow.Author.Tests.{le-ltb}
-use Rattle.text.specs.Bytes.{Bytes, is, count}
+use Rattle.text_bytes.specs.Bytes.{Bytes, is, count}
 use Rattle.text.specs.Lines.{LIMIT, lines, coded}
 use Rattle.book.specs.Book.{rowCode, mzTab, bookOf, isSection}
 use Rattle.rows.specs.Rows.{Line, lineOf, numbered, having, rowOf, rowCount, headerOf, columnNamed, columnOf}

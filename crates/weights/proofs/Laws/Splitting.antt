@@ -8,7 +8,7 @@ use lib.Dec.{eqb}
 use lib.ListN.{length, getD}
 use borrow.Author.Tests.{le-leb, lt-leb}
 use Rattle.numbers.specs.Numbers.{ALL-ZERO}
-use Rattle.text.specs.Bytes.{Bytes}
+use Rattle.text_bytes.specs.Bytes.{Bytes}
 use Rattle.text.specs.Lines.{LIMIT}
 use Rattle.fee.specs.Amounts.{LIMIT as FEE-LIMIT}
 use Rattle.fee.specs.Shares.{total}

@@ -9,10 +9,10 @@ use lib.Dec.{eqb, ltb}
 use lib.ListN.{length, drop, getD, getElem?, length-drop, List·getD-eq-default}
 use lib.Seq.{getD-drop}
 use borrow.Author.Tests.{ne-eqb, eqb-true, eqb-false, ltb-true, ltb-false}
-use Rattle.text.specs.Bytes.{Bytes, bytes, same, is, begins, splitOn, count}
+use Rattle.text_bytes.specs.Bytes.{Bytes, bytes, same, is, begins, splitOn, count}
 use Rattle.text.specs.Lines.{LIMIT, lines, cells, coded}
 use Rattle.book.specs.Book.{headerCode, rowCode, mzTab, isSection, sectionOf, bookOf}
-use Rattle.text.proofs.Laws.Same.{same-equal, same-self}
+use Rattle.text_bytes.proofs.Laws.Same.{same-equal, same-self}
 use Rattle.text.proofs.Laws.Counts.{count-most, count-less, lines-most}
 use Rattle.references.specs.References.{refTo}
 use Rattle.references.proofs.Laws.Names.{ref-read, ref-written}

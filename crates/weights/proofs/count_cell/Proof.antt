@@ -1,7 +1,7 @@
 -- `weights::count_cell` meets its contract: at each `return` the tests say whether the cell counts. Assumes nothing.
 use mathlib.Core.Path.{sym, _∙_}
 use borrow.Author.Needs.{needs}
-use Rattle.text.specs.Bytes.{bytes}
+use Rattle.text_bytes.specs.Bytes.{bytes}
 use Rattle.weights.proofs.Laws.Adding.{cell-unmarked, cell-null, cell-counts}
 use Rattle.weights.proofs.count_cell.Statement.{statement}
 use Rattle.weights.proofs.count_cell.Tie as tie

@@ -1,7 +1,7 @@
 -- `weights::count_line` meets its contract: a line that is no protein row adds nothing. Assumes nothing.
 use mathlib.Core.Path.{sym, _∙_}
 use borrow.Author.Needs.{needs}
-use Rattle.text.specs.Bytes.{bytes}
+use Rattle.text_bytes.specs.Bytes.{bytes}
 use Rattle.book.specs.Book.{isSection, mzTab, sectionOf}
 use Rattle.weights.proofs.Laws.Adding.{row-room, row-counted, other-line}
 use Rattle.weights.proofs.count_line.Statement.{statement}

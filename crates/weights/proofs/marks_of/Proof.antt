@@ -4,9 +4,9 @@ use mathlib.Core.Option.{some}
 use Prim.Native.Nat.{_-_, _≤_}
 use borrow.Author.Needs.{needs}
 use lib.ListN.{length}
-use Rattle.text.specs.Bytes.{Bytes}
+use Rattle.text_bytes.specs.Bytes.{Bytes}
+use Rattle.text_bytes.specs.Places.{part, after}
 use Rattle.text.specs.Lines.{LF}
-use Rattle.text.specs.Places.{part, after}
 use Rattle.book.specs.Book.{isSection, mzTab, bookOf}
 use Rattle.rows.specs.Rows.{lineOf, rowOf, textOf}
 use Rattle.rows.proofs.Laws.Rowing.{row-found, row-missing}

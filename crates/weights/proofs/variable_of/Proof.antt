@@ -1,7 +1,7 @@
 -- `weights::variable_of` meets its contract: a column's name is the word and an index, as a reference is. Assumes nothing.
 use native.Mathlib.Omega.{arith}
 use borrow.Author.Needs.{needs}
-use Rattle.text.specs.Bytes.{bytes}
+use Rattle.text_bytes.specs.Bytes.{bytes}
 use Rattle.references.proofs.Laws.Names.{ref-le}
 use Rattle.weights.specs.Weights.{WORD}
 use Rattle.weights.specs.Marks.{variableOf}

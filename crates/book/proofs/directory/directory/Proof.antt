@@ -1,6 +1,6 @@
 -- `book::directory::directory`: the bytes of the code are the directory of the book. Assumes nothing.
 use mathlib.Core.Path.{refl}
-use Rattle.text.specs.Bytes.{bytes}
+use Rattle.text_bytes.specs.Bytes.{bytes}
 use Rattle.book.specs.Keys.{keys}
 use Rattle.book.specs.Columns.{proteinColumns, peptideColumns, psmColumns, moleculeColumns, proteinRequired, peptideRequired, psmRequired, moleculeRequired}
 use Rattle.book.specs.Book.{mzTab}

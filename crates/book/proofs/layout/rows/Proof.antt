@@ -1,6 +1,6 @@
 -- `book::rows`: the rows of the code are the lines of the paper's tables, computed. Assumes nothing.
 use mathlib.Core.Path.{refl}
-use Rattle.text.specs.Bytes.{bytes}
+use Rattle.text_bytes.specs.Bytes.{bytes}
 use Rattle.book.specs.Keys.{keys}
 use Rattle.book.specs.Columns.{proteinColumns, peptideColumns, psmColumns, moleculeColumns}
 use Rattle.book.specs.Book.{mzTab}

@@ -1,6 +1,6 @@
 -- `book::wanted`: the names of the code are the columns that the paper requires, computed. Assumes nothing.
 use mathlib.Core.Path.{refl}
-use Rattle.text.specs.Bytes.{bytes}
+use Rattle.text_bytes.specs.Bytes.{bytes}
 use Rattle.book.specs.Columns.{proteinRequired, peptideRequired, psmRequired, moleculeRequired}
 use Rattle.book.specs.Book.{mzTab}
 use Rattle.book.specs.Text.{tabbed, allWanted}

@@ -3,7 +3,7 @@ use mathlib.Core.Path.{refl, sym, ap}
 use mathlib.Core.Bool.{false}
 use borrow.Author.Needs.{needs}
 use lib.ListN.{length, length-replicate}
-use Rattle.text.proofs.Laws.Tests.{absurd-bool}
+use Rattle.text_bytes.proofs.Laws.Tests.{absurd-bool}
 use Rattle.judging.proofs.Laws.Parting.{midway-start, same-everywhere}
 use Rattle.faults.proofs.Laws.Stepping.{found-none, number-none, number-one, four}
 use Rattle.faults.proofs.steps.begin.Statement.{statement}

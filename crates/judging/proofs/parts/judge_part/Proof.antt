@@ -7,7 +7,7 @@ use native.Mathlib.Omega.{arith}
 use borrow.Author.Needs.{needs}
 use lib.ListN.{length, drop, length-take, length-drop}
 use Rattle.text.specs.Lines.{lines}
-use Rattle.text.proofs.Laws.Tests.{absurd-bool}
+use Rattle.text_bytes.proofs.Laws.Tests.{absurd-bool}
 use Rattle.scan.specs.Machine.{SLOTS}
 use Rattle.rules.specs.Rules.{breaksBy}
 use Rattle.scan.specs.Carried.{Scan, from, last}

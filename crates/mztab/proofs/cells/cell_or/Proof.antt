@@ -1,7 +1,7 @@
 -- `mztab::cells::cell_or` meets its contract: what `cell` shows decides. Assumes nothing.
 use mathlib.Core.Path.{sym, _∙_}
 use borrow.Author.Needs.{needs}
-use Rattle.text.specs.Bytes.{bytes}
+use Rattle.text_bytes.specs.Bytes.{bytes}
 use Rattle.mztab.proofs.Laws.Placing.{or-null, or-kept}
 use Rattle.mztab.proofs.cells.cell_or.Statement.{statement}
 use Rattle.mztab.proofs.cells.cell_or.Tie as tie

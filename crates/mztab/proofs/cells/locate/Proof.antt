@@ -7,11 +7,11 @@ use native.Mathlib.Omega.{arith}
 use borrow.Author.Needs.{needs}
 use borrow.Author.Tests.{not-true, not-false}
 use lib.ListN.{length, drop, length-take, length-drop}
-use Rattle.text.specs.Bytes.{Bytes}
+use Rattle.text_bytes.specs.Bytes.{Bytes}
 use Rattle.book.specs.Book.{isSection, bookOf}
 use Rattle.book.specs.Text.{bookIn}
+use Rattle.text_bytes.specs.Places.{part, after}
 use Rattle.text.specs.Lines.{TAB, LF, lines}
-use Rattle.text.specs.Places.{part, after}
 use Rattle.rows.specs.Rows.{lineOf, rowOf, columnOf}
 use Rattle.rows.proofs.Laws.Rowing.{row-found, row-missing, column-found, column-missing, column-below}
 use Rattle.mztab.proofs.Laws.Placing.{placed-refused, placed-cell, sought-long, sought-nowhere, sought-no-row, sought-no-cell}

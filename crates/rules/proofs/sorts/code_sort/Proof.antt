@@ -2,7 +2,7 @@
 use mathlib.Core.Path.{_≡_, sym, _∙_}
 use mathlib.Core.Bool.{false}
 use borrow.Author.Needs.{needs}
-use Rattle.text.specs.Bytes.{bytes, is}
+use Rattle.text_bytes.specs.Bytes.{bytes, is}
 use Rattle.rules.proofs.Laws.Sorting.{sort-row, sort-header, sort-meta, sort-silent, sort-unknown}
 use Rattle.rules.proofs.sorts.code_sort.Statement.{statement}
 use Rattle.rules.proofs.sorts.code_sort.Tie as tie

@@ -2,7 +2,7 @@
 use mathlib.Core.Path.{sym}
 use borrow.Author.Needs.{needs}
 use lib.Seq.{length-take-le}
-use Rattle.text.proofs.Laws.Pieces.{first-piece}
+use Rattle.text_bytes.proofs.Laws.Pieces.{first-piece}
 use Rattle.text.specs.Lines.{cell}
 use Rattle.rules.specs.Sorts.{sortOf}
 use Rattle.rules.proofs.Laws.Sorting.{empty-nil, empty-some}
