@@ -18,7 +18,8 @@ ghost use Rattle.scan.specs.Places.{lent, Puts};
 ghost use Rattle.book.specs.Text.{bookIn, IsBook};
 ghost use Rattle.ids.specs.Ids.{Flags};
 ghost use Rattle.stamps.specs.Stamps.{ROOM};
-ghost use Rattle.scan.specs.Machine.{SLOTS, idsOf, unknownBreaks};
+ghost use Rattle.book.specs.Book.{SLOTS};
+ghost use Rattle.scan.specs.Machine.{idsOf, unknownBreaks};
 ghost use Rattle.scan.specs.Carried.{lineBreaks, Follows};
 
 // The number of the first cell with a control byte, 0 where there is none.

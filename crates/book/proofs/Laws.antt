@@ -3,4 +3,5 @@ pub mod Columns
 pub mod Apart
 pub mod Sized
 pub mod Directing
+pub mod Starting
 pub mod Laying

@@ -77,6 +77,10 @@ sectionBy b row code = codedFrom row (b .first) (b .sections) code
 
 -- NAMES
 
+-- the slots of the keys end by this, in every book
+abbrev pub SLOTS : ℕ
+SLOTS = 43279
+
 abbrev pub entriesOf : List String → List Entry
 entriesOf lines = map entryOf (map bytes lines)
 

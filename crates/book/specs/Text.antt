@@ -1,4 +1,5 @@
--- A book as the code holds it, in one text: a directory, the lines of all tables as rows of one width, the required columns, and the links of each table.
+-- A book as the code holds it, in one text: a directory, the lines of all tables as rows of one width, the required columns, where the slots of each key
+-- begin, and the links of each table.
 -- No public contract cites this file. Assumes nothing.
 use Prim.Native.Nat.{ℕ, zero, suc, _+_, _*_, _/_, _%_, _≤_, _<_}
 use Prim.Native.String.{String}
@@ -9,10 +10,10 @@ use lib.ListN.{length, getD, drop}
 use Rattle.text_bytes.specs.Bytes.{Bytes, bytes, SPACE}
 use Rattle.text_bytes.specs.Places.{part}
 use Rattle.text.specs.Lines.{TAB, cells}
-use Rattle.names.specs.Names.{Entry}
+use Rattle.names.specs.Names.{Entry, formOf, spread, startOf}
 use Rattle.names.specs.Table.{WIDTH, entries}
 use Rattle.names.specs.Links.{HEADS, Linked}
-use Rattle.book.specs.Book.{Section, section, Book, noSection, codeIn, entriesOf, mzTab}
+use Rattle.book.specs.Book.{Section, section, Book, noSection, codeIn, entriesOf, keyEntries, mzTab}
 
 -- THE DIRECTORY: the number of the first section, how many there are, and an entry for each table, of which table 0 has the keys and table j + 1 the
 -- columns of section j from the first: the codes of its headers and its rows, and where its rows, its required columns and its links begin. One entry more
@@ -45,6 +46,13 @@ wantedOf t k = part (wantedAt t k) (wantedAt t (k + 1)) t
 
 abbrev pub linksOf : Bytes → ℕ → Bytes
 linksOf t k = part (linksAt t k) (linksAt t (k + 1)) t
+
+-- where the slots of the keys begin: a number for each, and one more, behind the last required columns
+abbrev pub startsAt : Bytes → ℕ
+startsAt t = wantedAt t (getD t 1 0 + 1)
+
+abbrev pub startAt : Bytes → ℕ → ℕ
+startAt t e = numberAt t (startsAt t + 2 * e)
 
 -- where the line code of its rows, or of its headers, stands in the entry of section j
 abbrev pub codeAt : Bool → ℕ → ℕ
@@ -79,12 +87,18 @@ pub record Wants (t : Bytes) (k : ℕ) (names : List String) : Type 0 where
   pub ends : wantedAt t (k + 1) ≤ length t
   pub wanted : cells (wantedOf t k) ≡ map bytes names
 
+-- the slots of the keys begin where these entries say
+pub record Starts (t : Bytes) (es : List Entry) : Type 0 where
+  pub ends : startsAt t + 2 * (length es + 1) ≤ length t
+  pub starts : (e : ℕ) → e ≤ length es → startAt t e ≡ startOf es e
+
 -- a text holds a book
 pub record IsText (b : Book) (t : Bytes) : Type 0 where
   pub directory : IsDirectory b t
   pub keys : Holds t 0 (b .keys)
   pub columns : (j : ℕ) → j < length (b .sections) → Holds t (j + 1) ((getD (b .sections) j noSection) .columns)
   pub wanted : (j : ℕ) → j < length (b .sections) → Wants t (j + 1) ((getD (b .sections) j noSection) .required)
+  pub slots : Starts t (keyEntries b)
 
 -- the book that a text says it holds, and that it does
 unfoldable pub bookIn : Bytes → Book
@@ -131,6 +145,14 @@ allWanted (s ∷ ss) = tabbed (s .required) ++ allWanted ss
 abbrev pub two : ℕ → Bytes
 two n = n % 256 ∷ n / 256 ∷ []
 
+-- where the names of these entries begin, the first at n, and where they end
+unfoldable pub startsFrom : ℕ → List Entry → Bytes
+startsFrom n [] = two n
+startsFrom n (x ∷ es) = two n ++ startsFrom (n + spread (formOf x)) es
+
+abbrev pub allStarts : Book → Bytes
+allStarts b = startsFrom 0 (keyEntries b)
+
 -- the entries of these tables, whose rows, required columns and links begin at these places, and the places where they end
 unfoldable pub entriesFrom : ℕ → ℕ → ℕ → List Section → Bytes
 entriesFrom r w l [] = bytes "      " ++ (two r ++ (two w ++ two l))
@@ -142,7 +164,7 @@ entriesFrom r w l (s ∷ ss) =
 unfoldable pub directoryOf : Book → ℕ → ℕ → ℕ → Bytes
 directoryOf b r w l = b .first ∷ length (b .sections) ∷ entriesFrom r w l (tablesOf b)
 
--- THE TEXT of the one book: where its directory, its rows, its required columns and its links end
+-- THE TEXT of the one book: where its directory, its rows, its required columns, its starts and its links end
 abbrev pub DIRECTORY : ℕ
 DIRECTORY = 74
 
@@ -152,12 +174,15 @@ ROWS = 8012
 abbrev pub WANTED : ℕ
 WANTED = 8157
 
+abbrev pub STARTS : ℕ
+STARTS = 8281
+
 abbrev pub LINKS : ℕ
-LINKS = 9584
+LINKS = 9708
 
 unfoldable pub directoryText : Bytes
-directoryText = directoryOf mzTab DIRECTORY ROWS WANTED
+directoryText = directoryOf mzTab DIRECTORY ROWS STARTS
 
 -- all that stands in front of the links
 unfoldable pub laidOut : Bytes
-laidOut = directoryText ++ (allRows (tablesOf mzTab) ++ allWanted (tablesOf mzTab))
+laidOut = directoryText ++ (allRows (tablesOf mzTab) ++ (allWanted (tablesOf mzTab) ++ allStarts mzTab))

@@ -1,4 +1,4 @@
-// A book laid out in one text: a directory, the rows of all tables, the required columns, and the links of each table.
+// A book laid out in one text: a directory, the rows of all tables, the required columns, where the slots of the keys begin, and the links of each table.
 use crate::directory::directory;
 use crate::directory::links_at;
 use crate::directory::rows_at;
@@ -8,16 +8,16 @@ ghost use mathlib.Core.List.{_++_};
 ghost use Prim.Native.Nat.{_+_, _≤_};
 ghost use lib.ListN.{length, take};
 ghost use Rattle.book.specs.Book.{mzTab};
-ghost use Rattle.book.specs.Text.{WANTED as front-end, LINKS as all-end, tablesOf, allRows, allWanted, IsBook, laidOut};
+ghost use Rattle.book.specs.Text.{STARTS as front-end, LINKS as all-end, tablesOf, allRows, allWanted, allStarts, IsBook, laidOut};
 
-// Where the directory, the rows, the required columns and the links end.
+// Where the directory, the rows, the required columns, the starts of the keys' slots and the links end.
 const DIRECTORY: usize = 74;
 
 const ROWS: usize = 8012;
 
 const WANTED: usize = 8157;
 
-const LINKS: usize = 9584;
+const LINKS: usize = 9708;
 
 // How many tables there are: the keys, and the columns of each section.
 const TABLES: usize = 5;
@@ -53,7 +53,7 @@ fn link_tables(text: &mut [u8], front: &[u8])
 }
 
 // The whole book. A caller holds it and lends it to the look-ups.
-pub fn book() -> [u8; 9584]
+pub fn book() -> [u8; LINKS]
     ensures { λ r. ⌜ IsBook r ⌝ }
 {
     let mut text = [0u8; LINKS];
@@ -63,6 +63,8 @@ pub fn book() -> [u8; 9584]
     lay(&mut text, DIRECTORY, &rows);
     let wanted = wanted();
     lay(&mut text, ROWS, &wanted);
+    let starts = starts();
+    lay(&mut text, WANTED, &starts);
     let front = text;
     link_tables(&mut text, &front);
     text
@@ -84,6 +86,21 @@ fn wanted() -> [u8; 145]
     sequence\taccession\tcharge\tmass_to_charge\
     sequence\tPSM_ID\taccession\tcharge\tspectra_ref\
     identifier\tcharge"
+}
+
+// Where the slots of each key begin, and where those of the last end: each key has as many as its indices give names, 1, 64 or 4,096.
+fn starts() -> [u8; 124]
+    ensures { λ r. ⌜ r ≡ allStarts mzTab ⌝ }
+{
+    *b"\
+    \x00\x00\x01\x00\x02\x00\x03\x00\x04\x00\x05\x00\x06\x00\x06\x10\
+    \x46\x10\x86\x10\xc6\x10\x06\x11\x46\x11\x86\x11\xc6\x11\x06\x12\
+    \x46\x12\x86\x12\xc6\x12\xc6\x22\xc6\x32\x06\x33\x46\x33\x86\x33\
+    \xc6\x33\x06\x34\x07\x34\x08\x34\x09\x34\x0a\x34\x4a\x34\x8a\x34\
+    \x8a\x44\xca\x44\x0a\x45\x4a\x45\x8a\x45\xca\x45\x0a\x46\x4a\x46\
+    \x8a\x46\x8b\x46\x8c\x46\x8d\x46\x8e\x46\xce\x46\x0e\x47\x4e\x47\
+    \x8e\x47\x8e\x57\x8e\x67\x8e\x77\x8e\x87\x8e\x97\xce\x97\xce\xa7\
+    \x0e\xa8\x0f\xa8\x4f\xa8\x8f\xa8\xcf\xa8\x0f\xa9"
 }
 
 // The 61 metadata keys, then the columns of the sections: 22, 20, 20 and 24.

@@ -12,12 +12,11 @@ use Rattle.text.specs.Lines.{LIMIT, lines}
 use Rattle.ids.specs.Ids.{Declared}
 use Rattle.rules.specs.Breaks.{Break}
 use Rattle.rules.specs.Rules.{breaks}
-use Rattle.scan.specs.Machine.{SLOTS}
 use Rattle.judging.specs.Parts.{total, Midway}
 use Rattle.faults.specs.declared.Fault.{Fault}
 use Rattle.faults.specs.declared.steps.Progress.{Progress}
 use Rattle.faults.specs.Records.{faultOf}
-use Rattle.book.specs.Book.{bookOf}
+use Rattle.book.specs.Book.{SLOTS, bookOf}
 
 -- the places of a part: 4,096 breaks
 abbrev pub ROOM : ℕ

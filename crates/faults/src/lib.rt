@@ -1,6 +1,7 @@
 // The judging call over a lent list of records.
 mod steps;
 
+use book::slots::SLOTS;
 use steps::begin;
 use steps::next;
 ghost use mathlib.Core.Path.{_≡_};
@@ -50,7 +51,7 @@ fn copy_out(places: &[u32], faults: &mut [Fault], at: usize, n: usize)
 pub fn judge(file: &[u8], faults: &mut [Fault], number: &mut u32) -> u32
     ensures { λ r. ⌜ outcome (now (number .exit)) r (now (faults .exit)) ≡ judged (now (file .entry)) (now (faults .entry)) ⌝ }
 {
-    let mut slots = [false; 257725];
+    let mut slots = [false; SLOTS];
     let mut places = [0u32; 12288];
     let mut s = begin(file, faults.len());
     while s.more {

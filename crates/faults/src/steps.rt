@@ -1,5 +1,6 @@
 // The steps from part to part: each judges as many lines as a part has room for.
 use book::layout::book;
+use book::slots::SLOTS;
 use ids::declared_ids;
 use judging::parts::Stand;
 use judging::parts::beginning;
@@ -10,7 +11,7 @@ ghost use mathlib.Core.Path.{_≡_};
 ghost use mathlib.Core.Bool.{true, false};
 ghost use Prim.Native.Nat.{min};
 ghost use lib.ListN.{length, replicate};
-ghost use Rattle.scan.specs.Machine.{SLOTS};
+ghost use Rattle.book.specs.Book.{SLOTS as all-slots};
 ghost use Rattle.faults.specs.Steps.{ROOM, Good, Moves};
 
 // The breaks that a part holds before its last line: with that line's and those at the end they are at most 4,096.
@@ -36,7 +37,7 @@ pub struct Progress {
 
 // Before the first line; nothing is to judge of a file over the limit.
 pub fn begin(file: &[u8], cap: usize) -> Progress
-    ensures { λ r. ⌜ Good (now (file .entry)) r (replicate SLOTS false) ⌝ }
+    ensures { λ r. ⌜ Good (now (file .entry)) r (replicate all-slots false) ⌝ }
     ensures { λ r. ⌜ (r .cap ≡ cap) × (r .count ≡ 0) ⌝ }
 {
     let stand = beginning();
@@ -86,7 +87,7 @@ fn least(a: usize, b: usize) -> usize
 pub fn next(
     file: &[u8],
     s: Progress,
-    slots: &mut [bool; 257725],
+    slots: &mut [bool; SLOTS],
     places: &mut [u32; 12288],
 ) -> Progress
     requires { ⌜ Good (now file) s (now slots) ⌝ }

@@ -11,7 +11,7 @@ ghost use lib.ListN.{length};
 ghost use Rattle.text.specs.Lines.{LIMIT};
 ghost use Rattle.book.specs.Text.{bookIn, IsBook};
 ghost use Rattle.ids.specs.Ids.{Declared};
-ghost use Rattle.scan.specs.Machine.{SLOTS};
+ghost use Rattle.book.specs.Book.{SLOTS};
 ghost use Rattle.stamps.specs.Stamps.{ROOM};
 ghost use Rattle.judging.specs.Parts.{beginning as first, Midway, Parts};
 
@@ -100,7 +100,7 @@ pub fn judge_part(
         state = step.state;
         at = line.next;
     }
-    let held = judge_end(places, k, n + 1, slots);
+    let held = judge_end(places, k, book, n + 1, slots);
     Stand {
         more: false,
         at,

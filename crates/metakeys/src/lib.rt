@@ -1,20 +1,19 @@
 // A metadata key, as the book finds it: what it and its value break, and its slot among the keys that came before.
 use book::is_colunit;
+use book::slots::start_of;
 use metavalues::judge_value;
 use names::Found;
+use references::INDICES;
 use scan::places::both;
 ghost use mathlib.Core.Path.{_≡_};
-ghost use Prim.Native.Nat.{_<_};
+ghost use Prim.Native.Nat.{_-_, _≤_, _<_};
 ghost use lib.ListN.{length};
 ghost use Rattle.ids.specs.Ids.{Flags};
-ghost use Rattle.names.specs.Names.{slotOf};
-ghost use Rattle.scan.specs.Machine.{idsOf, SLOTS};
+ghost use Rattle.names.specs.Names.{among, slotOf};
+ghost use Rattle.book.specs.Book.{SLOTS, keyEntries};
+ghost use Rattle.book.specs.Text.{bookIn, IsBook};
+ghost use Rattle.scan.specs.Machine.{idsOf};
 ghost use Rattle.metakeys.specs.Keys.{Judged, InSlots, marked};
-
-// How many slots each entry of the book has, and each first index: one for each second index, 0 to 64.
-const ENTRY_SLOTS: usize = 4225;
-
-const INDEX_SLOTS: usize = 65;
 
 // Of a key: whether the book has it, and whether it came before where it may not. Of a known key's value: whether it is not of its kind, and whether it names
 // an undeclared id.
@@ -25,26 +24,50 @@ pub struct Judgement {
     pub undeclared: bool,
 }
 
-// The slot of a known key.
-fn slot_of(entry: usize, i: usize, j: usize) -> usize
-    requires { ⌜ slotOf entry i j < SLOTS ⌝ }
-    ensures { λ r. ⌜ r ≡ slotOf entry i j ⌝ }
+// An index counted from 0; 0 for none too.
+fn from_zero(i: usize) -> usize
+    ensures { λ r. ⌜ r ≡ i - 1 ⌝ }
 {
-    entry * ENTRY_SLOTS + i * INDEX_SLOTS + j
+    if i == 0 { 0 } else { i - 1 }
+}
+
+// Which of its pattern's names has these indices, 0 for none.
+fn place_among(i: usize, j: usize) -> usize
+    requires { ⌜ among i j < SLOTS ⌝ }
+    ensures { λ r. ⌜ r ≡ among i j ⌝ }
+{
+    let first = from_zero(i);
+    if j == 0 {
+        return first;
+    }
+    first * INDICES + (j - 1)
+}
+
+// The slot of a known key.
+fn slot_of(book: &[u8], entry: usize, i: usize, j: usize) -> usize
+    requires { ⌜ IsBook (now book) ⌝ }
+    requires { ⌜ entry ≤ length (keyEntries (bookIn (now book))) ⌝ }
+    requires { ⌜ slotOf (keyEntries (bookIn (now book))) entry i j < SLOTS ⌝ }
+    ensures { λ r. ⌜ r ≡ slotOf (keyEntries (bookIn (now (book .entry)))) entry i j ⌝ }
+{
+    let start = start_of(book, entry);
+    start + place_among(i, j)
 }
 
 // The judgement of a key that the book answers so, and of its value. An unknown key stops all else; a `colunit` one may come again.
 pub fn judge_key(
+    book: &[u8],
     found: Found,
     key: &[u8],
     value: &[u8],
     flags: &[[bool; 64]; 4],
     slots: &[bool],
 ) -> Judgement
-    requires { ⌜ InSlots found ⌝ }
+    requires { ⌜ IsBook (now book) ⌝ }
+    requires { ⌜ InSlots (bookIn (now book)) found ⌝ }
     requires { ⌜ Flags (now flags) ⌝ }
     requires { ⌜ length (now slots) ≡ SLOTS ⌝ }
-    ensures { λ r. ⌜ Judged (now (slots .entry)) (idsOf (now (flags .entry))) found (now (key .entry)) (now (value .entry)) r ⌝ }
+    ensures { λ r. ⌜ Judged (bookIn (now (book .entry))) (now (slots .entry)) (idsOf (now (flags .entry))) found (now (key .entry)) (now (value .entry)) r ⌝ }
 {
     match found {
         Found::Unknown => Judgement {
@@ -60,7 +83,7 @@ pub fn judge_key(
             i,
             j,
         } => {
-            let slot = slot_of(entry, i, j);
+            let slot = slot_of(book, entry, i, j);
             let colunit = is_colunit(key);
             let again = both(!colunit, slots[slot]);
             let judged = judge_value(flags, kind, family, value);
@@ -75,10 +98,11 @@ pub fn judge_key(
 }
 
 // Sets the slot of a known key.
-pub fn mark(slots: &mut [bool], found: Found)
-    requires { ⌜ InSlots found ⌝ }
+pub fn mark(slots: &mut [bool], book: &[u8], found: Found)
+    requires { ⌜ IsBook (now book) ⌝ }
+    requires { ⌜ InSlots (bookIn (now book)) found ⌝ }
     requires { ⌜ length (now slots) ≡ SLOTS ⌝ }
-    ensures { λ _. ⌜ now (slots .exit) ≡ marked (now (slots .entry)) found ⌝ }
+    ensures { λ _. ⌜ now (slots .exit) ≡ marked (bookIn (now (book .entry))) (now (slots .entry)) found ⌝ }
 {
     match found {
         Found::Unknown => {}
@@ -88,6 +112,6 @@ pub fn mark(slots: &mut [bool], found: Found)
             family: _,
             i,
             j,
-        } => slots[slot_of(entry, i, j)] = true,
+        } => slots[slot_of(book, entry, i, j)] = true,
     }
 }

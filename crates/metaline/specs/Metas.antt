@@ -5,8 +5,8 @@ use mathlib.Core.Bool.{Bool, false, _||_}
 use mathlib.Core.List.{List}
 use lib.ListN.{length, getD}
 use Rattle.text_bytes.specs.Bytes.{Bytes}
-use Rattle.scan.specs.Machine.{SLOTS, hasSlot}
-use Rattle.book.specs.Book.{Book}
+use Rattle.scan.specs.Machine.{hasSlot}
+use Rattle.book.specs.Book.{SLOTS, Book}
 
 -- the slots after a line say which keys came before, the line's own too
 pub record Keeps (b : Book) (l : Bytes) (slots slots' : List Bool) : Type 0 where

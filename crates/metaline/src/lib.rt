@@ -11,12 +11,12 @@ ghost use mathlib.Core.List.{[]};
 ghost use Prim.Native.Nat.{_≤_};
 ghost use lib.ListN.{length, getD, drop};
 ghost use Rattle.text.specs.Lines.{cells, isMeta};
-ghost use Rattle.book.specs.Book.{keyOf};
+ghost use Rattle.book.specs.Book.{SLOTS, keyOf};
 ghost use Rattle.ids.specs.Ids.{Flags};
 ghost use Rattle.book.specs.Text.{bookIn, IsBook};
 ghost use Rattle.rules.specs.Breaks.{breakAt, when};
 ghost use Rattle.scan.specs.Places.{lent, Puts};
-ghost use Rattle.scan.specs.Machine.{controlAt, eachCell, metaCell, metaBreaks, idsOf, SLOTS};
+ghost use Rattle.scan.specs.Machine.{controlAt, eachCell, metaCell, metaBreaks, idsOf};
 ghost use Rattle.metakeys.specs.Keys.{marked};
 ghost use Rattle.metaline.specs.Metas.{Keeps};
 
@@ -74,15 +74,15 @@ fn judge_three(
     requires { ⌜ length (cells (now line)) ≡ 3 ⌝ }
     requires { ⌜ count ≤ 4000000000 ⌝ }
     ensures { λ r. ⌜ Puts (eachCell (metaCell (bookIn (now (book .entry))) (now (slots .entry)) (idsOf (now (flags .entry))) (getD (cells (now (line .entry))) 1 []) (getD (cells (now (line .entry))) 2 []) control «line_no») 2 (drop 1 (cells (now (line .entry))))) 6 (lent (now (places .entry)) count) (lent (now (places .exit)) r) ⌝ }
-    ensures { λ r. ⌜ now (slots .exit) ≡ marked (now (slots .entry)) (keyOf (bookIn (now (book .entry))) (getD (cells (now (line .entry))) 1 [])) ⌝ }
+    ensures { λ r. ⌜ now (slots .exit) ≡ marked (bookIn (now (book .entry))) (now (slots .entry)) (keyOf (bookIn (now (book .entry))) (getD (cells (now (line .entry))) 1 [])) ⌝ }
 {
     let e = cell_end(line, 0);
     let a = e + 1;
     let f = cell_end(line, a);
     let b = f + 1;
     let found = key(book, &line[a..f]);
-    let judged = judge_key(found, &line[a..f], &line[b..], flags, slots);
-    mark(slots, found);
+    let judged = judge_key(book, found, &line[a..f], &line[b..], flags, slots);
+    mark(slots, book, found);
     let k1 = put_key(places, count, line_no, control, judged.known, judged.again);
     put_value(
         places,

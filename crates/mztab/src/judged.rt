@@ -1,5 +1,6 @@
 // The judging call over plain places.
 use book::layout::book;
+use book::slots::SLOTS;
 use ids::declared_ids;
 use judging::parts::beginning;
 use judging::parts::judge_part;
@@ -24,7 +25,7 @@ pub fn judge_places(file: &[u8], places: &mut [u32], number: &mut u32) -> u32
     let rows = book();
     let flags = declared_ids(&rows, file);
     let mut kinds = [0u8; 256];
-    let mut slots = [false; 257725];
+    let mut slots = [false; SLOTS];
     let mut stamps = [0u32; stamps::ROOM];
     let whole = judge_part(
         places,

@@ -5,7 +5,7 @@ use mathlib.Core.List.{List, [], _∷_, _++_}
 use lib.Dec.{eqb}
 use lib.ListN.{getD, drop}
 use Rattle.text_bytes.specs.Bytes.{Bytes, SPACE}
-use Rattle.references.specs.Index.{written, indexAt}
+use Rattle.references.specs.Index.{MOST, written, indexAt}
 use Rattle.references.specs.declared.index.Index.{Index}
 use Rattle.references.specs.declared.index.Index.the-variants.{Not, Is}
 use Rattle.names.specs.declared.Match.{Match}
@@ -104,6 +104,24 @@ mayFit q x y = eqb q y || (eqb q OPEN || (eqb q SPACE || (eqb x OPEN || eqb x SP
 unfoldable pub mayEnd : Bytes → ℕ → ℕ → Bool
 mayEnd row q z = eqb (getD row q 0) SPACE && (eqb (getD row (q - 1) 0) z || (eqb z CLOSE && eqb (getD row (q - 3) 0) OPEN))
 
+-- SLOTS: the known names of a table are numbered without a gap, entry by entry
+
+-- how many names a pattern stands for: one for each index at each of its places
+unfoldable pub spread : List Piece → ℕ
+spread [] = 1
+spread (byte p ∷ ps) = spread ps
+spread (place ∷ ps) = MOST * spread ps
+
+-- where the names of entry e begin: those of the entries before it come first
+unfoldable pub startOf : List Entry → ℕ → ℕ
+startOf es zero = 0
+startOf [] (suc e) = 0
+startOf (x ∷ es) (suc e) = spread (formOf x) + startOf es e
+
+-- which of its pattern's names has these indices, 0 for none
+abbrev pub among : ℕ → ℕ → ℕ
+among i j = cond (eqb j 0) (i - 1) ((i - 1) * MOST + (j - 1))
+
 -- a number for each known name of a table
-abbrev pub slotOf : ℕ → ℕ → ℕ → ℕ
-slotOf e i j = e * 4225 + i * 65 + j
+abbrev pub slotOf : List Entry → ℕ → ℕ → ℕ → ℕ
+slotOf es e i j = startOf es e + among i j

@@ -7,11 +7,11 @@ use lib.ListN.{length, getD, set, take, drop}
 use lib.Dec.{ltb}
 use Rattle.text_bytes.specs.Bytes.{Bytes, any}
 use Rattle.text.specs.Lines.{cells, lines, width}
-use Rattle.book.specs.Book.{SECTIONS, Book}
+use Rattle.book.specs.Book.{SECTIONS, SLOTS, Book}
 use Rattle.rules.specs.Sorts.{sortOf, header, isTable, controlCell}
 use Rattle.rules.specs.Breaks.{Break, spotAt, each, atLine, atEnd}
 use Rattle.rules.specs.Rules.{ofSection, ofLater, nearer, nearest, rules, endRules, ends}
-use Rattle.scan.specs.Machine.{Ids, metaBreaks, headBreaks, rowBreaks, unknownBreaks, SLOTS, hasSlot, Slots, Kinds}
+use Rattle.scan.specs.Machine.{Ids, metaBreaks, headBreaks, rowBreaks, unknownBreaks, hasSlot, Slots, Kinds}
 use Rattle.scan.specs.declared.state.State.{State}
 use Rattle.rules.specs.declared.sorts.Sort.{Sort}
 use Rattle.rules.specs.declared.sorts.Sort.the-variants.{Silent, Unknown, Meta, Header, Row}

@@ -9,7 +9,7 @@ use lib.Dec.{eqb, leb, ltb}
 use Rattle.text_bytes.specs.Bytes.{Bytes, same, isEmpty, any}
 use Rattle.book.specs.Letters.{NONE}
 use Rattle.book.specs.Keys.{isColunit}
-use Rattle.book.specs.Book.{Book, keyOf, isOpt, columnOf}
+use Rattle.book.specs.Book.{SLOTS, Book, keyOf, keyEntries, isOpt, columnOf}
 use Rattle.names.specs.Names.{slotOf, isKnown}
 use Rattle.ids.specs.Ids.{declares}
 use Rattle.kinds.specs.Kinds.{ofKind, cellOfKind, familyNumber}
@@ -47,9 +47,9 @@ idsOf flags f i = getD (getD flags f []) (i - 1) false
 
 -- METADATA LINES, by the slots of the keys that came before
 
-abbrev pub againIn : List Bool → Bytes → Found → Bool
-againIn slots key Unknown = false
-againIn slots key (Known e k f i j) = not (isColunit key) && getD slots (slotOf e i j) false
+abbrev pub againIn : Book → List Bool → Bytes → Found → Bool
+againIn b slots key Unknown = false
+againIn b slots key (Known e k f i j) = not (isColunit key) && getD slots (slotOf (keyEntries b) e i j) false
 
 abbrev pub undeclaredIn : Ids → Found → Bytes → Bool
 undeclaredIn ids Unknown v = false
@@ -60,7 +60,7 @@ abbrev pub metaCell : Book → List Bool → Ids → Bytes → Bytes → ℕ →
 metaCell b slots ids key value cc n c x rest =
     controlAt cc n c
     (when (eqb c 2 && not (isKnown (keyOf b key))) (breakAt n c 5)
-    (when (eqb c 2 && againIn slots key (keyOf b key)) (breakAt n c 6)
+    (when (eqb c 2 && againIn b slots key (keyOf b key)) (breakAt n c 6)
     (when (eqb c 3 && isWrong (keyOf b key) value) (breakAt n c 7)
     (when (eqb c 3 && undeclaredIn ids (keyOf b key) value) (breakAt n c 8) rest))))
 
@@ -149,17 +149,14 @@ unknownBreaks cc n rest = controlAt cc n 1 (when true (breakAt n 1 2) (plainRest
 
 -- WHAT IS CARRIED MEANS
 
--- the number of slots: one for each entry of the keys and each two indices, 0 to 64
-abbrev pub SLOTS : ℕ
-SLOTS = 257725
-
-abbrev pub isSlot : ℕ → Found → Bool
-isSlot s Unknown = false
-isSlot s (Known e k f i j) = eqb (slotOf e i j) s
+-- the slot of a known key is this one
+abbrev pub isSlot : Book → ℕ → Found → Bool
+isSlot b s Unknown = false
+isSlot b s (Known e k f i j) = eqb (slotOf (keyEntries b) e i j) s
 
 -- an MTD line of three cells whose key has this slot
 unfoldable pub hasSlot : Book → ℕ → Bytes → Bool
-hasSlot b s m = isField m && isSlot s (keyFound b m)
+hasSlot b s m = isField m && isSlot b s (keyFound b m)
 
 -- the slots say which keys came before
 abbrev pub Slots : Book → List Bytes → List Bool → Type 0
@@ -177,19 +174,19 @@ upFrom zero k = []
 upFrom (suc n) k = k ∷ upFrom n (suc k)
 
 -- the entries of mzTab-version, mzTab-mode, mzTab-type, description and ms_run[n]-location in the table of keys
-abbrev pub hasEntry : List Bool → ℕ → Bool
-hasEntry slots e = getD slots (slotOf e 0 0) false
+abbrev pub hasEntry : Book → List Bool → ℕ → Bool
+hasEntry b slots e = getD slots (slotOf (keyEntries b) e 0 0) false
 
-abbrev pub hasRun : List Bool → Bool
-hasRun slots = any (λ i. getD slots (slotOf 16 i 0) false) (upFrom 64 1)
+abbrev pub hasRun : Book → List Bool → Bool
+hasRun b slots = any (λ i. getD slots (slotOf (keyEntries b) 16 i 0) false) (upFrom 64 1)
 
 -- rule 21, at line n: the first three of the five
-abbrev pub firstEnds : List Bool → ℕ → List Break → List Break
-firstEnds slots n rest =
-    when (not (hasEntry slots 0)) (breakAt n 1 21)
-    (when (not (hasEntry slots 1)) (breakAt n 2 21)
-    (when (not (hasEntry slots 2)) (breakAt n 3 21) rest))
+abbrev pub firstEnds : Book → List Bool → ℕ → List Break → List Break
+firstEnds b slots n rest =
+    when (not (hasEntry b slots 0)) (breakAt n 1 21)
+    (when (not (hasEntry b slots 1)) (breakAt n 2 21)
+    (when (not (hasEntry b slots 2)) (breakAt n 3 21) rest))
 
 -- and all
-unfoldable pub endBreaks : List Bool → ℕ → List Break → List Break
-endBreaks slots n rest = firstEnds slots n (when (not (hasEntry slots 5)) (breakAt n 4 21) (when (not (hasRun slots)) (breakAt n 5 21) rest))
+unfoldable pub endBreaks : Book → List Bool → ℕ → List Break → List Break
+endBreaks b slots n rest = firstEnds b slots n (when (not (hasEntry b slots 5)) (breakAt n 4 21) (when (not (hasRun b slots)) (breakAt n 5 21) rest))

@@ -11,13 +11,13 @@ use Rattle.text.specs.Lines.{cells, width, isField}
 use Rattle.rules.specs.Sorts.{sortOf, headerIn, controlCell}
 use Rattle.scan.specs.Places.{Lent, Puts}
 use Rattle.rules.specs.Rules.{names}
-use Rattle.scan.specs.Machine.{Ids, hasSlot, SLOTS, KindsOf}
+use Rattle.scan.specs.Machine.{Ids, hasSlot, KindsOf}
 use Rattle.scan.specs.Carried.{sortState, sortBreaks, lineBreaks, Follows}
 use Rattle.scan.specs.declared.state.State.{State}
 use Rattle.rules.specs.declared.sorts.Sort.{Sort}
 use Rattle.rules.specs.declared.sorts.Sort.the-variants.{Meta, Header}
 use Rattle.rules.proofs.Laws.Sorting.{metaIn, meta-sort, header-section}
-use Rattle.book.specs.Book.{Book}
+use Rattle.book.specs.Book.{SLOTS, Book}
 use Rattle.book.proofs.Laws.Sized.{Sized}
 
 module _ (book : Book) (ids : Ids) (s : State) (kinds : List ℕ) (slots : List Bool) (n : ℕ) (l : Bytes) (σ : Sort) (e : sortOf book l ≡ σ) where

@@ -15,14 +15,15 @@ use Rattle.text_bytes.specs.Bytes.{Bytes, bytes, splitOn, onFirst}
 use Rattle.text_bytes.specs.Places.{part}
 use Rattle.text.specs.Lines.{cells}
 use Rattle.text_bytes.proofs.Laws.Parts.{drop-take}
-use Rattle.names.specs.Names.{entryOf, piecesFrom}
+use Rattle.names.specs.Names.{entryOf, piecesFrom, startOf}
 use Rattle.names.specs.Table.{cut, rows, entries}
 use Rattle.names.specs.Links.{Linked, Links}
 use Rattle.names.proofs.Laws.Linking.{entry-count, linked-part}
 use Rattle.book.specs.Keys.{keys}
 use Rattle.book.specs.Columns.{proteinColumns, peptideColumns, psmColumns, moleculeColumns, proteinRequired, peptideRequired, psmRequired, moleculeRequired}
-use Rattle.book.specs.Book.{Section, noSection, codeIn, entriesOf, mzTab}
-use Rattle.book.specs.Text.{WANTED, LINKS, numberAt, rowsAt, wantedAt, linksAt, rowsOf, wantedOf, codeAt, IsDirectory, Holds, Wants, bookIn, IsBook, padded, laid, tabbed, tablesOf, allRows, allWanted, entriesFrom, directoryOf, directoryText, laidOut}
+use Rattle.book.specs.Book.{Section, noSection, codeIn, entriesOf, keyEntries, mzTab}
+use Rattle.book.specs.Text.{DIRECTORY, ROWS, WANTED, STARTS, LINKS, numberAt, rowsAt, wantedAt, linksAt, rowsOf, wantedOf, startsAt, codeAt, IsDirectory, Holds, Wants, Starts, bookIn, IsBook, padded, laid, tabbed, tablesOf, allRows, allWanted, allStarts, entriesFrom, directoryOf, directoryText, laidOut}
+use Rattle.book.proofs.Laws.Starting.{number-behind, starts-read, starts-length}
 
 -- LAYING: s follows p in b. Nothing is copied, one byte more is, and all are
 pub copied-none : (b s : Bytes) (at : ℕ) → take (at + 0) b ≡ take at b ++ take 0 s
@@ -56,18 +57,18 @@ tableOf k = getD (tablesOf mzTab) k noSection
 record Table (k : ℕ) : Type 0 where
   lines : entries (rowsOf laidOut k) ≡ entriesOf ((tableOf k) .columns)
   rows-start : rowsAt laidOut k ≤ rowsAt laidOut (k + 1)
-  rows-end : rowsAt laidOut (k + 1) ≤ WANTED
+  rows-end : rowsAt laidOut (k + 1) ≤ STARTS
   few : (rowsAt laidOut (k + 1) - rowsAt laidOut k) / 54 < 256
-  behind : WANTED ≤ linksAt laidOut k
+  behind : STARTS ≤ linksAt laidOut k
   room : linksAt laidOut k + 256 + (rowsAt laidOut (k + 1) - rowsAt laidOut k) / 54 ≤ linksAt laidOut (k + 1)
   links-end : linksAt laidOut (k + 1) ≤ LINKS
   wanted-start : wantedAt laidOut k ≤ wantedAt laidOut (k + 1)
-  wanted-end : wantedAt laidOut (k + 1) ≤ WANTED
+  wanted-end : wantedAt laidOut (k + 1) ≤ STARTS
 
-tested : (k : ℕ) → entries (rowsOf laidOut k) ≡ entriesOf ((tableOf k) .columns) → leb (rowsAt laidOut k) (rowsAt laidOut (k + 1)) ≡ true → leb (rowsAt laidOut (k + 1)) WANTED ≡ true
-    → ltb ((rowsAt laidOut (k + 1) - rowsAt laidOut k) / 54) 256 ≡ true → leb WANTED (linksAt laidOut k) ≡ true
+tested : (k : ℕ) → entries (rowsOf laidOut k) ≡ entriesOf ((tableOf k) .columns) → leb (rowsAt laidOut k) (rowsAt laidOut (k + 1)) ≡ true → leb (rowsAt laidOut (k + 1)) STARTS ≡ true
+    → ltb ((rowsAt laidOut (k + 1) - rowsAt laidOut k) / 54) 256 ≡ true → leb STARTS (linksAt laidOut k) ≡ true
     → leb (linksAt laidOut k + 256 + (rowsAt laidOut (k + 1) - rowsAt laidOut k) / 54) (linksAt laidOut (k + 1)) ≡ true → leb (linksAt laidOut (k + 1)) LINKS ≡ true
-    → leb (wantedAt laidOut k) (wantedAt laidOut (k + 1)) ≡ true → leb (wantedAt laidOut (k + 1)) WANTED ≡ true → Table k
+    → leb (wantedAt laidOut k) (wantedAt laidOut (k + 1)) ≡ true → leb (wantedAt laidOut (k + 1)) STARTS ≡ true → Table k
 tested k l a b c d e f g h =
     record {
       lines = l;
@@ -96,51 +97,94 @@ required : (j : ℕ) → j < 4 → cells (wantedOf laidOut (suc j)) ≡ map byte
 unfolding mzTab laidOut directoryText directoryOf entriesFrom allRows allWanted laid padded tabbed bytes keys proteinColumns peptideColumns psmColumns moleculeColumns proteinRequired peptideRequired psmRequired moleculeRequired splitOn onFirst
 required = four (λ j. cells (wantedOf laidOut (suc j)) ≡ map bytes ((getD (mzTab .sections) j noSection) .required)) refl refl refl refl
 
-directory : IsDirectory mzTab laidOut
-unfolding mzTab laidOut directoryText directoryOf entriesFrom allRows allWanted laid padded tabbed bytes keys proteinColumns peptideColumns psmColumns moleculeColumns proteinRequired peptideRequired psmRequired moleculeRequired
-directory = record { first = refl; count = refl; size = leb-true _ _ refl; codes = code }
-  where
-    code : (row : Bool) (j : ℕ) → j < 4 → part (codeAt row j) (codeAt row j + 3) laidOut ≡ bytes (codeIn row (getD (mzTab .sections) j noSection))
-    code true = four (λ j. part (codeAt true j) (codeAt true j + 3) laidOut ≡ bytes (codeIn true (getD (mzTab .sections) j noSection))) refl refl refl refl
-    code false = four (λ j. part (codeAt false j) (codeAt false j + 3) laidOut ≡ bytes (codeIn false (getD (mzTab .sections) j noSection))) refl refl refl refl
+-- the starts of the keys' slots
+abbrev startsText : Bytes
+startsText = allStarts mzTab
+
+key-count : length (keyEntries mzTab) ≡ 61
+unfolding mzTab keys
+key-count = refl
+
+starts-size : length startsText ≡ 124
+starts-size = starts-length (keyEntries mzTab) 0 ∙ ap (λ (n : ℕ). 2 * (n + 1)) key-count
 
 pub front-sizes : (length directoryText ≡ 74) × (length (allRows (tablesOf mzTab)) ≡ 7938) × (length (allWanted (tablesOf mzTab)) ≡ 145)
 unfolding mzTab directoryText directoryOf entriesFrom allRows allWanted laid padded tabbed bytes keys proteinColumns peptideColumns psmColumns moleculeColumns proteinRequired peptideRequired psmRequired moleculeRequired
 front-sizes = (refl, refl, refl)
 
-laid-size : length laidOut ≡ WANTED
-unfolding laidOut
-laid-size = omega (arith, length-append directoryText (allRows (tablesOf mzTab) ++ allWanted (tablesOf mzTab)), length-append (allRows (tablesOf mzTab)) (allWanted (tablesOf mzTab)), front-sizes .0, front-sizes .1, front-sizes .2)
+-- what stands before them
+before : Bytes
+before = directoryText ++ (allRows (tablesOf mzTab) ++ allWanted (tablesOf mzTab))
 
-code-end : (row : Bool) (j : ℕ) → j < length (mzTab .sections) → codeAt row j + 3 ≤ WANTED
+before-size : length before ≡ WANTED
+unfolding before
+before-size = omega (arith, length-append directoryText (allRows (tablesOf mzTab) ++ allWanted (tablesOf mzTab)), length-append (allRows (tablesOf mzTab)) (allWanted (tablesOf mzTab)), front-sizes .0, front-sizes .1, front-sizes .2)
+
+laid-before : laidOut ≡ before ++ startsText
+unfolding laidOut before
+laid-before = simp append-assoc
+
+laid-size : length laidOut ≡ STARTS
+laid-size = ap length laid-before ∙ omega (arith, length-append before startsText, before-size, starts-size)
+
+sections : getD laidOut 1 0 ≡ 4
+unfolding laidOut directoryText directoryOf mzTab
+sections = refl
+
+directory-room : DIRECTORY ≤ length laidOut
+directory-room = omega (arith, laid-size)
+
+directory : IsDirectory mzTab laidOut
+unfolding mzTab laidOut directoryText directoryOf entriesFrom allRows allWanted laid padded tabbed bytes keys proteinColumns peptideColumns psmColumns moleculeColumns proteinRequired peptideRequired psmRequired moleculeRequired
+directory = record { first = refl; count = refl; size = directory-room; codes = code }
+  where
+    code : (row : Bool) (j : ℕ) → j < 4 → part (codeAt row j) (codeAt row j + 3) laidOut ≡ bytes (codeIn row (getD (mzTab .sections) j noSection))
+    code true = four (λ j. part (codeAt true j) (codeAt true j + 3) laidOut ≡ bytes (codeIn true (getD (mzTab .sections) j noSection))) refl refl refl refl
+    code false = four (λ j. part (codeAt false j) (codeAt false j + 3) laidOut ≡ bytes (codeIn false (getD (mzTab .sections) j noSection))) refl refl refl refl
+
+starts-place : wantedAt laidOut 5 ≡ WANTED
+unfolding mzTab laidOut directoryText directoryOf entriesFrom tabbed bytes keys proteinColumns peptideColumns psmColumns moleculeColumns proteinRequired peptideRequired psmRequired moleculeRequired
+starts-place = refl
+
+start-laid : (e : ℕ) → e ≤ 61 → numberAt laidOut (WANTED + 2 * e) ≡ startOf (keyEntries mzTab) e
+start-laid e h =
+    ap (λ (l : Bytes). numberAt l (WANTED + 2 * e)) laid-before
+    ∙ ap (λ (n : ℕ). numberAt (before ++ startsText) (n + 2 * e)) (sym before-size)
+    ∙ number-behind before startsText (2 * e)
+    ∙ starts-read (keyEntries mzTab) 0 e (omega (arith, key-count))
+    ∙ omega arith
+
+code-end : (row : Bool) (j : ℕ) → j < length (mzTab .sections) → codeAt row j + 3 ≤ STARTS
 unfolding mzTab
 code-end true j h = omega arith
 code-end false j h = omega arith
 
--- the three parts laid one after the other are the front
-pub front-laid : (head lines names t1 t2 t3 : Bytes) → head ≡ directoryText → lines ≡ allRows (tablesOf mzTab) → names ≡ allWanted (tablesOf mzTab)
-    → take (0 + length head) t1 ≡ head → take (74 + length lines) t2 ≡ take 74 t1 ++ lines → take (8012 + length names) t3 ≡ take 8012 t2 ++ names
-    → take WANTED t3 ≡ laidOut
+-- the four parts laid one after the other are the front
+pub front-laid : (head lines names slots t1 t2 t3 t4 : Bytes) → head ≡ directoryText → lines ≡ allRows (tablesOf mzTab) → names ≡ allWanted (tablesOf mzTab) → slots ≡ allStarts mzTab
+    → take (0 + length head) t1 ≡ head → take (DIRECTORY + length lines) t2 ≡ take DIRECTORY t1 ++ lines → take (ROWS + length names) t3 ≡ take ROWS t2 ++ names
+    → take (WANTED + length slots) t4 ≡ take WANTED t3 ++ slots → take STARTS t4 ≡ laidOut
 unfolding laidOut
-front-laid head lines names t1 t2 t3 h r w a b c =
-    let x : 0 + length head ≡ 74 = omega (arith, ap length h, front-sizes .0) in
-    let y : 74 + length lines ≡ 8012 = omega (arith, ap length r, front-sizes .1) in
-    let z : 8012 + length names ≡ WANTED = omega (arith, ap length w, front-sizes .2) in
-    let a′ : take 74 t1 ≡ head = ap (λ (n : ℕ). take n t1) (sym x) ∙ a in
-    let b′ : take 8012 t2 ≡ head ++ lines = ap (λ (n : ℕ). take n t2) (sym y) ∙ b ∙ ap (λ (l : Bytes). l ++ lines) a′ in
-    ap (λ (n : ℕ). take n t3) (sym z) ∙ c ∙ ap (λ (l : Bytes). l ++ names) b′ ∙ append-assoc head lines names ∙ rw (h, r, w)
+front-laid head lines names slots t1 t2 t3 t4 h r w s a b c d =
+    let x : 0 + length head ≡ DIRECTORY = omega (arith, ap length h, front-sizes .0) in
+    let y : DIRECTORY + length lines ≡ ROWS = omega (arith, ap length r, front-sizes .1) in
+    let z : ROWS + length names ≡ WANTED = omega (arith, ap length w, front-sizes .2) in
+    let u : WANTED + length slots ≡ STARTS = omega (arith, ap length s, starts-size) in
+    let a′ : take DIRECTORY t1 ≡ head = ap (λ (n : ℕ). take n t1) (sym x) ∙ a in
+    let b′ : take ROWS t2 ≡ head ++ lines = ap (λ (n : ℕ). take n t2) (sym y) ∙ b ∙ ap (λ (l : Bytes). l ++ lines) a′ in
+    let c′ : take WANTED t3 ≡ (head ++ lines) ++ names = ap (λ (n : ℕ). take n t3) (sym z) ∙ c ∙ ap (λ (l : Bytes). l ++ names) b′ in
+    ap (λ (n : ℕ). take n t4) (sym u) ∙ d ∙ ap (λ (l : Bytes). l ++ slots) c′ ∙ append-assoc (head ++ lines) names slots ∙ append-assoc head lines (names ++ slots) ∙ rw (h, r, w, s)
 
 -- A TEXT THAT BEGINS SO has the same bytes, numbers and parts there
-module _ (t : Bytes) (begins : take WANTED t ≡ laidOut) where
-  byte-same : (i : ℕ) → i < WANTED → getD t i 0 ≡ getD laidOut i 0
-  byte-same i h = sym (getD-take WANTED t i 0 h) ∙ ap (λ (l : Bytes). getD l i 0) begins
+module _ (t : Bytes) (begins : take STARTS t ≡ laidOut) where
+  byte-same : (i : ℕ) → i < STARTS → getD t i 0 ≡ getD laidOut i 0
+  byte-same i h = sym (getD-take STARTS t i 0 h) ∙ ap (λ (l : Bytes). getD l i 0) begins
 
-  number-same : (i : ℕ) → i + 1 < WANTED → numberAt t i ≡ numberAt laidOut i
+  number-same : (i : ℕ) → i + 1 < STARTS → numberAt t i ≡ numberAt laidOut i
   number-same i h = omega (arith, byte-same i (omega arith), byte-same (i + 1) h)
 
-  part-same : (a a′ e e′ : ℕ) → a ≡ a′ → e ≡ e′ → e′ ≤ WANTED → part a e t ≡ part a′ e′ laidOut
+  part-same : (a a′ e e′ : ℕ) → a ≡ a′ → e ≡ e′ → e′ ≤ STARTS → part a e t ≡ part a′ e′ laidOut
   part-same a a′ e e′ p q h =
-      rw (p, q) (sym (drop-take t a′ e′) ∙ ap (drop a′) (sym (take-take e′ WANTED t h) ∙ ap (take e′) begins) ∙ drop-take laidOut a′ e′)
+      rw (p, q) (sym (drop-take t a′ e′) ∙ ap (drop a′) (sym (take-take e′ STARTS t h) ∙ ap (take e′) begins) ∙ drop-take laidOut a′ e′)
 
   rows-at : (k : ℕ) → k < 6 → rowsAt t k ≡ rowsAt laidOut k
   rows-at k h = number-same (8 + 12 * k) (omega arith)
@@ -154,7 +198,7 @@ module _ (t : Bytes) (begins : take WANTED t ≡ laidOut) where
   rows-same : (k : ℕ) → k < 5 → rowsOf t k ≡ rowsOf laidOut k
   rows-same k h = part-same _ _ _ _ (rows-at k (omega arith)) (rows-at (k + 1) (omega arith)) (table k h .rows-end)
 
-  directory-same : WANTED ≤ length t → IsDirectory mzTab t
+  directory-same : STARTS ≤ length t → IsDirectory mzTab t
   directory-same l =
       record {
         first = byte-same 0 (omega arith) ∙ directory .first;
@@ -163,7 +207,7 @@ module _ (t : Bytes) (begins : take WANTED t ≡ laidOut) where
         codes = λ row j h. part-same _ _ _ _ refl refl (code-end row j h) ∙ directory .codes row j h;
       }
 
-  wants : (j : ℕ) → j < 4 → WANTED ≤ length t → Wants t (suc j) ((getD (mzTab .sections) j noSection) .required)
+  wants : (j : ℕ) → j < 4 → STARTS ≤ length t → Wants t (suc j) ((getD (mzTab .sections) j noSection) .required)
   wants j h l =
       let a = wanted-at (suc j) (omega arith) in
       let e = wanted-at (suc j + 1) (omega arith) in
@@ -172,6 +216,16 @@ module _ (t : Bytes) (begins : take WANTED t ≡ laidOut) where
         starts = omega (arith, k .wanted-start);
         ends = omega (arith, k .wanted-end);
         wanted = ap cells (part-same _ _ _ _ a e (k .wanted-end)) ∙ required j h;
+      }
+
+  starts-at : startsAt t ≡ WANTED
+  starts-at = ap (λ (n : ℕ). wantedAt t (n + 1)) (byte-same 1 (omega arith) ∙ sections) ∙ wanted-at 5 (omega arith) ∙ starts-place
+
+  starts-same : STARTS ≤ length t → Starts t (keyEntries mzTab)
+  starts-same l =
+      record {
+        ends = omega (arith, starts-at, key-count);
+        starts = λ e h. ap (λ (n : ℕ). numberAt t (n + 2 * e)) starts-at ∙ number-same (WANTED + 2 * e) (omega (arith, key-count)) ∙ start-laid e (omega (arith, key-count));
       }
 
 -- WHERE A TABLE STANDS, as it is read from the front
@@ -184,7 +238,7 @@ pub record TableAt (front : Bytes) (k from to at : ℕ) : Type 0 where
   pub behind : at ≡ linksAt laidOut k
   pub lines : part from to front ≡ rowsOf laidOut k
 
-pub table-at : (front : Bytes) (k from to at : ℕ) → k < 5 → length front ≡ LINKS → take WANTED front ≡ laidOut → from ≡ rowsAt front k → to ≡ rowsAt front (k + 1) → at ≡ linksAt front k
+pub table-at : (front : Bytes) (k from to at : ℕ) → k < 5 → length front ≡ LINKS → take STARTS front ≡ laidOut → from ≡ rowsAt front k → to ≡ rowsAt front (k + 1) → at ≡ linksAt front k
     → TableAt front k from to at
 table-at front k from to at h long b f t a =
     let p = f ∙ rows-at front b k (omega arith) in
@@ -205,10 +259,10 @@ table-at front k from to at h long b f t a =
 -- THE LINKS of the first k tables are written
 pub record Midway (t : Bytes) (k : ℕ) : Type 0 where
   pub long : length t ≡ LINKS
-  pub begins : take WANTED t ≡ laidOut
+  pub begins : take STARTS t ≡ laidOut
   pub done : (j : ℕ) → j < k → (linksAt laidOut (j + 1) ≤ linksAt laidOut k) × Linked 0 (entries (rowsOf laidOut j)) (part (linksAt laidOut j) (linksAt laidOut (j + 1)) t)
 
-pub midway-start : (t : Bytes) → length t ≡ LINKS → take WANTED t ≡ laidOut → Midway t 0
+pub midway-start : (t : Bytes) → length t ≡ LINKS → take STARTS t ≡ laidOut → Midway t 0
 midway-start t l b = record { long = l; begins = b; done = below-none _ }
 
 fewer : (n m : ℕ) (b b′ : Bytes) → take n b′ ≡ take n b → m ≤ n → take m b′ ≡ take m b
@@ -230,7 +284,7 @@ module _ (front t t′ : Bytes) (k from to at : ℕ) (m : Midway t k) (x : Table
       let y = table k (x .below) in
       record {
         long = l .long ∙ m .long;
-        begins = fewer at WANTED t t′ (l .kept) (omega (arith, x .behind, y .behind)) ∙ m .begins;
+        begins = fewer at STARTS t t′ (l .kept) (omega (arith, x .behind, y .behind)) ∙ m .begins;
         done =
             below-more _ k
             (λ j h. let d = m .done j h in (omega (arith, d .0, y .room), rw (kept _ (linksAt laidOut (j + 1)) t t′ (fewer at (linksAt laidOut (j + 1)) t t′ (l .kept) (omega (arith, x .behind, d .0)))) (d .1)))
@@ -246,6 +300,7 @@ midway-end t k h m =
       keys = holds 0 (omega arith);
       columns = λ j l. subst⁻¹ (λ (i : ℕ). Holds t i ((getD (mzTab .sections) j noSection) .columns)) (add-one j) (holds (suc j) (omega arith));
       wanted = λ j l. subst⁻¹ (λ (i : ℕ). Wants t i ((getD (mzTab .sections) j noSection) .required)) (add-one j) (wants t (m .begins) j l (omega (arith, m .long)));
+      slots = starts-same t (m .begins) (omega (arith, m .long));
     }
   where
     holds : (i : ℕ) → i < 5 → Holds t i ((tableOf i) .columns)

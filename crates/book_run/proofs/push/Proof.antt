@@ -1,4 +1,4 @@
--- `book_run::push`. Assumes nothing.
+-- `book_run::push` meets its contract: it writes where there is room, and answers a place within the list. Assumes nothing.
 use native.Mathlib.Omega.{arith}
 use lib.ListN.{length-set}
 use borrow.Author.Needs.{needs}

@@ -1,4 +1,4 @@
--- `book_run::run`. Assumes nothing.
+-- `book_run::run` ends and is safe: each name begins after the one before. Assumes nothing.
 use borrow.Author.Needs.{needs}
 use mathlib.Core.Path.{_≡_}
 use Prim.Native.Nat.{_≤_, _-_}

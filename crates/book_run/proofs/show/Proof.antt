@@ -1,4 +1,4 @@
--- `book_run::show`. Assumes nothing.
+-- `book_run::show` ends and is safe: the book that it is lent is one. Assumes nothing.
 use native.Mathlib.Omega.{arith}
 use lib.ListN.{length-take}
 use borrow.Author.Needs.{needs}

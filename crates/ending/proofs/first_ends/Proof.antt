@@ -7,19 +7,22 @@ use Rattle.ending.proofs.first_ends.Tie as tie
 returns : tie.Need-returns
 returns c =
     let p3 = c .before .before in
-    let p2 = p3 .before .before .before .before .before in
-    let p1 = p2 .before .before .before .before .before in
-    puts3 (p1 .put-if .ensures) (p2 .put-if2 .ensures) (p3 .put-if3 .ensures)
+    let p2 = p3 .before .before .before .before in
+    let p1 = p2 .before .before .before .before in
+    let h3 = p1 .before .before in
+    let h2 = h3 .before in
+    let h1 = h2 .before in
+    rw (h1 .has-entry .ensures, h2 .has-entry2 .ensures, h3 .has-entry3 .ensures) at (puts3 (p1 .put-if .ensures) (p2 .put-if2 .ensures) (p3 .put-if3 .ensures))
 
 pub first-ends-spec : {M : Type 1} → statement M
 first-ends-spec =
     tie.close
     (tie.spec
-    (λ c. search needs)
     (λ c κs. search needs)
-    (λ c. search needs)
     (λ c κs. search needs)
-    (λ c. search needs)
+    (λ c κs. search needs)
+    (λ c κs. search needs)
+    (λ c κs. search needs)
     (λ c κs. search needs)
     (λ c. search needs)
     returns)

@@ -10,8 +10,9 @@ unfolding endBreaks
 returns c =
     let p3 = c .before .before in
     let p2 = p3 .before .before .before .before in
-    let p1 = p2 .before .before .before .before .before in
-    rw (p1 .before .before .has-run .ensures) at (puts3 (p1 .first-ends .ensures) (p2 .put-if .ensures) (p3 .put-if2 .ensures))
+    let p1 = p2 .before .before .before .before in
+    let runs = p1 .before .before in
+    rw (runs .before .has-entry .ensures, runs .has-run .ensures) at (puts3 (p1 .first-ends .ensures) (p2 .put-if .ensures) (p3 .put-if2 .ensures))
 
 pub judge-end-spec : {M : Type 1} → statement M
 judge-end-spec =
@@ -19,7 +20,7 @@ judge-end-spec =
     (tie.spec
     (λ c κs. search needs)
     (λ c κs. search needs)
-    (λ c. search needs)
+    (λ c κs. search needs)
     (λ c κs. search needs)
     (λ c κs. search needs)
     (λ c. search needs)

@@ -52,7 +52,7 @@ use denote.Triple.Statement.{Contract, Triple}
 use denote.Triple.Table.{entered, cited}
 use denote.Triple.Walked.{says, Stays, stay-none-slice, stay-slice, stay-ref, walkOf, goes-none-slice, goes-slice, goes-ref, Walks, ends-at, walked, walk-meets}
 use denote.Exit.{yes}
-use Rattle.scan.specs.Machine.{SLOTS}
+use Rattle.book.specs.Book.{SLOTS}
 use Rattle.faults.specs.declared.Fault.{Fault}
 use Rattle.faults.specs.declared.steps.Progress.{Progress}
 use Rattle.faults.specs.Records.{outcome, judged}
@@ -87,7 +87,7 @@ stayed = (stay-none-slice (0 ∷ []) tt (plain (λ _. u8)) yes, (stay-slice (1 �
 
 -- the two local arrays
 abbrev Slots : RattleType
-Slots = Array bool 257725
+Slots = Array bool SLOTS
 
 abbrev Places : RattleType
 Places = Array u32 12288
@@ -315,7 +315,7 @@ module _ {M : Type 1} (𝓤 : URA M) (H : Heap 𝓤) (A : Atoms 𝓤) (W : Given
           -- [number's obs; its borrow; its token; what faults owns; its token; the token; what file owns; slots; places; _15; …]
           assigns ! (of-opd ! (load ! (from ! (fld ! refl (stop !))) (look-in ! 27 (sub ! 2 refl (whole !))))) (from ! (stop !)) (init ! 37 refl (tt, record { fits = count-fits })) $
           returns ! (look ! 37 refl) $
-          move ! (7 ∷ []) $ use1 W (‵ (froom (tyArray tyBool 257725) l₄ 0)) (array-room 𝓤 H A W bool 257725 l₄ (z .slots)) $ move ! (8 ∷ []) $ use1 W (‵ (froom (tyArray (tyInt w32) 12288) l₅ 0)) (array-room 𝓤 H A W u32 12288 l₅ (z .places)) $
+          move ! (7 ∷ []) $ use1 W (‵ (froom (tyArray tyBool SLOTS) l₄ 0)) (array-room 𝓤 H A W bool SLOTS l₄ (z .slots)) $ move ! (8 ∷ []) $ use1 W (‵ (froom (tyArray (tyInt w32) 12288) l₅ 0)) (array-room 𝓤 H A W u32 12288 l₅ (z .places)) $
           -- [room for places; room for slots; number's obs; …; _15; …]
           forget ! 23 refl $ forget ! 25 refl $ forget ! 27 refl $ forget ! 31 refl $ forget ! 33 refl $ forget ! 35 refl $ forget ! 37 refl $
           move ! (37 ∷ 38 ∷ []) $ free1 ! $ move ! (35 ∷ 36 ∷ []) $ free1 ! $ move ! (33 ∷ 34 ∷ []) $ free1 ! $ move ! (31 ∷ 32 ∷ []) $ free1 ! $ move ! (1 ∷ 30 ∷ []) $ free1 ! $ move ! (0 ∷ 28 ∷ []) $ free1 ! $
@@ -427,10 +427,10 @@ module _ {M : Type 1} (𝓤 : URA M) (H : Heap 𝓤) (A : Atoms 𝓤) (W : Given
         alloc1 ! (λ l₀. alloc1 ! (λ l₁. alloc1 ! (λ l₂. alloc1 ! (λ l₃. alloc1 ! (λ l₄. alloc1 ! (λ l₅. alloc1 ! (λ l₆. alloc1 ! (λ l₇. alloc1 ! (λ l₈. alloc1 ! (λ l₉. alloc1 ! (λ l₁₀. alloc1 ! (λ l₁₁. alloc1 ! (λ l₁₂. alloc1 ! (λ l₁₃. alloc1 ! (λ l₁₄. alloc1 ! (λ l₁₅. alloc0 ! $ params1 ! $
         pass1 ! (init ! 28 refl (shr-slice-lawful 𝓤 H A W (named 0) κ u8 .typed p (v ∷ []) (F .is-p) .0)) $ pass1 ! (init ! 26 refl (tt, (tt, (record { fits = F .rooms .0 }, tt)))) $ pass1 ! (init ! 24 refl (tt, tt)) $ pass0 ! $
         -- [_15; …; room for _0; …; the tokens; what the parameters own]: the arrays are filled
-        assigns ! (rep ! 257725 (false-lit !)) (from ! (stop !)) (init-times ! 22 bool (bool-lawful 𝓤 H A W) 257725 false (vbool false) refl refl) $
+        assigns ! (rep ! SLOTS (false-lit !)) (from ! (stop !)) (init-times ! 22 bool (bool-lawful 𝓤 H A W) SLOTS false (vbool false) refl refl) $
         assigns ! (rep ! 12288 (lit ! tt)) (from ! (stop !)) (init-times ! 20 u32 (uint-lawful 𝓤 H A W w32) 12288 0 (vint w32 0) (refl, lit< tt) refl) $
         assigns ! (of-opd ! (load ! (from ! (fld ! refl (stop !))) (look-in ! 26 (sub ! 1 refl (whole !))))) (from ! (stop !)) (init ! 16 refl (tt, record { fits = F .rooms .0 })) $
-        move ! (22 ∷ []) $ use1 W (‵ (partAt Slots fullShare (replicate 257725 false) l₄ 0)) (times-in 𝓤 H A W bool 257725 l₄ (bool-makes 𝓤 H A W) (bool-copy 𝓤 H A W) false (vbool false) refl) $
+        move ! (22 ∷ []) $ use1 W (‵ (partAt Slots fullShare (replicate SLOTS false) l₄ 0)) (times-in 𝓤 H A W bool SLOTS l₄ (bool-makes 𝓤 H A W) (bool-copy 𝓤 H A W) false (vbool false) refl) $
         move ! (21 ∷ []) $ use1 W (‵ (partAt Places fullShare (replicate 12288 0) l₅ 0)) (times-in 𝓤 H A W u32 12288 l₅ (uint-makes 𝓤 H A W w32) (uint-copy 𝓤 H A W w32) 0 (vint w32 0) (refl, lit< tt)) $
         -- [places; slots; _15; …; the tokens; what the parameters own]
         move ! (33 ∷ []) $ fsplit ! $ move ! (1 ∷ []) $ fsplit ! $ move ! (1 ∷ []) $ fsplit ! $ move ! (1 ∷ []) $ drop ! $
@@ -449,7 +449,7 @@ module _ {M : Type 1} (𝓤 : URA M) (H : Heap 𝓤) (A : Atoms 𝓤) (W : Given
         move ! (5 ∷ 3 ∷ 0 ∷ 1 ∷ 2 ∷ 4 ∷ 7 ∷ 6 ∷ []) $
         by ! (looped l₀ l₁ l₂ l₃ l₄ l₅ l₆ l₇ l₈ l₉ l₁₀ l₁₁ l₁₂ l₁₃ l₁₄ l₁₅ (record {
           st = r;
-          slots = replicate 257725 false;
+          slots = replicate SLOTS false;
           places = replicate 12288 0;
           cur = ys;
           is = subst (Is S.the-row r) (S′.lowers .val-is r _ is) is;

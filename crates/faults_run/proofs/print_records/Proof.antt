@@ -1,4 +1,4 @@
--- `faults_run::print_records` meets its contract. Assumes nothing.
+-- `faults_run::print_records` ends and is safe: it prints no record past the list. Assumes nothing.
 use Prim.Native.Nat.{_-_, _≤_}
 use borrow.Author.Needs.{needs}
 use Rattle.faults_run.proofs.print_records.Statement.{statement}

@@ -1,4 +1,4 @@
--- `faults_run::run_all` meets its contract. Assumes nothing.
+-- `faults_run::run_all` ends and is safe: each file begins after the one before. Assumes nothing.
 use Prim.Native.Nat.{_-_, _≤_}
 use lib.ListN.{length}
 use borrow.Author.Needs.{needs}

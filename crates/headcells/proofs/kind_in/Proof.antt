@@ -1,4 +1,4 @@
--- `headcells::kind_in`. Assumes nothing.
+-- `headcells::kind_in` meets its contract: the two cases of the definition. Assumes nothing.
 use mathlib.Core.Path.{sym, ap}
 use Rattle.rules.specs.Rules.{kindIn}
 use borrow.Author.Needs.{needs}

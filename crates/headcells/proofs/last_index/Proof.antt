@@ -1,4 +1,4 @@
--- `headcells::last_index`. Assumes nothing.
+-- `headcells::last_index` meets its contract: the same test. Assumes nothing.
 use borrow.Author.Tests.{eq-eqb, ne-eqb}
 use Rattle.headcells.proofs.last_index.Statement.{statement}
 use Rattle.headcells.proofs.last_index.Tie as tie

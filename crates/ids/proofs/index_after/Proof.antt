@@ -1,4 +1,4 @@
--- `ids::index_after`. Assumes nothing.
+-- `ids::index_after` meets its contract: where the word stands in front, the index after it is read. Assumes nothing.
 use borrow.Author.Needs.{needs}
 use native.Mathlib.Omega.{arith}
 use mathlib.Core.Path.{_≡_, sym, _∙_, ap}

@@ -1,4 +1,4 @@
--- `ids::key_id`. Assumes nothing.
+-- `ids::key_id` meets its contract: an unknown key has no id, and neither has one that begins with none. Assumes nothing.
 use borrow.Author.Needs.{needs}
 use mathlib.Core.Path.{refl, sym, _∙_}
 use Rattle.ids.proofs.Laws.Marks.{key-none, key-unknown, key-known}

@@ -1,4 +1,4 @@
--- `ids::mark_line`. Assumes nothing.
+-- `ids::mark_line` meets its contract: the id that a line declares is one of the four families', from 1 to 64. Assumes nothing.
 use borrow.Author.Needs.{needs}
 use native.Mathlib.Omega.{arith}
 use mathlib.Core.Path.{sym, _∙_, ap}

@@ -1,4 +1,4 @@
--- `kinds::cell_of_kind`. Assumes nothing.
+-- `kinds::cell_of_kind` meets its contract: each letter that is tried first has the answer that the definition gives it. Assumes nothing.
 use borrow.Author.Needs.{needs}
 use mathlib.Core.Path.{sym, _∙_}
 use Rattle.kinds.proofs.Laws.Letters.{cell-text, cell-kept, cell-null, cell-value, value-whole, value-decimal, value-parameters}

@@ -1,4 +1,4 @@
--- `kinds::family_number`. Assumes nothing.
+-- `kinds::family_number` meets its contract: the letters are tried in the order of the definition. Assumes nothing.
 use mathlib.Core.Path.{sym, ap}
 use Rattle.kinds.specs.Kinds.{familyNumber}
 use Rattle.kinds.proofs.Laws.Letters.{no-family}

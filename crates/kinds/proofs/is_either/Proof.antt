@@ -1,4 +1,4 @@
--- `kinds::is_either`. Assumes nothing.
+-- `kinds::is_either` meets its contract: both words are compared. Assumes nothing.
 use borrow.Author.Needs.{needs}
 use mathlib.Core.Path.{sym, _∙_}
 use Rattle.text_bytes.proofs.Laws.Tests.{either-first, either-second}

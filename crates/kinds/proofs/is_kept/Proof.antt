@@ -1,4 +1,4 @@
--- `kinds::is_kept`. Assumes nothing.
+-- `kinds::is_kept` meets its contract: it asks what the definition asks, text first and then `null`. Assumes nothing.
 use borrow.Author.Needs.{needs}
 use mathlib.Core.Path.{sym, _∙_}
 use Rattle.kinds.proofs.Laws.Letters.{kept-null, kept-text}

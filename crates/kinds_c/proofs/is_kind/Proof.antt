@@ -1,4 +1,4 @@
--- `kinds_c::is_kind` meets its contract. Assumes nothing.
+-- `kinds_c::is_kind` meets its contract: each number has the kind that the definition gives it. Assumes nothing.
 use borrow.Author.Tests.{ne-eqb}
 use Rattle.kinds_c.specs.Kinds.{isKind}
 use borrow.Author.Needs.{needs}

@@ -1,4 +1,4 @@
--- `kinds_c::kinds_is` meets its contract. Assumes nothing.
+-- `kinds_c::kinds_is` meets its contract: 1 stands for true and 0 for false. Assumes nothing.
 use borrow.Author.Needs.{needs}
 use Rattle.kinds_c.proofs.kinds_is.Statement.{statement}
 use Rattle.kinds_c.proofs.kinds_is.Tie as tie

@@ -10,14 +10,16 @@ use Rattle.metakeys.proofs.judge_key.Tie as tie
 slot-of-requires : tie.Need-slot-of-requires
 slot-of-requires c κs =
     let f = c .before in
-    inside (f .found .given .1) (f .before .before .before .before .before .pre .0)
+    let start = f .before .before .before .before .before .before in
+    let in-slots = inside _ (f .found .given .1) (start .pre .1 .0) in
+    (start .pre .0, (in-slots .0, in-slots .1))
 
 shared-slice-read-both : tie.Need-shared-slice-read-both
 shared-slice-read-both c =
     let at-slot = c .before .before in
     let f = at-slot .before .before in
-    let start = f .before .before .before .before .before in
-    omega (arith, at-slot .slot-of .ensures, inside (f .found .given .1) (start .pre .0), start .pre .1 .1)
+    let start = f .before .before .before .before .before .before in
+    omega (arith, at-slot .slot-of .ensures, inside _ (f .found .given .1) (start .pre .1 .0) .1, start .pre .1 .1 .1)
 
 returns-2 : tie.Need-returns-2
 returns-2 c =

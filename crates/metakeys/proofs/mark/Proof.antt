@@ -1,4 +1,4 @@
--- `metakeys::mark` meets its contract. Assumes nothing.
+-- `metakeys::mark` meets its contract: a known key has a slot within the list, and an unknown one none. Assumes nothing.
 use native.Mathlib.Omega.{arith}
 use borrow.Author.Needs.{needs}
 use Rattle.metakeys.proofs.Laws.Slotting.{inside}
@@ -8,13 +8,15 @@ use Rattle.metakeys.proofs.mark.Tie as tie
 slot-of-requires : tie.Need-slot-of-requires
 slot-of-requires c κs =
     let f = c .before in
-    inside (f .found .given .1) (f .before .before .before .pre .0)
+    let start = f .before .before .before .before in
+    let in-slots = inside _ (f .found .given .1) (start .pre .1 .0) in
+    (start .pre .0, (in-slots .0, in-slots .1))
 
 slice-write-slots : tie.Need-slice-write-slots
 slice-write-slots c =
     let f = c .before .before in
-    let start = f .before .before .before in
-    omega (arith, c .slot-of .ensures, inside (f .found .given .1) (start .pre .0), start .pre .1)
+    let start = f .before .before .before .before in
+    omega (arith, c .slot-of .ensures, inside _ (f .found .given .1) (start .pre .1 .0) .1, start .pre .1 .1)
 
 returns-2 : tie.Need-returns-2
 returns-2 c = rw (c .slot-of .ensures, c .before .before .found .given .1)

@@ -6,19 +6,19 @@ use lib.ListN.{length, getD}
 use borrow.Author.Tests.{eq-eqb, ne-eqb}
 use Rattle.text_bytes.specs.Bytes.{Bytes}
 use Rattle.text.specs.Lines.{cells, cell, isMeta, isField}
-use Rattle.book.specs.Book.{Book, keyOf}
-use Rattle.scan.specs.Machine.{SLOTS, hasSlot}
+use Rattle.book.specs.Book.{SLOTS, Book, keyOf}
+use Rattle.scan.specs.Machine.{hasSlot}
 use Rattle.metakeys.specs.Keys.{marked}
 use Rattle.metakeys.proofs.Laws.Slotting.{marked-length, marked-slot}
 use Rattle.metaline.specs.Metas.{Keeps}
 
 module _ (b : Book) (slots : List Bool) (whole : length slots ≡ SLOTS) (l : Bytes) where
   -- a metadata line of three cells marks its key
-  pub keeps-three : isMeta l ≡ true → length (cells l) ≡ 3 → Keeps b l slots (marked slots (keyOf b (getD (cells l) 1 [])))
+  pub keeps-three : isMeta l ≡ true → length (cells l) ≡ 3 → Keeps b l slots (marked b slots (keyOf b (getD (cells l) 1 [])))
   unfolding hasSlot cell isField
   keeps-three m t = record {
-    keys = λ i h. rw (m, eq-eqb (length (cells l)) 3 t) (marked-slot slots whole (keyOf b (getD (cells l) 1 [])) i h);
-    places = marked-length slots whole (keyOf b (getD (cells l) 1 []));
+    keys = λ i h. rw (m, eq-eqb (length (cells l)) 3 t) (marked-slot b slots whole (keyOf b (getD (cells l) 1 [])) i h);
+    places = marked-length b slots whole (keyOf b (getD (cells l) 1 []));
   }
 
   -- and any other none

@@ -27,7 +27,7 @@ first-tab {l} {e} h n =
     ⊎-elim (λ (q : e ≡ length l). absurd (omega (arith, ap length (cell-here h), ap length (cells-last h q)))) (λ (q : e < length l). q) (eq-or-lt-of-le (h .within))
 
 -- THE KEY AND THE VALUE
-module _ (b : Book) (cc n : ℕ) {slots : List Bool} {ids : Ids} {key value : Bytes} {r : Judgement} {o o₁ o₂ : Lent} (j : Judged slots ids (keyOf b key) key value r)
+module _ (b : Book) (cc n : ℕ) {slots : List Bool} {ids : Ids} {key value : Bytes} {r : Judgement} {o o₁ o₂ : Lent} (j : Judged b slots ids (keyOf b key) key value r)
     (h₁ : Puts (λ rest. controlAt cc n 2 (when (not (r .known)) (breakAt n 2 5) (when (r .again) (breakAt n 2 6) rest))) 3 o o₁)
     (h₂ : Puts (λ rest. controlAt cc n 3 (when (r .wrong) (breakAt n 3 7) (when (r .undeclared) (breakAt n 3 8) rest))) 3 o₁ o₂) where
   pub three-puts : (xs : List Bytes) → drop 1 xs ≡ key ∷ value ∷ [] → Puts (eachCell (metaCell b slots ids (getD xs 1 []) (getD xs 2 []) cc n) 2 (drop 1 xs)) 6 o o₂

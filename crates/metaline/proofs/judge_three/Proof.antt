@@ -30,13 +30,18 @@ judge-key-requires : tie.Need-judge-key-requires
 judge-key-requires c κs =
     let at-key = c .before .before .before in
     let start = at-key .before .before .before .before .before .before .before .before in
-    (rw (at-key .key .ensures) (in-slots _ _), (start .pre .1 .0, start .pre .1 .1 .0))
+    (start .pre .0, (rw (at-key .key .ensures) (in-slots _ _), (start .pre .1 .0, start .pre .1 .1 .0)))
 
 mark-requires : tie.Need-mark-requires
 mark-requires c κs =
     let at-key = c .before .before .before .before .before in
     let start = at-key .before .before .before .before .before .before .before .before in
-    (rw (at-key .key .ensures) (in-slots _ _), start .pre .1 .1 .0)
+    (start .pre .0, (rw (at-key .key .ensures) (in-slots _ _), start .pre .1 .1 .0))
+
+put-key-requires : tie.Need-put-key-requires
+put-key-requires c κs =
+    let start = c .before .before .before .before .before .before .before .before .before .before .before .before .before .before .before .before .before in
+    omega (arith, start .pre .1 .1 .1 .1)
 
 put-value-requires : tie.Need-put-value-requires
 put-value-requires c κs =
@@ -84,7 +89,7 @@ judge-three-spec =
     (λ c. search needs)
     judge-key-requires
     mark-requires
-    (λ c κs. search needs)
+    put-key-requires
     put-value-requires
     (λ c. search needs)
     (λ c. search needs)

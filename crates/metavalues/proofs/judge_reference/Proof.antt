@@ -1,4 +1,4 @@
--- `metavalues::judge_reference` meets its contract. Assumes nothing.
+-- `metavalues::judge_reference` meets its contract: the one index that the value names is declared or not. Assumes nothing.
 use mathlib.Core.Path.{refl, sym, ap, _∙_}
 use mathlib.Core.Bool.{not}
 use Prim.Native.Nat.{ℕ}

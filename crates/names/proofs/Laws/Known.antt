@@ -4,7 +4,7 @@ use mathlib.Core.Path.{_≡_, refl, ap, sym, _∙_, subst}
 use mathlib.Core.Bool.{Bool, true, false, cond}
 use mathlib.Core.List.{List, [], _∷_, _++_}
 use mathlib.Core.Logic.{_⊎_, inl, inr, ⊎-elim}
-use native.Mathlib.Omega.{arith}
+use native.Mathlib.Omega.{arith, by-contra}
 use lib.Dec.{eqb}
 use lib.ListN.{length, getD, drop}
 use lib.Seq.{drop-append-seam}
@@ -13,7 +13,7 @@ use Rattle.references.specs.Index.{indexAt, written}
 use Rattle.references.specs.declared.index.Index.{Index}
 use Rattle.references.specs.declared.index.Index.the-variants.{Not, Is}
 use Rattle.references.proofs.Laws.Indices.{index-read, index-written}
-use Rattle.names.specs.Names.{Piece, byte, place, Entry, entry, kindOf, familyOf, formOf, filled, fits, onIndex, onMatch, firstOf, lookupIn, slotOf}
+use Rattle.names.specs.Names.{Piece, byte, place, Entry, entry, kindOf, familyOf, formOf, filled, fits, onIndex, onMatch, firstOf, lookupIn, spread, startOf, among, slotOf}
 use Rattle.names.specs.declared.Match.{Match}
 use Rattle.names.specs.declared.Match.the-variants.{Differs, Fits}
 use Rattle.names.specs.declared.Found.{Found}
@@ -248,20 +248,99 @@ unknown-miss (x ∷ es) name e zero h k = missed (fits (formOf x) name 0 0) _ _ 
 unknown-miss (x ∷ es) name e (suc n) h k =
     unknown-miss es name (e + 1) n (missed (fits (formOf x) name 0 0) _ _ h (λ i j q. unlike q) .1) (omega arith)
 
--- SLOTS: two known names with the same slot are equal
-pub same-slot : (es : List Entry) (x y : List ℕ) (e k f i j e′ k′ f′ i′ j′ : ℕ) → lookupIn es x ≡ Known e k f i j
-    → lookupIn es y ≡ Known e′ k′ f′ i′ j′ → slotOf e i j ≡ slotOf e′ i′ j′ → x ≡ y
-same-slot es x y e k f i j e′ k′ f′ i′ j′ h h′ s =
-    let a = known es x e k f i j h in
-    let a′ = known es y e′ k′ f′ i′ j′ h′ in
-    let b : (j ≤ 64) × (j′ ≤ 64) = (omega (arith, a .shape), omega (arith, a′ .shape)) in
-    let q : (e ≡ e′) × (i ≡ i′) × (j ≡ j′) = (omega arith, omega arith, omega arith) in
-    sym (a .text) ∙ ap (λ (n : ℕ). filled (formOf (nth es n)) i j) (q .0) ∙ ap (λ (n : ℕ). filled (formOf (nth es e′)) n j) (q .1)
-    ∙ ap (λ (n : ℕ). filled (formOf (nth es e′)) i′ n) (q .2) ∙ a′ .text
+-- SLOTS
 
+-- a pattern stands for one name, for 64 with a place and for 4,096 with two
+spread-none : (ps : List Piece) → holes ps ≡ 0 → spread ps ≡ 1
+unfolding holes spread
+spread-none [] h = refl
+spread-none (byte p ∷ ps) h = spread-none ps h
+spread-none (place ∷ ps) h = absurd (omega arith)
+
+spread-one : (ps : List Piece) → holes ps ≡ 1 → spread ps ≡ 64
+unfolding holes spread
+spread-one [] h = absurd (omega arith)
+spread-one (byte p ∷ ps) h = spread-one ps h
+spread-one (place ∷ ps) h = omega (arith, spread-none ps (omega arith))
+
+spread-two : (ps : List Piece) → holes ps ≡ 2 → spread ps ≡ 4096
+unfolding holes spread
+spread-two [] h = absurd (omega arith)
+spread-two (byte p ∷ ps) h = spread-two ps h
+spread-two (place ∷ ps) h = omega (arith, spread-one ps (omega arith))
+
+-- the two ways to number a name among those of its pattern
+pub among-one : (i j : ℕ) → j ≡ 0 → among i j ≡ i - 1
+among-one i j e = rw e
+
+pub among-two : (i j : ℕ) → 1 ≤ j → among i j ≡ (i - 1) * 64 + (j - 1)
+among-two i j h =
+    let n : j ≡ 0 → ⊥ = λ (e : j ≡ 0). omega arith in
+    rw (ne-eqb j 0 n)
+
+-- a name's number is below how many its pattern stands for
+among-below : (ps : List Piece) (h i j : ℕ) → holes ps ≡ h → Shape h i j → among i j < spread ps
+among-below ps zero i j e s = omega (arith, spread-none ps e, among-one i j (omega arith))
+among-below ps (suc zero) i j e s = omega (arith, spread-one ps e, among-one i j (omega arith))
+among-below ps (suc (suc zero)) i j e s = omega (arith, spread-two ps e, among-two i j (omega arith))
+among-below ps (suc (suc (suc h))) i j e s = absurd (omega arith)
+
+-- and it has the indices
+same-among : (h i j i′ j′ : ℕ) → Shape h i j → Shape h i′ j′ → among i j ≡ among i′ j′ → (i ≡ i′) × (j ≡ j′)
+same-among zero i j i′ j′ s s′ q = (omega arith, omega arith)
+same-among (suc zero) i j i′ j′ s s′ q =
+    let a = among-one i j (omega arith) in
+    let a′ = among-one i′ j′ (omega arith) in
+    (omega arith, omega arith)
+same-among (suc (suc zero)) i j i′ j′ s s′ q =
+    let a = among-two i j (omega arith) in
+    let a′ = among-two i′ j′ (omega arith) in
+    (omega arith, omega arith)
+same-among (suc (suc (suc h))) i j i′ j′ s s′ q = absurd (omega arith)
+
+-- the names of an entry end before those of a later one begin
+pub start-rise : (es : List Entry) (e e′ : ℕ) → e < e′ → e′ ≤ length es → startOf es e + spread (formOf (nth es e)) ≤ startOf es e′
+unfolding startOf
+start-rise [] e e′ h l = absurd (omega arith)
+start-rise (x ∷ es) e zero h l = absurd (omega arith)
+start-rise (x ∷ es) zero (suc e′) h l = omega arith
+start-rise (x ∷ es) (suc e) (suc e′) h l = omega (arith, start-rise es e e′ (omega arith) (omega arith))
+
+-- indices that an entry of a table takes
+pub record Of (es : List Entry) (e i j : ℕ) : Type 0 where
+  pub inside : e < length es
+  pub shape : Shape (holes (formOf (nth es e))) i j
+
+module _ (es : List Entry) (e i j : ℕ) (o : Of es e i j) where
+  slot-before : (e′ : ℕ) → e < e′ → e′ ≤ length es → slotOf es e i j < startOf es e′
+  slot-before e′ h l = omega (arith, among-below (formOf (nth es e)) _ i j refl (o .shape), start-rise es e e′ h l)
+
+  -- the slot is below the end of all
+  pub slot-inside : slotOf es e i j < startOf es (length es)
+  slot-inside = slot-before (length es) (o .inside) (omega arith)
+
+-- THE LAW: a slot has an entry and its indices
+pub slot-apart : (es : List Entry) (e i j e′ i′ j′ : ℕ) → Of es e i j → Of es e′ i′ j′ → slotOf es e i j ≡ slotOf es e′ i′ j′ → (e ≡ e′) × (i ≡ i′) × (j ≡ j′)
+slot-apart es e i j e′ i′ j′ o o′ s =
+    let low : e ≤ e′ = by-contra e e′ (λ h. omega (arith, slot-before es e′ i′ j′ o′ e h (omega (arith, o .inside)))) in
+    let high : e′ ≤ e = by-contra e′ e (λ h. omega (arith, slot-before es e i j o e′ h (omega (arith, o′ .inside)))) in
+    let z : e ≡ e′ = omega arith in
+    let q = same-among _ i j i′ j′ (o .shape) (subst (λ (n : ℕ). Shape (holes (formOf (nth es n))) i′ j′) (sym z) (o′ .shape)) (omega (arith, ap (startOf es) z)) in
+    (z, q .0, q .1)
+
+-- a known name is one of its entry
+pub known-of : (es : List Entry) (name : List ℕ) (e k f i j : ℕ) → lookupIn es name ≡ Known e k f i j → Of es e i j
+known-of es name e k f i j h = let a = known es name e k f i j h in record { inside = a .inside; shape = a .shape }
+
+-- so two known names with the same slot are equal
+pub same-slot : (es : List Entry) (x y : List ℕ) (e k f i j e′ k′ f′ i′ j′ : ℕ) → lookupIn es x ≡ Known e k f i j
+    → lookupIn es y ≡ Known e′ k′ f′ i′ j′ → slotOf es e i j ≡ slotOf es e′ i′ j′ → x ≡ y
+same-slot es x y e k f i j e′ k′ f′ i′ j′ h h′ s =
+    let q = slot-apart es e i j e′ i′ j′ (known-of es x e k f i j h) (known-of es y e′ k′ f′ i′ j′ h′) s in
+    sym (known es x e k f i j h .text) ∙ ap (λ (n : ℕ). filled (formOf (nth es n)) i j) (q .0) ∙ ap (λ (n : ℕ). filled (formOf (nth es e′)) n j) (q .1)
+    ∙ ap (λ (n : ℕ). filled (formOf (nth es e′)) i′ n) (q .2) ∙ known es y e′ k′ f′ i′ j′ h′ .text
+
+-- and the slot of a known name is below the end of all
 pub slot-below : (es : List Entry) (name : List ℕ) (e k f i j : ℕ) → lookupIn es name ≡ Known e k f i j
-    → (e < length es) × (i ≤ 64) × (j ≤ 64) × (slotOf e i j < 4225 * length es)
-slot-below es name e k f i j h =
-    let a = known es name e k f i j h in
-    let j64 : j ≤ 64 = omega (arith, a .shape .j-most, a .shape .few) in
-    (a .inside, a .shape .i-high, j64, omega (arith, a .inside, a .shape .i-high))
+    → (e < length es) × (slotOf es e i j < startOf es (length es))
+slot-below es name e k f i j h = let o = known-of es name e k f i j h in (o .inside, slot-inside es e i j o)

@@ -1,4 +1,4 @@
--- `names::byte_of`. Assumes nothing.
+-- `names::byte_of` meets its contract: past the end the definition reads a space too. Assumes nothing.
 use borrow.Author.Needs.{needs}
 use mathlib.Core.Path.{_≡_, refl, sym}
 use mathlib.Core.List.{List, [], _∷_}

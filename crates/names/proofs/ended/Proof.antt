@@ -1,4 +1,4 @@
--- `names::ended`. Assumes nothing.
+-- `names::ended` meets its contract: a pattern that has ended fits where the name has ended too. Assumes nothing.
 use mathlib.Core.Path.{sym}
 use Rattle.names.proofs.Laws.Turns.{ended-long, ended-here}
 use Rattle.names.proofs.ended.Statement.{statement}

@@ -1,4 +1,4 @@
--- `names::fits_row`. Assumes nothing.
+-- `names::fits_row` meets its contract: a row that cannot fit differs, and any other is read. Assumes nothing.
 use borrow.Author.Needs.{needs}
 use mathlib.Core.Path.{sym}
 use Rattle.names.proofs.fits_row.Statement.{statement}

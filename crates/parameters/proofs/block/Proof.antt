@@ -1,4 +1,4 @@
--- `parameters::block` meets its contract. Assumes nothing.
+-- `parameters::block` meets its contract: the state says which of the two scans goes on. Assumes nothing.
 use mathlib.Core.Path.{sym, ap, _∙_}
 use mathlib.Core.Bool.{Bool}
 use Rattle.parameters.specs.Scan.{state, run}

@@ -1,4 +1,4 @@
--- `parameters::counted` meets its contract. Assumes nothing.
+-- `parameters::counted` meets its contract: four commas are as many as more, since three are asked for. Assumes nothing.
 use borrow.Author.Tests.{ne-eqb, lt-ltb, le-ltb}
 use borrow.Author.Needs.{needs}
 use Rattle.parameters.proofs.counted.Statement.{statement}

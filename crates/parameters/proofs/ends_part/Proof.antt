@@ -1,4 +1,4 @@
--- `parameters::ends_part` meets its contract. Assumes nothing.
+-- `parameters::ends_part` meets its contract: a bar ends a part where parts are asked for. Assumes nothing.
 use borrow.Author.Tests.{ne-eqb}
 use mathlib.Core.Path.{sym}
 use mathlib.Core.Bool.{and-true, and-false}

@@ -1,4 +1,4 @@
--- `parameters::fills` meets its contract. Assumes nothing.
+-- `parameters::fills` meets its contract: between the second and the third comma any byte but a space fills the field. Assumes nothing.
 use borrow.Author.Tests.{ne-eqb}
 use mathlib.Core.Path.{sym}
 use mathlib.Core.Bool.{or-true, or-false}

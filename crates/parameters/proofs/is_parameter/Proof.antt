@@ -1,4 +1,4 @@
--- `parameters::is_parameter` meets its contract. Assumes nothing.
+-- `parameters::is_parameter` meets its contract: the whole value is one part. Assumes nothing.
 use mathlib.Core.Path.{_∙_}
 use native.Mathlib.Omega.{arith}
 use Rattle.parameters.proofs.Laws.Scans.{whole-run}

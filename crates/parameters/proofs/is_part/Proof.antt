@@ -1,4 +1,4 @@
--- `parameters::is_part` meets its contract. Assumes nothing.
+-- `parameters::is_part` meets its contract: one scan tells the commas, the open quotation and the third field. Assumes nothing.
 use borrow.Author.Tests.{not-true, not-false}
 use mathlib.Core.Path.{sym}
 use native.Mathlib.Omega.{arith}

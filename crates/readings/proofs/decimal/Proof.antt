@@ -1,4 +1,4 @@
--- `readings::decimal` meets its contract. Assumes nothing.
+-- `readings::decimal` meets its contract: at most 15 digits are summed as one number, and more make a long decimal. Assumes nothing.
 use mir.Syntax.{w64}
 use mir.ValLaws.{toZ-ofZ}
 use Prim.Native.Nat.{_+_}

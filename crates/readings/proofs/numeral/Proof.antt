@@ -1,4 +1,4 @@
--- `readings::numeral` meets its contract. Assumes nothing.
+-- `readings::numeral` meets its contract: the first dot parts the digits as the definition does, and without one none stand after it. Assumes nothing.
 use mathlib.Core.Path.{sym, _∙_}
 use native.Mathlib.Omega.{arith}
 use lib.Seq.{length-take-le}

@@ -1,4 +1,4 @@
--- `readings::read` meets its contract. Assumes nothing.
+-- `readings::read` meets its contract: the cases are tried in the paper's order. Assumes nothing.
 use mathlib.Core.Path.{sym, _∙_}
 use Rattle.readings.proofs.Laws.Readings.{value-missing, value-whole, value-numeral, value-word, whole-digits}
 use borrow.Author.Needs.{needs}

@@ -1,3 +1,4 @@
+-- `report::print_breaks` ends and is safe: it prints no break past the places. Assumes nothing.
 use Prim.Native.Nat.{_-_, _≤_}
 use borrow.Author.Needs.{needs}
 use Rattle.report.proofs.print_breaks.Statement.{statement}

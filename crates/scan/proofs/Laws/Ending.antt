@@ -12,17 +12,17 @@ use lib.ListN.{length, getD, drop}
 use borrow.Author.Tests.{eq-eqb, eqb-true}
 use Rattle.text_bytes.specs.Bytes.{Bytes, bytes, same, any, all}
 use Rattle.text_bytes.proofs.Laws.Tests.{absurd-bool}
-use Rattle.names.specs.Names.{piecesFrom, entryOf, slotOf, formOf}
+use Rattle.names.specs.Names.{Entry, piecesFrom, entryOf, slotOf, formOf}
 use Rattle.names.specs.declared.Found.{Found}
 use Rattle.names.specs.declared.Found.the-variants.{Unknown, Known}
-use Rattle.names.proofs.Laws.Known.{holes, nth, known, Shape}
+use Rattle.names.proofs.Laws.Known.{holes, nth, Of, known-of, slot-apart, slot-inside}
 use Rattle.text.specs.Lines.{isField}
 use Rattle.rules.specs.Breaks.{Break, breakAt, when, each, atCell, atEnd}
 use Rattle.rules.specs.Rules.{keyFound, isForm, hasKey, endRules, ends}
 use Rattle.scan.specs.Machine.{isSlot, hasSlot, Slots, upFrom, hasEntry, endBreaks}
 use Rattle.scan.proofs.Laws.Rowing.{test-eq}
 use Rattle.scan.proofs.Laws.Keeping.{any-alike}
-use Rattle.book.specs.Book.{keyOf, keyEntries, mzTab}
+use Rattle.book.specs.Book.{SLOTS, keyOf, keyEntries, mzTab}
 use Rattle.book.specs.Keys.{keys, demanded}
 use Rattle.book.specs.Text.{bookIn}
 use Rattle.book.proofs.Laws.Sized.{book-sized}
@@ -105,54 +105,87 @@ module _ (t : Bytes) where
   unfolding Only
   only d E e o h s = eqb-true e E (rw s at (all-up (λ k. not (same (form k) (bytes d)) || eqb k E) 61 0 e o (omega arith) (omega arith)))
 
-  module _ (x : Bytes) (e k f i j : ℕ) (q : keyOf (bookIn t) x ≡ Known e k f i j) where
-    inside : e < 61
-    unfolding keyOf
-    inside = omega (arith, known (keyEntries (bookIn t)) x e k f i j q .inside, book-sized t .few)
+  -- the entries of the keys, and their slots
+  abbrev es : List Entry
+  es = keyEntries (bookIn t)
 
-    shape : Shape (holes (formOf (nth (keyEntries (bookIn t)) e))) i j
+  abbrev slot : ℕ → ℕ → ℕ → ℕ
+  slot e i j = slotOf es e i j
+
+  abbrev places : ℕ → ℕ
+  places e = holes (formOf (nth es e))
+
+  slot-in : {e i j : ℕ} → Of es e i j → slot e i j < SLOTS
+  slot-in {e} {i} {j} o = omega (arith, slot-inside es e i j o, book-sized t .slots)
+
+  module _ (x : Bytes) (e k f i j : ℕ) (q : keyOf (bookIn t) x ≡ Known e k f i j) where
+    here : Of es e i j
     unfolding keyOf
-    shape = known (keyEntries (bookIn t)) x e k f i j q .shape
+    here = known-of es x e k f i j q
+
+    inside : e < 61
+    inside = omega (arith, here .inside, book-sized t .few)
 
     -- a form with no index has one slot
-    form-slot : (d : String) (E : ℕ) → Only d E → same (form E) (bytes d) ≡ true → holes (formOf (nth (keyEntries (bookIn t)) E)) ≡ 0 → same (form e) (bytes d) ≡ eqb (slotOf e i j) (slotOf E 0 0)
-    form-slot d E o s z = test-eq (same (form e) (bytes d)) (eqb (slotOf e i j) (slotOf E 0 0))
-        (λ v. let g : e ≡ E = only d E e o inside v in let w : holes (formOf (nth (keyEntries (bookIn t)) e)) ≡ 0 = subst (λ (n : ℕ). holes (formOf (nth (keyEntries (bookIn t)) n)) ≡ 0) (sym g) z in eq-eqb (slotOf e i j) (slotOf E 0 0) (omega (arith, shape)))
-        (λ v. let g : e ≡ E = omega (arith, eqb-true (slotOf e i j) (slotOf E 0 0) v, shape .i-high, shape .j-most, shape .few) in subst (λ (n : ℕ). same (form n) (bytes d) ≡ true) (sym g) s)
+    form-slot : (d : String) (E : ℕ) → Only d E → same (form E) (bytes d) ≡ true → places E ≡ 0 → Of es E 0 0 → same (form e) (bytes d) ≡ eqb (slot e i j) (slot E 0 0)
+    form-slot d E o s z there = test-eq (same (form e) (bytes d)) (eqb (slot e i j) (slot E 0 0))
+        (λ v.
+        let g : e ≡ E = only d E e o inside v in
+        let w : places e ≡ 0 = ap places g ∙ z in
+        let i0 : i ≡ 0 = omega (arith, here .shape) in
+        let j0 : j ≡ 0 = omega (arith, here .shape) in
+        eq-eqb (slot e i j) (slot E 0 0) (rw (g, i0, j0)))
+        (λ v.
+        let g = slot-apart es e i j E 0 0 here there (eqb-true (slot e i j) (slot E 0 0) v) .0 in
+        subst (λ (n : ℕ). same (form n) (bytes d) ≡ true) (sym g) s)
 
     -- a form with one index has 64
-    form-slots : (d : String) (E : ℕ) → Only d E → same (form E) (bytes d) ≡ true → holes (formOf (nth (keyEntries (bookIn t)) E)) ≡ 1 → same (form e) (bytes d) ≡ any (λ n. eqb (slotOf e i j) (slotOf E n 0)) (upFrom 64 1)
-    form-slots d E o s z = test-eq (same (form e) (bytes d)) (any (λ n. eqb (slotOf e i j) (slotOf E n 0)) (upFrom 64 1))
-        (λ v. let g : e ≡ E = only d E e o inside v in let w : holes (formOf (nth (keyEntries (bookIn t)) e)) ≡ 1 = subst (λ (n : ℕ). holes (formOf (nth (keyEntries (bookIn t)) n)) ≡ 1) (sym g) z in any-up (λ n. eqb (slotOf e i j) (slotOf E n 0)) 64 1 i (omega (arith, shape)) (omega (arith, shape)) (eq-eqb (slotOf e i j) (slotOf E i 0) (omega (arith, shape))))
-        (λ v. let r = up-any (λ n. eqb (slotOf e i j) (slotOf E n 0)) 64 1 v in let g : e ≡ E = omega (arith, eqb-true (slotOf e i j) (slotOf E (r .0) 0) (r .1 .1 .1), r .1 .0, r .1 .1 .0, shape .i-high, shape .j-most, shape .few) in subst (λ (n : ℕ). same (form n) (bytes d) ≡ true) (sym g) s)
+    form-slots : (d : String) (E : ℕ) → Only d E → same (form E) (bytes d) ≡ true → places E ≡ 1 → ((n : ℕ) → 1 ≤ n → n < 65 → Of es E n 0) → same (form e) (bytes d) ≡ any (λ n. eqb (slot e i j) (slot E n 0)) (upFrom 64 1)
+    form-slots d E o s z there = test-eq (same (form e) (bytes d)) (any (λ n. eqb (slot e i j) (slot E n 0)) (upFrom 64 1))
+        (λ v.
+        let g : e ≡ E = only d E e o inside v in
+        let w : places e ≡ 1 = ap places g ∙ z in
+        let j0 : j ≡ 0 = omega (arith, here .shape) in
+        any-up (λ n. eqb (slot e i j) (slot E n 0)) 64 1 i (omega (arith, here .shape)) (omega (arith, here .shape)) (eq-eqb (slot e i j) (slot E i 0) (rw (g, j0))))
+        (λ v.
+        let r = up-any (λ n. eqb (slot e i j) (slot E n 0)) 64 1 v in
+        let g = slot-apart es e i j E (r .0) 0 here (there (r .0) (r .1 .0) (r .1 .1 .0)) (eqb-true (slot e i j) (slot E (r .0) 0) (r .1 .1 .1)) .0 in
+        subst (λ (n : ℕ). same (form n) (bytes d) ≡ true) (sym g) s)
 
   -- A LINE WITH SUCH A KEY
 
-  module _ (d : String) (E : ℕ) (o : Only d E) (s : same (form E) (bytes d) ≡ true) where
-    key-slot : holes (formOf (nth (keyEntries (bookIn t)) E)) ≡ 0 → (m : Bytes) → hasSlot (bookIn t) (slotOf E 0 0) m ≡ hasKey (bookIn t) d m
+  module _ (d : String) (E : ℕ) (o : Only d E) (s : same (form E) (bytes d) ≡ true) (l : E < length es) where
+    -- the slot of a form with no index, and those of one with an index
+    alone : places E ≡ 0 → Of es E 0 0
+    alone z = record { inside = l; shape = omega arith }
+
+    each-of : places E ≡ 1 → (n : ℕ) → 1 ≤ n → n < 65 → Of es E n 0
+    each-of z n a b = record { inside = l; shape = omega arith }
+
+    key-slot : places E ≡ 0 → (m : Bytes) → hasSlot (bookIn t) (slot E 0 0) m ≡ hasKey (bookIn t) d m
     unfolding bookIn mzTab hasSlot hasKey
     key-slot z m = rw (by (keyFound (bookIn t) m) refl)
       where
-        by : (r : Found) → keyFound (bookIn t) m ≡ r → isSlot (slotOf E 0 0) r ≡ isForm (bookIn t) d r
+        by : (r : Found) → keyFound (bookIn t) m ≡ r → isSlot (bookIn t) (slot E 0 0) r ≡ isForm (bookIn t) d r
         by Unknown q = refl
-        by (Known e k f i j) q = sym (form-slot _ e k f i j q d E o s z)
+        by (Known e k f i j) q = sym (form-slot _ e k f i j q d E o s z (alone z))
 
-    key-slots : holes (formOf (nth (keyEntries (bookIn t)) E)) ≡ 1 → (m : Bytes) → any (λ n. hasSlot (bookIn t) (slotOf E n 0) m) (upFrom 64 1) ≡ hasKey (bookIn t) d m
+    key-slots : places E ≡ 1 → (m : Bytes) → any (λ n. hasSlot (bookIn t) (slot E n 0) m) (upFrom 64 1) ≡ hasKey (bookIn t) d m
     unfolding bookIn mzTab hasSlot hasKey
-    key-slots z m = any-both (isField m) (λ n. isSlot (slotOf E n 0) (keyFound (bookIn t) m)) (upFrom 64 1) ∙ rw (by (keyFound (bookIn t) m) refl)
+    key-slots z m = any-both (isField m) (λ n. isSlot (bookIn t) (slot E n 0) (keyFound (bookIn t) m)) (upFrom 64 1) ∙ rw (by (keyFound (bookIn t) m) refl)
       where
-        by : (r : Found) → keyFound (bookIn t) m ≡ r → any (λ n. isSlot (slotOf E n 0) r) (upFrom 64 1) ≡ isForm (bookIn t) d r
+        by : (r : Found) → keyFound (bookIn t) m ≡ r → any (λ n. isSlot (bookIn t) (slot E n 0) r) (upFrom 64 1) ≡ isForm (bookIn t) d r
         by Unknown q = any-false (upFrom 64 1)
-        by (Known e k f i j) q = sym (form-slots _ e k f i j q d E o s z)
+        by (Known e k f i j) q = sym (form-slots _ e k f i j q d E o s z (each-of z))
 
     -- some line has the key where its slot is marked
-    entry-means : (above : List Bytes) (slots : List Bool) → holes (formOf (nth (keyEntries (bookIn t)) E)) ≡ 0 → slotOf E 0 0 < 257725 → Slots (bookIn t) above slots → hasEntry slots E ≡ any (hasKey (bookIn t) d) above
-    entry-means above slots z l h = h (slotOf E 0 0) l ∙ any-alike (hasSlot (bookIn t) (slotOf E 0 0)) (hasKey (bookIn t) d) (key-slot z) above
+    entry-means : (above : List Bytes) (slots : List Bool) → places E ≡ 0 → Slots (bookIn t) above slots → hasEntry (bookIn t) slots E ≡ any (hasKey (bookIn t) d) above
+    entry-means above slots z h = h (slot E 0 0) (slot-in (alone z)) ∙ any-alike (hasSlot (bookIn t) (slot E 0 0)) (hasKey (bookIn t) d) (key-slot z) above
 
-    run-means : (above : List Bytes) (slots : List Bool) → holes (formOf (nth (keyEntries (bookIn t)) E)) ≡ 1 → E < 61 → Slots (bookIn t) above slots → any (λ n. getD slots (slotOf E n 0) false) (upFrom 64 1) ≡ any (hasKey (bookIn t) d) above
-    run-means above slots z l h =
-        any-within (λ n. getD slots (slotOf E n 0) false) (λ n. any (hasSlot (bookIn t) (slotOf E n 0)) above) 64 1 (λ n a b. h (slotOf E n 0) (omega arith))
-        ∙ any-swap (λ n m. hasSlot (bookIn t) (slotOf E n 0) m) (upFrom 64 1) above ∙ any-alike (λ m. any (λ n. hasSlot (bookIn t) (slotOf E n 0) m) (upFrom 64 1)) (hasKey (bookIn t) d) (key-slots z) above
+    run-means : (above : List Bytes) (slots : List Bool) → places E ≡ 1 → Slots (bookIn t) above slots → any (λ n. getD slots (slot E n 0) false) (upFrom 64 1) ≡ any (hasKey (bookIn t) d) above
+    run-means above slots z h =
+        any-within (λ n. getD slots (slot E n 0) false) (λ n. any (hasSlot (bookIn t) (slot E n 0)) above) 64 1 (λ n a b. h (slot E n 0) (slot-in (each-of z n a b)))
+        ∙ any-swap (λ n m. hasSlot (bookIn t) (slot E n 0) m) (upFrom 64 1) above ∙ any-alike (λ m. any (λ n. hasSlot (bookIn t) (slot E n 0) m) (upFrom 64 1)) (hasKey (bookIn t) d) (key-slots z) above
 
   -- THE FIVE
 
@@ -182,15 +215,15 @@ module _ (t : Bytes) where
   only-location = refl
 
   -- what is put at the end is what rule 21 gives
-  pub end-means : (F : List Bytes) (slots : List Bool) → Slots (bookIn t) F slots → (rest : List Break) → endBreaks slots (length F + 1) rest ≡ atEnd (endRules (bookIn t)) (ends (bookIn t)) F ++ rest
+  pub end-means : (F : List Bytes) (slots : List Bool) → Slots (bookIn t) F slots → (rest : List Break) → endBreaks (bookIn t) slots (length F + 1) rest ≡ atEnd (endRules (bookIn t)) (ends (bookIn t)) F ++ rest
   unfolding endBreaks atEnd endRules each atCell bookIn mzTab demanded keys bytes same holes piecesFrom entryOf
   end-means F slots h rest =
       rw (
-        entry-means "mzTab-version" 0 only-version refl F slots refl (omega arith) h,
-        entry-means "mzTab-mode" 1 only-mode refl F slots refl (omega arith) h,
-        entry-means "mzTab-type" 2 only-type refl F slots refl (omega arith) h,
-        entry-means "description" 5 only-description refl F slots refl (omega arith) h,
-        run-means "ms_run[n]-location" 16 only-location refl F slots refl (omega arith) h,
+        entry-means "mzTab-version" 0 only-version refl (omega arith) F slots refl h,
+        entry-means "mzTab-mode" 1 only-mode refl (omega arith) F slots refl h,
+        entry-means "mzTab-type" 2 only-type refl (omega arith) F slots refl h,
+        entry-means "description" 5 only-description refl (omega arith) F slots refl h,
+        run-means "ms_run[n]-location" 16 only-location refl (omega arith) F slots refl h,
       ) (go (not (any (hasKey (bookIn t) "mzTab-version") F)) (not (any (hasKey (bookIn t) "mzTab-mode") F)) (not (any (hasKey (bookIn t) "mzTab-type") F)) (not (any (hasKey (bookIn t) "description") F)) (not (any (hasKey (bookIn t) "ms_run[n]-location") F)))
     where
       n : ℕ

@@ -14,9 +14,9 @@ use Rattle.names.specs.declared.Found.the-variants.{Unknown, Known}
 use Rattle.names.proofs.Laws.Known.{same-slot, slot-below}
 use Rattle.text.specs.Lines.{cell}
 use Rattle.rules.specs.Rules.{keyFound, sameKey}
-use Rattle.scan.specs.Machine.{SLOTS, againIn, isSlot, hasSlot, Slots}
+use Rattle.scan.specs.Machine.{againIn, isSlot, hasSlot, Slots}
 use Rattle.scan.proofs.Laws.Rowing.{test-eq}
-use Rattle.book.specs.Book.{Book, keyOf, keyEntries}
+use Rattle.book.specs.Book.{SLOTS, Book, keyOf, keyEntries}
 use Rattle.book.proofs.Laws.Sized.{Sized}
 
 -- two tests that agree on every element
@@ -27,36 +27,38 @@ any-alike f g h (x ∷ xs) = rw (h x, any-alike f g h xs)
 
 module _ (book : Book) (sized : Sized book) where
   -- KEYS THAT CAME BEFORE: a key has a slot of its own
+  abbrev slot : ℕ → ℕ → ℕ → ℕ
+  slot e i j = slotOf (keyEntries book) e i j
 
   module _ (x : Bytes) (e k f i j : ℕ) (q : keyOf book x ≡ Known e k f i j) where
     -- a key with the same slot is the same
-    slot-equal : (y : Bytes) (e′ k′ f′ i′ j′ : ℕ) → keyOf book y ≡ Known e′ k′ f′ i′ j′ → slotOf e′ i′ j′ ≡ slotOf e i j → x ≡ y
+    slot-equal : (y : Bytes) (e′ k′ f′ i′ j′ : ℕ) → keyOf book y ≡ Known e′ k′ f′ i′ j′ → slot e′ i′ j′ ≡ slot e i j → x ≡ y
     unfolding keyOf
     slot-equal y e′ k′ f′ i′ j′ u s = same-slot (keyEntries book) x y e k f i j e′ k′ f′ i′ j′ q u (sym s)
 
-    slot-key : (y : Bytes) → same x y ≡ isSlot (slotOf e i j) (keyOf book y)
-    slot-key y = test-eq (same x y) (isSlot (slotOf e i j) (keyOf book y)) there (back (keyOf book y) refl)
+    slot-key : (y : Bytes) → same x y ≡ isSlot book (slot e i j) (keyOf book y)
+    slot-key y = test-eq (same x y) (isSlot book (slot e i j) (keyOf book y)) there (back (keyOf book y) refl)
       where
-        there : same x y ≡ true → isSlot (slotOf e i j) (keyOf book y) ≡ true
-        there t = let z : keyOf book y ≡ Known e k f i j = subst (λ (b : Bytes). keyOf book b ≡ Known e k f i j) (same-equal x y t) q in rw z (eq-eqb (slotOf e i j) (slotOf e i j) refl)
+        there : same x y ≡ true → isSlot book (slot e i j) (keyOf book y) ≡ true
+        there t = let z : keyOf book y ≡ Known e k f i j = subst (λ (b : Bytes). keyOf book b ≡ Known e k f i j) (same-equal x y t) q in rw z (eq-eqb (slot e i j) (slot e i j) refl)
 
-        back : (r : Found) → keyOf book y ≡ r → isSlot (slotOf e i j) r ≡ true → same x y ≡ true
+        back : (r : Found) → keyOf book y ≡ r → isSlot book (slot e i j) r ≡ true → same x y ≡ true
         back Unknown u t = absurd (let z : _≡_ {A = ℕ} 0 1 = cc in omega arith)
-        back (Known e′ k′ f′ i′ j′) u t = subst (λ (b : Bytes). same x b ≡ true) (slot-equal y e′ k′ f′ i′ j′ u (eqb-true (slotOf e′ i′ j′) (slotOf e i j) t)) (same-self x)
+        back (Known e′ k′ f′ i′ j′) u t = subst (λ (b : Bytes). same x b ≡ true) (slot-equal y e′ k′ f′ i′ j′ u (eqb-true (slot e′ i′ j′) (slot e i j) t)) (same-self x)
 
-    slot-in : slotOf e i j < SLOTS
+    slot-in : slot e i j < SLOTS
     unfolding keyOf
-    slot-in = omega (arith, slot-below (keyEntries book) x e k f i j q .3, sized .few)
+    slot-in = omega (arith, slot-below (keyEntries book) x e k f i j q .1, sized .slots)
 
   -- a line has the key of l exactly where it has its slot
   module _ (l : Bytes) (above : List Bytes) (slots : List Bool) (h : Slots book above slots) where
-    again-by : (r : Found) → keyFound book l ≡ r → (isKnown r && (not (isColunit (cell 2 l)) && any (sameKey l) above)) ≡ againIn slots (cell 2 l) r
+    again-by : (r : Found) → keyFound book l ≡ r → (isKnown r && (not (isColunit (cell 2 l)) && any (sameKey l) above)) ≡ againIn book slots (cell 2 l) r
     unfolding sameKey hasSlot
     again-by Unknown q = refl
     again-by (Known e k f i j) q =
-        let alike = any-alike (sameKey l) (hasSlot book (slotOf e i j)) (λ m. rw (slot-key (cell 2 l) e k f i j q (cell 2 m))) above in
-        rw (alike, h (slotOf e i j) (slot-in (cell 2 l) e k f i j q))
+        let alike = any-alike (sameKey l) (hasSlot book (slot e i j)) (λ m. rw (slot-key (cell 2 l) e k f i j q (cell 2 m))) above in
+        rw (alike, h (slot e i j) (slot-in (cell 2 l) e k f i j q))
 
     -- rule 6, by slots
-    pub again-means : (isKnown (keyFound book l) && (not (isColunit (cell 2 l)) && any (sameKey l) above)) ≡ againIn slots (cell 2 l) (keyFound book l)
+    pub again-means : (isKnown (keyFound book l) && (not (isColunit (cell 2 l)) && any (sameKey l) above)) ≡ againIn book slots (cell 2 l) (keyFound book l)
     again-means = again-by (keyFound book l) refl

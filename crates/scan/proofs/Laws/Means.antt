@@ -100,7 +100,7 @@ module _ (book : Book) (sized : Sized book) where
           go false false = refl
 
       meta-cells : isThree l ≡ true → (slots : List Bool) (ids : Ids)
-          → (isKnown (keyFound book l) && (not (isColunit (cell 2 l)) && any (sameKey l) above)) ≡ againIn slots (cell 2 l) (keyFound book l)
+          → (isKnown (keyFound book l) && (not (isColunit (cell 2 l)) && any (sameKey l) above)) ≡ againIn book slots (cell 2 l) (keyFound book l)
           → namesUndeclared book file (keyFound book l) (cell 3 l) ≡ undeclaredIn ids (keyFound book l) (cell 3 l)
           → Says (atCell (rules book) p n) (metaCell book slots ids (getD (cells l) 1 []) (getD (cells l) 2 []) cc n) (cells l) 1
       unfolding rules atRest
@@ -184,7 +184,7 @@ module _ (book : Book) (sized : Sized book) where
         (sym (line-cells (atCell (rules book) (spot above l file) n) (λ bs. controlAt (controlCell l) n 1 (when true (breakAt n 1 2) bs)) (plainCell (controlCell l) n) l (unknown-first above file l n e) (unknown-later above file l n e) rest))
 
     pub means-meta : sortOf book l ≡ Meta → (table : Bool) (slots : List Bool) (ids : Ids) → table ≡ any (isTable book) above
-        → (isKnown (keyFound book l) && (not (isColunit (cell 2 l)) && any (sameKey l) above)) ≡ againIn slots (cell 2 l) (keyFound book l)
+        → (isKnown (keyFound book l) && (not (isColunit (cell 2 l)) && any (sameKey l) above)) ≡ againIn book slots (cell 2 l) (keyFound book l)
         → namesUndeclared book file (keyFound book l) (cell 3 l) ≡ undeclaredIn ids (keyFound book l) (cell 3 l)
         → metaBreaks book table slots ids (controlCell l) n (cells l) rest ≡ atLine (rules book) (spot above l file) n ++ rest
     unfolding atLine metaBreaks

@@ -1,4 +1,4 @@
--- `values::is_decimal` meets its contract. Assumes nothing.
+-- `values::is_decimal` meets its contract: a numeral, or one of the two words. Assumes nothing.
 use mathlib.Core.Path.{sym, _∙_}
 use Rattle.values.proofs.Laws.Decimals.{decimal-dotted, decimal-inf, decimal-nan}
 use Rattle.text_bytes.specs.Bytes.{bytes}

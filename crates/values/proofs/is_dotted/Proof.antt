@@ -1,4 +1,4 @@
--- `values::is_dotted` meets its contract. Assumes nothing.
+-- `values::is_dotted` meets its contract: the first dot cuts the text as the definition does. Assumes nothing.
 use Rattle.values.proofs.Laws.Digits.{dotted-good, dotted-bad}
 use mathlib.Core.Path.{sym, _∙_}
 use native.Mathlib.Omega.{arith}

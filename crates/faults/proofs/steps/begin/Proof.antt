@@ -1,4 +1,4 @@
--- `faults::steps::begin` meets its contract. Assumes nothing.
+-- `faults::steps::begin` meets its contract: past the limit nothing is left to report, and else nothing was reported yet. Assumes nothing.
 use mathlib.Core.Path.{refl, sym, ap}
 use mathlib.Core.Bool.{false}
 use borrow.Author.Needs.{needs}
@@ -8,7 +8,7 @@ use Rattle.judging.proofs.Laws.Parting.{midway-start, same-everywhere}
 use Rattle.faults.proofs.Laws.Stepping.{found-none, number-none, number-one, four}
 use Rattle.faults.proofs.steps.begin.Statement.{statement}
 use Rattle.faults.proofs.steps.begin.Tie as tie
-use Rattle.book.specs.Book.{bookOf}
+use Rattle.book.specs.Book.{SLOTS, bookOf}
 use Rattle.book.specs.Text.{bookIn}
 
 returns : tie.Need-returns
@@ -28,7 +28,7 @@ returns-2 c =
     let flags = at-ids .declared-ids .ensures in (
       record {
         number = sym (number-none file limit);
-        going = λ q. record { limit = limit; midway = midway-start _ (first .beginning .ensures) (λ i. same-everywhere 257725 i false); counted = rw (first .beginning .ensures); declared = rw (four (at-ids .declared-ids .result) (flags .shape .families)) flags; columns = refl; keys = length-replicate 257725 false };
+        going = λ q. record { limit = limit; midway = midway-start _ (first .beginning .ensures) (λ i. same-everywhere SLOTS i false); counted = rw (first .beginning .ensures); declared = rw (four (at-ids .declared-ids .result) (flags .shape .families)) flags; columns = refl; keys = length-replicate SLOTS false };
         done = λ q. absurd-bool (sym q);
       },
       (refl, refl),

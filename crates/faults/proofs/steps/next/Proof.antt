@@ -1,4 +1,4 @@
--- `faults::steps::next` meets its contract. Assumes nothing.
+-- `faults::steps::next` meets its contract: the part that was judged is what comes next, cut to what the list has room for. Assumes nothing.
 use mathlib.Core.Path.{_≡_, refl, sym, ap, _∙_}
 use Prim.Native.Nat.{ℕ}
 use native.Mathlib.Omega.{arith}

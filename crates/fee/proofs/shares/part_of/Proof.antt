@@ -1,4 +1,4 @@
--- `fee::shares::part_of` meets its contract. Assumes nothing.
+-- `fee::shares::part_of` meets its contract: the product fits 64 bits, so its quotient and remainder are those of the definition. Assumes nothing.
 use mathlib.Core.Path.{refl}
 use Prim.Native.Nat.{_*_, _^_, _<_}
 use native.Mathlib.Omega.{arith}

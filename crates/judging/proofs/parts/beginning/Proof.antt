@@ -1,4 +1,4 @@
--- `judging::parts::beginning` meets its contract. Assumes nothing.
+-- `judging::parts::beginning` meets its contract: it is the record of the definition, field by field. Assumes nothing.
 use borrow.Author.Needs.{needs}
 use Rattle.judging.proofs.parts.beginning.Statement.{statement}
 use Rattle.judging.proofs.parts.beginning.Tie as tie

@@ -8,7 +8,7 @@ use borrow.Author.Needs.{needs}
 use lib.ListN.{length, drop, length-take, length-drop}
 use Rattle.text.specs.Lines.{lines}
 use Rattle.text_bytes.proofs.Laws.Tests.{absurd-bool}
-use Rattle.scan.specs.Machine.{SLOTS}
+use Rattle.book.specs.Book.{SLOTS}
 use Rattle.rules.specs.Rules.{breaksBy}
 use Rattle.scan.specs.Carried.{Scan, from, last}
 use Rattle.scan.proofs.Laws.Scanning.{scan-step, scan-left, breaks-bound}
@@ -95,7 +95,7 @@ add-judge-end c =
 judge-end-requires : tie.Need-judge-end-requires Inv-loop μ-loop
 judge-end-requires c κs =
     let l = c .before .before .before in
-    (l .loop .inv .7, omega (arith, counts l))
+    (start l .pre .1 .0, (l .loop .inv .7, omega (arith, counts l)))
 
 returns-2 : tie.Need-returns-2 Inv-loop μ-loop
 returns-2 c =

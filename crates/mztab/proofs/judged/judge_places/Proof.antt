@@ -13,7 +13,7 @@ use Rattle.judging.proofs.Laws.Parting.{midway-start, part-whole, same-everywhe
 use Rattle.mztab.proofs.judged.judge_places.Statement.{statement}
 use Rattle.mztab.proofs.judged.judge_places.Tie as tie
 use Rattle.rules.specs.Rules.{breaks}
-use Rattle.book.specs.Book.{bookOf}
+use Rattle.book.specs.Book.{SLOTS, bookOf}
 use Rattle.book.specs.Text.{bookIn}
 use Rattle.book.proofs.Laws.Sized.{book-sized}
 
@@ -25,7 +25,7 @@ judge-part-requires : tie.Need-judge-part-requires
 judge-part-requires c κs =
     let at-ids = c .before .before .before .before .before .before .before in
     let at-book = at-ids .before .before in
-    (omega arith, (at-book .book .ensures, (at-book .before .if1 .left, (midway-start _ (c .before .before .before .before .beginning .ensures) (λ i. same-everywhere 257725 i false), (at-ids .declared-ids .ensures, (refl, (length-replicate 257725 false, length-replicate {A = ℕ} ROOM 0)))))))
+    (omega arith, (at-book .book .ensures, (at-book .before .if1 .left, (midway-start _ (c .before .before .before .before .beginning .ensures) (λ i. same-everywhere SLOTS i false), (at-ids .declared-ids .ensures, (refl, (length-replicate SLOTS false, length-replicate {A = ℕ} ROOM 0)))))))
 
 returns-2 : tie.Need-returns-2
 unfolding judged breaks bookIn bookOf

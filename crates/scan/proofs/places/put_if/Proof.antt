@@ -1,4 +1,4 @@
--- `scan::places::put_if` meets its contract. Assumes nothing.
+-- `scan::places::put_if` meets its contract: a break is counted in any case, and written where its three places are there. Assumes nothing.
 use Prim.Native.Nat.{_+_, _*_}
 use native.Mathlib.Omega.{arith}
 use borrow.Author.Needs.{needs}

@@ -1,4 +1,4 @@
--- `scan::state::after_header` meets its contract. Assumes nothing.
+-- `scan::state::after_header` meets its contract: each field is set as the definition sets it. Assumes nothing.
 use borrow.Author.Needs.{needs}
 use Rattle.scan.proofs.state.after_header.Statement.{statement}
 use Rattle.scan.proofs.state.after_header.Tie as tie
