@@ -4,13 +4,13 @@ use Prim.Native.String.{String}
 use mathlib.Core.Path.{_≡_, refl}
 use mathlib.Core.List.{[], _∷_, map}
 use Rattle.text_bytes.specs.Bytes.{bytes, begins}
-use Rattle.references.specs.Index.{digits, number, bracketed, indexAt}
-use Rattle.names.specs.Names.{piecesFrom, entryOf, fits, firstOf}
+use Rattle.value_references.specs.Index.{digits, number, bracketed, indexAt}
+use Rattle.book_names.specs.Names.{piecesFrom, entryOf, fits, firstOf}
 use Rattle.book.specs.Keys.{keys}
 use Rattle.book.specs.Columns.{proteinColumns, peptideColumns, psmColumns, moleculeColumns, proteinRequired, peptideRequired, psmRequired, moleculeRequired}
 use Rattle.book.specs.Book.{isSection, sectionOf, keyOf, isOpt, optOf, columnOf, mzTab}
-use Rattle.names.specs.declared.Found.{Found}
-use Rattle.names.specs.declared.Found.the-variants.{Unknown, Known}
+use Rattle.book_names.specs.declared.Found.{Found}
+use Rattle.book_names.specs.declared.Found.the-variants.{Unknown, Known}
 
 abbrev key : String → Found
 key name = keyOf mzTab (bytes name)

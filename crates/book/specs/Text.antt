@@ -10,9 +10,9 @@ use lib.ListN.{length, getD, drop}
 use Rattle.text_bytes.specs.Bytes.{Bytes, bytes, SPACE}
 use Rattle.text_bytes.specs.Places.{part}
 use Rattle.text.specs.Lines.{TAB, cells}
-use Rattle.names.specs.Names.{Entry, formOf, spread, startOf}
-use Rattle.names.specs.Table.{WIDTH, entries}
-use Rattle.names.specs.Links.{HEADS, Linked}
+use Rattle.book_names.specs.Names.{Entry, formOf, spread, startOf}
+use Rattle.book_names.specs.Table.{WIDTH, entries}
+use Rattle.book_names.specs.Links.{HEADS, Linked}
 use Rattle.book.specs.Book.{Section, section, Book, noSection, codeIn, entriesOf, keyEntries, mzTab}
 
 -- THE DIRECTORY: the number of the first section, how many there are, and an entry for each table, of which table 0 has the keys and table j + 1 the

@@ -2,7 +2,7 @@
 use crate::directory::directory;
 use crate::directory::links_at;
 use crate::directory::rows_at;
-use names::links::link;
+use book_names::links::link;
 ghost use mathlib.Core.Path.{_≡_};
 ghost use mathlib.Core.List.{_++_};
 ghost use Prim.Native.Nat.{_+_, _≤_};

@@ -5,7 +5,7 @@ use text_bytes::wide;
 ghost use mathlib.Core.Path.{_≡_};
 ghost use Prim.Native.Nat.{_≤_};
 ghost use lib.ListN.{length};
-ghost use Rattle.names.specs.Names.{startOf};
+ghost use Rattle.book_names.specs.Names.{startOf};
 ghost use Rattle.book.specs.Book.{keyEntries};
 ghost use Rattle.book.specs.Text.{bookIn, IsBook};
 

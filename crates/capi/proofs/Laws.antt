@@ -8,7 +8,7 @@ use Rattle.mztab.specs.Shown.{Sought, Placed}
 use Rattle.mztab.specs.declared.cells.Place.{Place}
 use lib.IntN.{ℤ}
 use lib.Ieee.{Float}
-use Rattle.readings.specs.Reading.{numberOf, wholeOf, placesOf, doubleOf}
+use Rattle.value_readings.specs.Reading.{numberOf, wholeOf, placesOf, doubleOf}
 use Rattle.mztab.specs.Readings.{Told, told}
 use Rattle.mztab.specs.declared.records.Reading.{Reading}
 use Rattle.capi.specs.Answers.{CellAt, ReadAs}

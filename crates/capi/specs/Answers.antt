@@ -5,7 +5,7 @@ use lib.ListN.{length, take, drop}
 use Rattle.text_bytes.specs.Bytes.{Bytes}
 use lib.IntN.{ℤ}
 use lib.Ieee.{Float}
-use Rattle.readings.specs.Reading.{numberOf, wholeOf, placesOf, doubleOf}
+use Rattle.value_readings.specs.Reading.{numberOf, wholeOf, placesOf, doubleOf}
 use Rattle.mztab.specs.Shown.{Sought}
 use Rattle.mztab.specs.Readings.{Told}
 

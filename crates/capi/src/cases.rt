@@ -1,7 +1,7 @@
 // What each case of a reading is to a host: its number, and the values that it carries.
-use readings::Value;
+use value_readings::Value;
 ghost use mathlib.Core.Path.{_≡_};
-ghost use Rattle.readings.specs.Reading.{numberOf, wholeOf, placesOf, doubleOf};
+ghost use Rattle.value_readings.specs.Reading.{numberOf, wholeOf, placesOf, doubleOf};
 
 // 0 missing, 1 whole, 2 decimal, 3 infinite, 4 not a number, 5 long decimal, 6 text.
 pub fn number_of(value: Value) -> u32

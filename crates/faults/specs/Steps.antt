@@ -9,7 +9,7 @@ use lib.Dec.{ltb}
 use Rattle.numbers.specs.Numbers.{TOO-LONG}
 use Rattle.text_bytes.specs.Bytes.{Bytes}
 use Rattle.text.specs.Lines.{LIMIT, lines}
-use Rattle.ids.specs.Ids.{Declared}
+use Rattle.book_ids.specs.Ids.{Declared}
 use Rattle.rules.specs.Breaks.{Break}
 use Rattle.rules.specs.Rules.{breaks}
 use Rattle.judging.specs.Parts.{total, Midway}

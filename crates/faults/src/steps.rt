@@ -1,7 +1,7 @@
 // The steps from part to part: each judges as many lines as a part has room for.
 use book::layout::book;
 use book::slots::SLOTS;
-use ids::declared_ids;
+use book_ids::declared_ids;
 use judging::parts::Stand;
 use judging::parts::beginning;
 use judging::parts::judge_part;
@@ -104,7 +104,7 @@ pub fn next(
     let d = s.runs;
     let flags = [a, b, c, d];
     let mut kinds = s.kinds;
-    let mut stamps = [0u32; stamps::ROOM];
+    let mut stamps = [0u32; line_head_stamps::ROOM];
     let stand = judge_part(
         places,
         FULL,

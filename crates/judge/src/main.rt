@@ -1,5 +1,5 @@
 // Judges the file on standard input: OK, or FAULTS with the breaks; TOO LONG beyond 65,536 bytes.
-use report::print_judged;
+use judge_report::print_judged;
 
 // What the program takes of standard input.
 const MOST: usize = 65536;

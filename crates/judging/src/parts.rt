@@ -1,6 +1,6 @@
 // Judging a file in parts, each of as many breaks as a lent list has room for, or in one.
-use anyline::judge_line;
-use ending::judge_end;
+use line_any::judge_line;
+use line_end::judge_end;
 use scan::state::State;
 use scan::state::start;
 use text::lines::line_at;
@@ -10,9 +10,9 @@ ghost use Prim.Native.Nat.{_≤_};
 ghost use lib.ListN.{length};
 ghost use Rattle.text.specs.Lines.{LIMIT};
 ghost use Rattle.book.specs.Text.{bookIn, IsBook};
-ghost use Rattle.ids.specs.Ids.{Declared};
+ghost use Rattle.book_ids.specs.Ids.{Declared};
 ghost use Rattle.book.specs.Book.{SLOTS};
-ghost use Rattle.stamps.specs.Stamps.{ROOM};
+ghost use Rattle.line_head_stamps.specs.Stamps.{ROOM};
 ghost use Rattle.judging.specs.Parts.{beginning as first, Midway, Parts};
 
 // Where the judging of a file stands: whether there is more to judge, the place of the next line and how many lines are passed, the breaks of the parts

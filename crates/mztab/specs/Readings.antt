@@ -2,8 +2,8 @@
 use Prim.Native.Nat.{ℕ}
 use mathlib.Core.Bool.{cond}
 use lib.Dec.{eqb}
-use Rattle.readings.specs.Reading.{valueOf}
-use Rattle.readings.specs.declared.Value.the-variants.{Missing}
+use Rattle.value_readings.specs.Reading.{valueOf}
+use Rattle.value_readings.specs.declared.Value.the-variants.{Missing}
 use Rattle.mztab.specs.Shown.{Sought}
 use Rattle.mztab.specs.declared.records.Reading.{Reading}
 

@@ -1,7 +1,7 @@
 // The judging call over plain places.
 use book::layout::book;
 use book::slots::SLOTS;
-use ids::declared_ids;
+use book_ids::declared_ids;
 use judging::parts::beginning;
 use judging::parts::judge_part;
 use numbers::TOO_LONG;
@@ -26,7 +26,7 @@ pub fn judge_places(file: &[u8], places: &mut [u32], number: &mut u32) -> u32
     let flags = declared_ids(&rows, file);
     let mut kinds = [0u8; 256];
     let mut slots = [false; SLOTS];
-    let mut stamps = [0u32; stamps::ROOM];
+    let mut stamps = [0u32; line_head_stamps::ROOM];
     let whole = judge_part(
         places,
         ALL,

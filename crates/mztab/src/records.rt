@@ -1,5 +1,5 @@
 // The records that calls give back.
-use readings::Value;
+use value_readings::Value;
 
 // A cell's line and number, and what it says.
 pub struct Reading {

@@ -4,19 +4,19 @@ use mathlib.Core.Bool.{Bool, true, false, _&&_}
 use mathlib.Core.List.{List, [], _∷_, _++_}
 use Prim.Native.Nat.{ℕ}
 use lib.Dec.{eqb}
-use Rattle.kinds.specs.Cases.{Case, isA, agrees, cases}
+use Rattle.book_kinds.specs.Cases.{Case, isA, agrees, cases}
 use Rattle.text_bytes.specs.Bytes.{Bytes, bytes, same, begins, isEmpty, any, all, onFirst, splitOn, isSpace}
 use Rattle.text.specs.Lines.{lines, startsLf, coded, cell, isField, control, firstControl}
-use Rattle.references.specs.Index.{written, digits, number, bracketed, indexAt}
+use Rattle.value_references.specs.Index.{written, digits, number, bracketed, indexAt}
 use Rattle.values.specs.Values.{areDigits, unsigned, dotted, isText, isWhole, isNumeral, isDecimal, isDecimals, isWindow, isNull}
-use Rattle.parameters.specs.Parameters.{quotedAfter, cut, hasFields, isParameter, isParameters}
-use Rattle.names.specs.Names.{piecesFrom, entryOf, fits, firstOf}
+use Rattle.value_parameters.specs.Parameters.{quotedAfter, cut, hasFields, isParameter, isParameters}
+use Rattle.book_names.specs.Names.{piecesFrom, entryOf, fits, firstOf}
 use Rattle.book.specs.Keys.{keys, demanded, isColunit}
 use Rattle.book.specs.Columns.{proteinColumns, peptideColumns, psmColumns, moleculeColumns, proteinRequired, peptideRequired, psmRequired, moleculeRequired}
 use Rattle.book.specs.Book.{mzTab, bookOf, isSection, sectionOf, codedFrom, keyOf, isOpt, optOf, columnOf}
-use Rattle.ids.specs.Ids.{declares}
-use Rattle.references.specs.References.{refTo, trimmed, refsTo, isReferences}
-use Rattle.kinds.specs.Kinds.{familyNumber, isKept, isFixed, ofKind, cellOfKind}
+use Rattle.book_ids.specs.Ids.{declares}
+use Rattle.value_references.specs.References.{refTo, trimmed, refsTo, isReferences}
+use Rattle.book_kinds.specs.Kinds.{familyNumber, isKept, isFixed, ofKind, cellOfKind}
 use Rattle.rules.specs.Sorts.{codeSort, sortOf, isSilent}
 use Rattle.rules.specs.Breaks.{Break, breakAt, each, atCell, atLine, inLines, atEnd}
 use Rattle.rules.specs.Rules.{sameKey, namedIn, isUndeclared, lacksColumn, nearestIn, rules, hasKey, endRules, breaksBy, breaks}

@@ -10,12 +10,12 @@ use Rattle.text.specs.Lines.{lines, cells, cell, width, isMeta, isThree, isFiel
 use Rattle.book.specs.Keys.{isColunit}
 use Rattle.book.specs.Book.{Book, sectionOf, keyOf, isOpt, columnOf, bookOf}
 use Rattle.book.specs.Letters.{TEXT, REFERENCE, REFERENCES, NONE}
-use Rattle.names.specs.Names.{isKnown}
-use Rattle.ids.specs.Ids.{declares}
-use Rattle.references.specs.References.{refTo, refsTo}
-use Rattle.kinds.specs.Kinds.{ofKind, cellOfKind, familyNumber, wordOf}
-use Rattle.names.specs.declared.Found.{Found}
-use Rattle.names.specs.declared.Found.the-variants.{Unknown, Known}
+use Rattle.book_names.specs.Names.{isKnown}
+use Rattle.book_ids.specs.Ids.{declares}
+use Rattle.value_references.specs.References.{refTo, refsTo}
+use Rattle.book_kinds.specs.Kinds.{ofKind, cellOfKind, familyNumber, wordOf}
+use Rattle.book_names.specs.declared.Found.{Found}
+use Rattle.book_names.specs.declared.Found.the-variants.{Unknown, Known}
 use Rattle.rules.specs.Sorts.{header, row, isHeader, isRow, isTable, isUnknown, controlCell}
 use Rattle.rules.specs.Breaks.{Break, Spot, Rule, rule, inLines, atEnd}
 

@@ -10,11 +10,11 @@ use Rattle.text_bytes.specs.Bytes.{Bytes, same, isEmpty, any}
 use Rattle.book.specs.Letters.{NONE}
 use Rattle.book.specs.Keys.{isColunit}
 use Rattle.book.specs.Book.{SLOTS, Book, keyOf, keyEntries, isOpt, columnOf}
-use Rattle.names.specs.Names.{slotOf, isKnown}
-use Rattle.ids.specs.Ids.{declares}
-use Rattle.kinds.specs.Kinds.{ofKind, cellOfKind, familyNumber}
-use Rattle.names.specs.declared.Found.{Found}
-use Rattle.names.specs.declared.Found.the-variants.{Unknown, Known}
+use Rattle.book_names.specs.Names.{slotOf, isKnown}
+use Rattle.book_ids.specs.Ids.{declares}
+use Rattle.book_kinds.specs.Kinds.{ofKind, cellOfKind, familyNumber}
+use Rattle.book_names.specs.declared.Found.{Found}
+use Rattle.book_names.specs.declared.Found.the-variants.{Unknown, Known}
 use Rattle.text.specs.Lines.{width, isField}
 use Rattle.rules.specs.Sorts.{header}
 use Rattle.rules.specs.Breaks.{Break, breakAt, when}

@@ -5,7 +5,7 @@ use mathlib.Core.List.{List, [], _∷_}
 use lib.ListN.{length}
 use lib.Dec.{eqb, leb}
 use Rattle.text_bytes.specs.Bytes.{Bytes, BAR, is, isEmpty, all, splitOn}
-use Rattle.references.specs.Index.{isDigit}
+use Rattle.value_references.specs.Index.{isDigit}
 
 abbrev pub MINUS : ℕ
 MINUS = 45

@@ -4,7 +4,7 @@ use text_bytes::same_bytes;
 use text_bytes::seek;
 ghost use mathlib.Core.Path.{_≡_};
 ghost use Rattle.text_bytes.specs.Bytes.{splitOn};
-ghost use Rattle.references.specs.Index.{isDigit};
+ghost use Rattle.value_references.specs.Index.{isDigit};
 ghost use Rattle.values.specs.Values.{DOT as dot, areDigits, unsigned, dotted, isText, isWhole, isDecimal, isDecimals, isWindow, isNull};
 
 pub const MINUS: u8 = b'-';

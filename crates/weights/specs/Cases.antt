@@ -3,7 +3,7 @@ use mathlib.Core.Path.{_≡_, refl}
 use Rattle.text_bytes.specs.Bytes.{Bytes, bytes, same, onFirst, splitOn, count}
 use Rattle.text.specs.Lines.{lines, startsLf, coded}
 use Rattle.book.specs.Book.{codeFor, bookOf, isSection, mzTab, sectionOf}
-use Rattle.references.specs.Index.{written}
+use Rattle.value_references.specs.Index.{written}
 use Rattle.rows.specs.Rows.{numbered, having, rowOf, placeOf, columnOf}
 use Rattle.weights.specs.Weights.{hasIn, weightOf}
 

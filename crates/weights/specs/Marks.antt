@@ -8,7 +8,7 @@ use lib.Dec.{eqb}
 use Rattle.text_bytes.specs.Bytes.{Bytes, is}
 use Rattle.text.specs.Lines.{LIMIT, cells, coded}
 use Rattle.book.specs.Book.{rowCode, mzTab}
-use Rattle.references.specs.References.{refTo}
+use Rattle.value_references.specs.References.{refTo}
 use Rattle.fee.specs.Sums.{bit}
 use Rattle.weights.specs.Weights.{PROTEIN, WORD, VARIABLES}
 use Rattle.weights.specs.declared.Marks.{Marks}

@@ -10,7 +10,7 @@ use Rattle.numbers.specs.Numbers.{TOO-LONG, NOT-ACCEPTED, NOT-AS-MANY}
 use Rattle.text_bytes.specs.Bytes.{Bytes, bytes, is, count}
 use Rattle.text.specs.Lines.{LIMIT, lines, coded}
 use Rattle.book.specs.Book.{rowCode, mzTab}
-use Rattle.references.specs.Index.{written}
+use Rattle.value_references.specs.Index.{written}
 use Rattle.rows.specs.Rows.{headerOf, columnNamed, columnOf}
 use Rattle.rules.specs.Rules.{isAccepted}
 use Rattle.fee.specs.Sums.{listTo}

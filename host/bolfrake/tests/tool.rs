@@ -329,8 +329,8 @@ fn files_that_cannot_be_judged() {
 
 /// The files of a run test, each with the breaks that the independent reading wrote for it.
 fn stored() -> Vec<(&'static [u8], Vec<String>)> {
-    let files: &[u8] = include_bytes!("../../../crates/judges_run/stdin");
-    let outputs = include_str!("../../../crates/judges_run/stdout").split(".\n");
+    let files: &[u8] = include_bytes!("../../../crates/test_judges/stdin");
+    let outputs = include_str!("../../../crates/test_judges/stdout").split(".\n");
     let breaks = outputs.map(|output| output.lines().skip(1).map(str::to_string).collect());
     let mut stored: Vec<_> = files.split(|byte| *byte == 30).zip(breaks).collect();
     // Nothing stands after the last end.

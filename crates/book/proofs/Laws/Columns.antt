@@ -9,9 +9,9 @@ use borrow.Author.Tests.{lt-ltb, le-ltb}
 use Rattle.text_bytes.specs.Bytes.{Bytes, bytes, all}
 use Rattle.text_bytes.proofs.Laws.Begins.{begins-short}
 use Rattle.text_bytes.proofs.Laws.Tests.{and-both}
-use Rattle.names.specs.Names.{Entry, piecesFrom, entryOf, firstOf, lookupIn}
-use Rattle.names.specs.declared.Found.the-variants.{Unknown, Known}
-use Rattle.names.proofs.Laws.Lengths.{textOf, isLong, first-short}
+use Rattle.book_names.specs.Names.{Entry, piecesFrom, entryOf, firstOf, lookupIn}
+use Rattle.book_names.specs.declared.Found.the-variants.{Unknown, Known}
+use Rattle.book_names.proofs.Laws.Lengths.{textOf, isLong, first-short}
 use Rattle.book.specs.Columns.{proteinColumns, peptideColumns, psmColumns, moleculeColumns}
 use Rattle.book.specs.Book.{Section, Book, noSection, isSection, sectionOf, entriesOf, isOpt, optOf, columnEntries, columnOf, mzTab}
 use Rattle.book.specs.Text.{bookIn}

@@ -11,9 +11,9 @@ use borrow.Author.Tests.{leb-true, ltb-true, le-leb, lt-leb, le-ltb, lt-ltb}
 use Rattle.text_bytes.specs.Bytes.{Bytes, bytes, same}
 use Rattle.text_bytes.specs.Places.{part}
 use Rattle.text_bytes.proofs.Laws.Tests.{and-both}
-use Rattle.names.specs.Names.{lookupIn}
-use Rattle.names.specs.Table.{entries}
-use Rattle.names.specs.Links.{Linked}
+use Rattle.book_names.specs.Names.{lookupIn}
+use Rattle.book_names.specs.Table.{entries}
+use Rattle.book_names.specs.Links.{Linked}
 use Rattle.book.specs.Keys.{keys}
 use Rattle.book.specs.Columns.{proteinColumns, peptideColumns, psmColumns, moleculeColumns, proteinRequired, peptideRequired, psmRequired, moleculeRequired}
 use Rattle.book.specs.Book.{Section, Book, noSection, isSection, sectionOf, codeFor, codeIn, codedFrom, sectionBy, entriesOf, columnEntries, mzTab}

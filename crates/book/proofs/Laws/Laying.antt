@@ -15,10 +15,10 @@ use Rattle.text_bytes.specs.Bytes.{Bytes, bytes, splitOn, onFirst}
 use Rattle.text_bytes.specs.Places.{part}
 use Rattle.text.specs.Lines.{cells}
 use Rattle.text_bytes.proofs.Laws.Parts.{drop-take}
-use Rattle.names.specs.Names.{entryOf, piecesFrom, startOf}
-use Rattle.names.specs.Table.{cut, rows, entries}
-use Rattle.names.specs.Links.{Linked, Links}
-use Rattle.names.proofs.Laws.Linking.{entry-count, linked-part}
+use Rattle.book_names.specs.Names.{entryOf, piecesFrom, startOf}
+use Rattle.book_names.specs.Table.{cut, rows, entries}
+use Rattle.book_names.specs.Links.{Linked, Links}
+use Rattle.book_names.proofs.Laws.Linking.{entry-count, linked-part}
 use Rattle.book.specs.Keys.{keys}
 use Rattle.book.specs.Columns.{proteinColumns, peptideColumns, psmColumns, moleculeColumns, proteinRequired, peptideRequired, psmRequired, moleculeRequired}
 use Rattle.book.specs.Book.{Section, noSection, codeIn, entriesOf, keyEntries, mzTab}

@@ -6,7 +6,7 @@ use native.Mathlib.Omega.{arith}
 use lib.ListN.{length}
 use borrow.Author.Tests.{leb-true}
 use Rattle.text_bytes.specs.Bytes.{Bytes, bytes}
-use Rattle.names.specs.Names.{entryOf, piecesFrom, spread, startOf}
+use Rattle.book_names.specs.Names.{entryOf, piecesFrom, spread, startOf}
 use Rattle.book.specs.Keys.{keys, demanded}
 use Rattle.book.specs.Book.{SECTIONS, SLOTS, Book, keyEntries, mzTab, bookOf}
 use Rattle.book.specs.Text.{bookIn}

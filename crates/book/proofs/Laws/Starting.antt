@@ -7,7 +7,7 @@ use native.Mathlib.Omega.{arith}
 use lib.ListN.{length, getD}
 use lib.Seq.{getD-append-add}
 use Rattle.text_bytes.specs.Bytes.{Bytes}
-use Rattle.names.specs.Names.{Entry, formOf, spread, startOf}
+use Rattle.book_names.specs.Names.{Entry, formOf, spread, startOf}
 use Rattle.book.specs.Text.{numberAt, two, startsFrom}
 
 number-two : (n : ℕ) (t : Bytes) → numberAt (two n ++ t) 0 ≡ n

@@ -5,7 +5,7 @@ use mathlib.Core.Path.{ap, sym, _∙_}
 use mathlib.Core.List.{List}
 use Prim.Native.Nat.{ℕ, _-_, _<_}
 use lib.ListN.{length}
-use Rattle.names.specs.Names.{Entry, lookupIn}
+use Rattle.book_names.specs.Names.{Entry, lookupIn}
 use Rattle.book.specs.Text.{bookIn}
 use Rattle.book.proofs.Laws.Columns.{columns-none}
 use Rattle.book.proofs.Laws.Directing.{section-below, section-past, columns-at}

@@ -2,7 +2,7 @@
 use borrow.Author.Needs.{needs}
 use mathlib.Core.Path.{ap, _∙_}
 use mathlib.Core.List.{List}
-use Rattle.names.specs.Names.{Entry, lookupIn}
+use Rattle.book_names.specs.Names.{Entry, lookupIn}
 use Rattle.book.specs.Book.{keyOf}
 use Rattle.book.proofs.key.Statement.{statement}
 use Rattle.book.proofs.key.Tie as tie

@@ -8,7 +8,7 @@ use lib.Seq.{take-all}
 use lib.ListN.{length}
 use Rattle.text_bytes.specs.Bytes.{Bytes}
 use Rattle.text.specs.Lines.{lines}
-use Rattle.ids.specs.Ids.{Declared}
+use Rattle.book_ids.specs.Ids.{Declared}
 use Rattle.scan.specs.Machine.{Slots, idsOf, endBreaks}
 use Rattle.scan.specs.Carried.{Scan, from, last}
 use Rattle.scan.specs.declared.state.State.{State}
@@ -16,7 +16,7 @@ use Rattle.scan.proofs.Laws.Lining.{Knows}
 use Rattle.scan.proofs.Laws.Ending.{end-means}
 use Rattle.scan.proofs.Laws.Scanning.{scan-all, scan-last}
 use Rattle.scan.proofs.Laws.Families.{column-ids}
-use Rattle.metavalues.proofs.Laws.Ids.{value-ids, declares-flags}
+use Rattle.line_meta_values.proofs.Laws.Ids.{value-ids, declares-flags}
 use Rattle.book.specs.Text.{bookIn}
 use Rattle.book.proofs.Laws.Sized.{book-sized}
 

@@ -15,8 +15,8 @@ use Rattle.rows.specs.Rows.{Line, lineOf, rowOf, columnOf}
 use Rattle.mztab.specs.Shown.{Sought, refused, refusal, startOf, soughtRow, sought, Shown, given, shown, orElse, Placed}
 use Rattle.mztab.specs.Readings.{told, unread, readingOf}
 use Rattle.mztab.specs.declared.cells.Place.{Place}
-use Rattle.readings.specs.Reading.{valueOf}
-use Rattle.readings.specs.declared.Value.{Value}
+use Rattle.value_readings.specs.Reading.{valueOf}
+use Rattle.value_readings.specs.declared.Value.{Value}
 use Rattle.book.specs.Book.{isSection, bookOf}
 
 -- a refusal's place

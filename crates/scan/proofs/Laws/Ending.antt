@@ -12,10 +12,10 @@ use lib.ListN.{length, getD, drop}
 use borrow.Author.Tests.{eq-eqb, eqb-true}
 use Rattle.text_bytes.specs.Bytes.{Bytes, bytes, same, any, all}
 use Rattle.text_bytes.proofs.Laws.Tests.{absurd-bool}
-use Rattle.names.specs.Names.{Entry, piecesFrom, entryOf, slotOf, formOf}
-use Rattle.names.specs.declared.Found.{Found}
-use Rattle.names.specs.declared.Found.the-variants.{Unknown, Known}
-use Rattle.names.proofs.Laws.Known.{holes, nth, Of, known-of, slot-apart, slot-inside}
+use Rattle.book_names.specs.Names.{Entry, piecesFrom, entryOf, slotOf, formOf}
+use Rattle.book_names.specs.declared.Found.{Found}
+use Rattle.book_names.specs.declared.Found.the-variants.{Unknown, Known}
+use Rattle.book_names.proofs.Laws.Known.{holes, nth, Of, known-of, slot-apart, slot-inside}
 use Rattle.text.specs.Lines.{isField}
 use Rattle.rules.specs.Breaks.{Break, breakAt, when, each, atCell, atEnd}
 use Rattle.rules.specs.Rules.{keyFound, isForm, hasKey, endRules, ends}

@@ -11,11 +11,11 @@ use Rattle.text_bytes.specs.Bytes.{Bytes, bytes, all}
 use Rattle.text_bytes.proofs.Laws.Tests.{and-both}
 use Rattle.text_bytes.proofs.Laws.Each.{all-at}
 use Rattle.book.specs.Letters.{NONE}
-use Rattle.names.specs.Names.{Entry, entry, entryOf, familyOf, formOf, piecesFrom, lookupIn}
-use Rattle.kinds.specs.Kinds.{familyNumber}
-use Rattle.names.specs.declared.Found.{Found}
-use Rattle.names.specs.declared.Found.the-variants.{Unknown, Known}
-use Rattle.names.proofs.Laws.Known.{holes, nth, Shape, known}
+use Rattle.book_names.specs.Names.{Entry, entry, entryOf, familyOf, formOf, piecesFrom, lookupIn}
+use Rattle.book_kinds.specs.Kinds.{familyNumber}
+use Rattle.book_names.specs.declared.Found.{Found}
+use Rattle.book_names.specs.declared.Found.the-variants.{Unknown, Known}
+use Rattle.book_names.proofs.Laws.Known.{holes, nth, Shape, known}
 use Rattle.rules.specs.Rules.{lastIndex, isUndeclared, columnUndeclared}
 use Rattle.scan.specs.Machine.{Ids, columnIn, Within, Declares}
 use Rattle.book.specs.Book.{isOpt, optOf, columnEntries, columnOf, mzTab}

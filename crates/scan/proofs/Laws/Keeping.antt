@@ -7,11 +7,11 @@ use native.Mathlib.Omega.{arith}
 use borrow.Author.Tests.{eq-eqb, eqb-true}
 use Rattle.text_bytes.specs.Bytes.{Bytes, same, any}
 use Rattle.text_bytes.proofs.Laws.Same.{same-equal, same-self}
-use Rattle.names.specs.Names.{slotOf, isKnown}
+use Rattle.book_names.specs.Names.{slotOf, isKnown}
 use Rattle.book.specs.Keys.{isColunit}
-use Rattle.names.specs.declared.Found.{Found}
-use Rattle.names.specs.declared.Found.the-variants.{Unknown, Known}
-use Rattle.names.proofs.Laws.Known.{same-slot, slot-below}
+use Rattle.book_names.specs.declared.Found.{Found}
+use Rattle.book_names.specs.declared.Found.the-variants.{Unknown, Known}
+use Rattle.book_names.proofs.Laws.Known.{same-slot, slot-below}
 use Rattle.text.specs.Lines.{cell}
 use Rattle.rules.specs.Rules.{keyFound, sameKey}
 use Rattle.scan.specs.Machine.{againIn, isSlot, hasSlot, Slots}

@@ -12,7 +12,7 @@ use Rattle.text_bytes.specs.Bytes.{Bytes, any}
 use Rattle.text.specs.Lines.{cells, cell, width, isThree}
 use Rattle.text_bytes.proofs.Laws.Tests.{and-both}
 use Rattle.book.specs.Keys.{isColunit}
-use Rattle.names.specs.Names.{isKnown}
+use Rattle.book_names.specs.Names.{isKnown}
 use Rattle.rules.specs.Sorts.{sortOf, header, isTable, controlCell}
 use Rattle.rules.specs.Breaks.{Break, breakAt, when, Spot, spot, Rule, atCell, atLine}
 use Rattle.rules.specs.Rules.{keyFound, sameKey, namesUndeclared, ofSection, ofLater, isWide, names, columnUndeclared, lacksColumn, nearest, kindIn, rules}

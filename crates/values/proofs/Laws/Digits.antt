@@ -14,7 +14,7 @@ use Rattle.text_bytes.specs.Bytes.{isEmpty, all, splitOn}
 use Rattle.text_bytes.specs.Places.{upTo, Ends}
 use Rattle.text_bytes.proofs.Laws.Pieces.{upTo-le, split-cut, split-last, piece-cut, piece-last}
 use Rattle.text_bytes.proofs.Laws.Each.{split-some, to-end}
-use Rattle.references.specs.Index.{isDigit}
+use Rattle.value_references.specs.Index.{isDigit}
 use Rattle.values.specs.Values.{areDigits, unsigned, dotted, isText, isWhole}
 
 -- what is empty

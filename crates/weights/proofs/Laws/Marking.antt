@@ -12,8 +12,8 @@ use Rattle.text_bytes.specs.Bytes.{Bytes, bytes, begins}
 use Rattle.text_bytes.specs.Places.{part, Ends}
 use Rattle.text.specs.Lines.{TAB, cells}
 use Rattle.text_bytes.proofs.Laws.Pieces.{piece-cut, piece-last}
-use Rattle.references.specs.References.{refTo}
-use Rattle.references.proofs.Laws.Names.{ref-le}
+use Rattle.value_references.specs.References.{refTo}
+use Rattle.value_references.proofs.Laws.Names.{ref-le}
 use Rattle.scan.proofs.Laws.Celling.{cell-here}
 use Rattle.judging.proofs.Laws.Parting.{same-everywhere}
 use Rattle.weights.specs.Weights.{WORD}

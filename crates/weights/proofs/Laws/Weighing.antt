@@ -14,8 +14,8 @@ use Rattle.text.specs.Lines.{LIMIT, lines, cells, coded}
 use Rattle.book.specs.Book.{headerCode, rowCode, mzTab, isSection, sectionOf, bookOf}
 use Rattle.text_bytes.proofs.Laws.Same.{same-equal, same-self}
 use Rattle.text.proofs.Laws.Counts.{count-most, count-less, lines-most}
-use Rattle.references.specs.References.{refTo}
-use Rattle.references.proofs.Laws.Names.{ref-read, ref-written}
+use Rattle.value_references.specs.References.{refTo}
+use Rattle.value_references.proofs.Laws.Names.{ref-read, ref-written}
 use Rattle.rows.specs.Rows.{Line, rowOf, textOf, headerOf, placeOf, columnNamed, columnOf}
 use Rattle.rows.proofs.Laws.Rowing.{header-line}
 use Rattle.rules.specs.Sorts.{isHeader}

@@ -2,7 +2,7 @@
 use native.Mathlib.Omega.{arith}
 use borrow.Author.Needs.{needs}
 use Rattle.text_bytes.specs.Bytes.{bytes}
-use Rattle.references.proofs.Laws.Names.{ref-le}
+use Rattle.value_references.proofs.Laws.Names.{ref-le}
 use Rattle.weights.specs.Weights.{WORD}
 use Rattle.weights.specs.Marks.{variableOf}
 use Rattle.weights.proofs.variable_of.Statement.{statement}

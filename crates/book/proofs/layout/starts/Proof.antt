@@ -1,7 +1,7 @@
 -- `book::starts`: the numbers of the code are where the names of the paper's keys begin, computed. Assumes nothing.
 use mathlib.Core.Path.{refl}
 use Rattle.text_bytes.specs.Bytes.{bytes}
-use Rattle.names.specs.Names.{entryOf, piecesFrom, spread}
+use Rattle.book_names.specs.Names.{entryOf, piecesFrom, spread}
 use Rattle.book.specs.Keys.{keys}
 use Rattle.book.specs.Book.{mzTab}
 use Rattle.book.specs.Text.{startsFrom}

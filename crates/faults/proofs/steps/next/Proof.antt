@@ -8,7 +8,7 @@ use Rattle.rules.specs.Rules.{breaksBy}
 use Rattle.scan.specs.Places.{Lent}
 use Rattle.scan.proofs.Laws.Placing.{placed-length}
 use Rattle.scan.proofs.Laws.Scanning.{breaks-bound}
-use Rattle.stamps.specs.Stamps.{ROOM}
+use Rattle.line_head_stamps.specs.Stamps.{ROOM}
 use Rattle.judging.specs.Parts.{total}
 use Rattle.faults.proofs.Laws.Stepping.{found-all, step-moves, step-less}
 use Rattle.faults.proofs.steps.next.Statement.{statement}

@@ -12,7 +12,7 @@ use Rattle.book.specs.Book.{SLOTS}
 use Rattle.rules.specs.Rules.{breaksBy}
 use Rattle.scan.specs.Carried.{Scan, from, last}
 use Rattle.scan.proofs.Laws.Scanning.{scan-step, scan-left, breaks-bound}
-use Rattle.stamps.specs.Stamps.{ROOM}
+use Rattle.line_head_stamps.specs.Stamps.{ROOM}
 use Rattle.judging.proofs.Laws.Parting.{Parted, parted-start, parted-next, parted-all}
 use Rattle.judging.proofs.Laws.Knowing.{flags-know, end-left}
 use Rattle.judging.proofs.parts.judge_part.Statement.{statement}

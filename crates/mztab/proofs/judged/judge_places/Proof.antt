@@ -8,7 +8,7 @@ use borrow.Author.Tests.{lt-ltb, le-ltb}
 use lib.ListN.{length, length-replicate}
 use Rattle.text.specs.Lines.{LIMIT}
 use Rattle.mztab.specs.Judged.{judged, ended}
-use Rattle.stamps.specs.Stamps.{ROOM}
+use Rattle.line_head_stamps.specs.Stamps.{ROOM}
 use Rattle.judging.proofs.Laws.Parting.{midway-start, part-whole, same-everywhere}
 use Rattle.mztab.proofs.judged.judge_places.Statement.{statement}
 use Rattle.mztab.proofs.judged.judge_places.Tie as tie

@@ -1,0 +1,122 @@
+// The ids that a file declares.
+use book::key;
+use book_names::Found;
+use text::Part;
+use text::cells::count_cells;
+use text::cells::has_code;
+use text::cells::nth_cell;
+use text::lines::line_at;
+use text_bytes::begins_with;
+use value_references::index::Index;
+use value_references::index::read_index;
+ghost use mathlib.Core.Path.{_≡_};
+ghost use Rattle.book.specs.Text.{bookIn, IsBook};
+ghost use Rattle.book_ids.specs.Ids.{indexAfter, idOf, keyId, lineId, marked, Declared};
+
+// An id: its family, 0 sample, 1 assay, 2 study variable, 3 run, and its index.
+pub enum Id {
+    Nothing,
+    Of(usize, usize),
+}
+
+// The index that stands after the word at the front of the name, 0 for none.
+fn index_after(word: &[u8], name: &[u8]) -> usize
+    ensures { λ r. ⌜ r ≡ indexAfter (now (word .entry)) (now (name .entry)) ⌝ }
+{
+    if begins_with(word, name) {
+        let a = word.len();
+        return match read_index(&name[a..]) {
+            Index::Not => 0,
+            Index::Is(v, _) => v,
+        };
+    }
+    0
+}
+
+// The id that the name begins with.
+pub fn id_of(name: &[u8]) -> Id
+    ensures { λ r. ⌜ r ≡ idOf (now (name .entry)) ⌝ }
+{
+    let sample = index_after(b"sample", name);
+    if sample != 0 {
+        return Id::Of(0, sample);
+    }
+    let assay = index_after(b"assay", name);
+    if assay != 0 {
+        return Id::Of(1, assay);
+    }
+    let variable = index_after(b"study_variable", name);
+    if variable != 0 {
+        return Id::Of(2, variable);
+    }
+    let run = index_after(b"ms_run", name);
+    if run != 0 {
+        return Id::Of(3, run);
+    }
+    Id::Nothing
+}
+
+// The id that a known key begins with.
+pub fn key_id(book: &[u8], name: &[u8]) -> Id
+    requires { ⌜ IsBook (now book) ⌝ }
+    ensures { λ r. ⌜ r ≡ keyId (bookIn (now (book .entry))) (now (name .entry)) ⌝ }
+{
+    let id = id_of(name);
+    if let Id::Nothing = id {
+        return Id::Nothing;
+    }
+    match key(book, name) {
+        Found::Unknown => Id::Nothing,
+        Found::Known {
+            entry: _,
+            kind: _,
+            family: _,
+            i: _,
+            j: _,
+        } => id,
+    }
+}
+
+// The id that the line declares.
+pub fn line_id(book: &[u8], line: &[u8]) -> Id
+    requires { ⌜ IsBook (now book) ⌝ }
+    ensures { λ r. ⌜ r ≡ lineId (bookIn (now (book .entry))) (now (line .entry)) ⌝ }
+{
+    if !has_code(line, b"MTD") {
+        return Id::Nothing;
+    }
+    let Part::At(a, e) = nth_cell(line, 1) else {
+        return Id::Nothing;
+    };
+    if count_cells(line) != 3 {
+        return Id::Nothing;
+    }
+    key_id(book, &line[a..e])
+}
+
+// The flags, with that of the id that the line declares.
+fn mark_line(flags: &mut [[bool; 64]; 4], book: &[u8], line: &[u8])
+    requires { ⌜ IsBook (now book) ⌝ }
+    ensures { λ _. ⌜ now (flags .exit) ≡ marked (now (flags .entry)) (lineId (bookIn (now (book .entry))) (now (line .entry))) ⌝ }
+{
+    match line_id(book, line) {
+        Id::Nothing => {}
+        Id::Of(f, i) => flags[f][i - 1] = true,
+    }
+}
+
+// Which ids the file declares: index i of a family at place i - 1. One pass over all lines.
+pub fn declared_ids(book: &[u8], file: &[u8]) -> [[bool; 64]; 4]
+    requires { ⌜ IsBook (now book) ⌝ }
+    ensures { λ r. ⌜ Declared (bookIn (now (book .entry))) r (now (file .entry)) ⌝ }
+{
+    let mut flags = [[false; 64]; 4];
+    let mut at = 0;
+    while at < file.len() {
+        let line = line_at(file, at);
+        let end = line.end;
+        mark_line(&mut flags, book, &file[at..end]);
+        at = line.next;
+    }
+    flags
+}

@@ -1,0 +1,154 @@
+-- One turn of the fitting of a name to a row's pattern, by cases, and what its first two bytes tell. Assumes nothing.
+use Prim.Native.Nat.{ℕ, _+_, _≤_, _<_}
+use mathlib.Core.Path.{_≡_, refl, ap, sym, _∙_}
+use mathlib.Core.Bool.{Bool, true, false, _||_}
+use mathlib.Core.List.{List, [], _∷_}
+use native.Mathlib.Omega.{arith}
+use lib.Dec.{eqb}
+use lib.ListN.{length, getD, drop, drop-of-length-le}
+use lib.Seq.{drop-drop}
+use borrow.Author.Tests.{eq-eqb, ne-eqb, eqb-true, eqb-false}
+use Rattle.text_bytes.proofs.Laws.Pieces.{drop-step}
+use Rattle.value_references.specs.Index.{indexAt}
+use Rattle.value_references.specs.declared.index.Index.the-variants.{Not, Is}
+use Rattle.value_references.proofs.Laws.Indices.{index-unopened}
+use Rattle.text_bytes.proofs.Laws.Tests.{absurd-bool}
+use Rattle.book_names.specs.Names.{Piece, byte, place, pieces, piecesFrom, fits, mayFit}
+use Rattle.book_names.specs.Links.{headOf}
+use Rattle.book_names.specs.declared.Match.{Match}
+use Rattle.book_names.specs.declared.Match.the-variants.{Differs, Fits}
+
+-- PIECES, from a place of the row on
+skip2 : (l : List ℕ) → piecesFrom 2 l ≡ pieces (drop 2 l)
+unfolding piecesFrom
+skip2 [] = refl
+skip2 (x ∷ []) = refl
+skip2 (x ∷ y ∷ l) = refl
+
+module _ (p : List ℕ) (a : ℕ) where
+  at-end : length p ≤ a → pieces (drop a p) ≡ []
+  unfolding piecesFrom
+  at-end h = rw (drop-of-length-le p h)
+
+  pub at-space : a < length p → getD p a 0 ≡ 32 → pieces (drop a p) ≡ []
+  unfolding piecesFrom
+  at-space h e = rw (drop-step p a h, eq-eqb (getD p a 0) 32 e)
+
+  pub at-place : a < length p → getD p a 0 ≡ 91 → pieces (drop a p) ≡ place ∷ pieces (drop (a + 3) p)
+  unfolding piecesFrom
+  at-place h e =
+      let n : a + 1 + 2 ≡ a + 3 = omega arith in
+      let s : getD p a 0 ≡ 32 → ⊥ = λ (z : getD p a 0 ≡ 32). omega arith in
+      rw (drop-step p a h, ne-eqb (getD p a 0) 32 s, eq-eqb (getD p a 0) 91 e)
+      (ap (λ (l : List Piece). place ∷ l) (skip2 (drop (a + 1) p) ∙ ap pieces (drop-drop 2 (a + 1) p ∙ ap (λ (k : ℕ). drop k p) n)))
+
+  pub at-byte : a < length p → (getD p a 0 ≡ 32 → ⊥) → (getD p a 0 ≡ 91 → ⊥) → pieces (drop a p) ≡ byte (getD p a 0) ∷ pieces (drop (a + 1) p)
+  unfolding piecesFrom
+  at-byte h s n = rw (drop-step p a h, ne-eqb (getD p a 0) 32 s, ne-eqb (getD p a 0) 91 n)
+
+-- FITTING: what is left of the row and of the name decides
+abbrev pub rest : List ℕ → List ℕ → ℕ → ℕ → ℕ → ℕ → Match
+rest p s a b i j = fits (pieces (drop a p)) (drop b s) i j
+
+pub ended-long : (s : List ℕ) (b i j : ℕ) → b < length s → fits [] (drop b s) i j ≡ Differs
+unfolding fits
+ended-long s b i j h = rw (drop-step s b h)
+
+pub ended-here : (s : List ℕ) (b i j : ℕ) → length s ≤ b → fits [] (drop b s) i j ≡ Fits i j
+unfolding fits
+ended-here s b i j h = rw (drop-of-length-le s h)
+
+module _ (p s : List ℕ) (a b i j : ℕ) where
+  pub rest-end : length p ≤ a → rest p s a b i j ≡ fits [] (drop b s) i j
+  rest-end h = rw (at-end p a h)
+
+  pub rest-space : a < length p → getD p a 0 ≡ 32 → rest p s a b i j ≡ fits [] (drop b s) i j
+  rest-space h e = rw (at-space p a h e)
+
+  module _ (ha : a < length p) (ns : getD p a 0 ≡ 32 → ⊥) (n : getD p a 0 ≡ 91 → ⊥) where
+    pub rest-byte : b < length s → getD s b 0 ≡ getD p a 0 → rest p s a b i j ≡ rest p s (a + 1) (b + 1) i j
+    unfolding fits
+    rest-byte hb e = rw (at-byte p a ha ns n, drop-step s b hb, eq-eqb (getD s b 0) (getD p a 0) e)
+
+    pub rest-other : b < length s → (getD s b 0 ≡ getD p a 0 → ⊥) → rest p s a b i j ≡ Differs
+    unfolding fits
+    rest-other hb e = rw (at-byte p a ha ns n, drop-step s b hb, ne-eqb (getD s b 0) (getD p a 0) e)
+
+    pub rest-short : length s ≤ b → rest p s a b i j ≡ Differs
+    unfolding fits
+    rest-short hb = rw (at-byte p a ha ns n, drop-of-length-le s hb)
+
+  module _ (ha : a < length p) (e : getD p a 0 ≡ 91) where
+    pub rest-not : indexAt (drop b s) ≡ Not → rest p s a b i j ≡ Differs
+    unfolding fits
+    rest-not h = rw (at-place p a ha e, h)
+
+    module _ (v w : ℕ) (h : indexAt (drop b s) ≡ Is v w) where
+      pub rest-first : i ≡ 0 → rest p s a b i j ≡ rest p s (a + 3) (b + w) v j
+      unfolding fits
+      rest-first hi = rw (at-place p a ha e, h, eq-eqb i 0 hi, drop-drop w b s)
+
+      pub rest-second : (i ≡ 0 → ⊥) → j ≡ 0 → rest p s a b i j ≡ rest p s (a + 3) (b + w) i v
+      unfolding fits
+      rest-second hi hj = rw (at-place p a ha e, h, ne-eqb i 0 hi, eq-eqb j 0 hj, drop-drop w b s)
+
+      pub rest-third : (i ≡ 0 → ⊥) → (j ≡ 0 → ⊥) → rest p s a b i j ≡ Differs
+      unfolding fits
+      rest-third hi hj = rw (at-place p a ha e, h, ne-eqb i 0 hi, ne-eqb j 0 hj)
+
+-- THE FIRST BYTES: the text that stands at a place of the row begins with the byte there
+pub head-at : (p : List ℕ) (a : ℕ) → a < length p → headOf (pieces (drop a p)) ≡ getD p a 0
+unfolding headOf
+head-at p a h = go (eqb (getD p a 0) 32) (eqb (getD p a 0) 91) refl refl
+  where
+    go : (s o : Bool) → eqb (getD p a 0) 32 ≡ s → eqb (getD p a 0) 91 ≡ o → headOf (pieces (drop a p)) ≡ getD p a 0
+    go true o es eo = let e = eqb-true (getD p a 0) 32 es in rw (at-space p a h e) (sym e)
+    go false true es eo = let e = eqb-true (getD p a 0) 91 eo in rw (at-place p a h e) (sym e)
+    go false false es eo = rw (at-byte p a h (eqb-false (getD p a 0) 32 es) (eqb-false (getD p a 0) 91 eo))
+
+-- a pattern that begins with another byte than the name does not fit; the empty name counts as a space, which ends a pattern
+pub head-other : (ps : List Piece) (s : List ℕ) → (headOf ps ≡ getD s 0 32 → ⊥) → fits ps s 0 0 ≡ Differs
+unfolding headOf fits
+head-other [] [] n = absurd (n refl)
+head-other [] (x ∷ s) n = refl
+head-other (byte p ∷ ps) [] n = refl
+head-other (byte p ∷ ps) (x ∷ s) n = rw (ne-eqb x p (λ (e : x ≡ p). n (sym e)))
+head-other (place ∷ ps) s n = rw (index-unopened s (λ (e : getD s 0 0 ≡ 91). n (sym (opens s e))))
+  where
+    opens : (s : List ℕ) → getD s 0 0 ≡ 91 → getD s 0 32 ≡ 91
+    opens [] x = absurd (omega arith)
+    opens (y ∷ s) x = x
+
+neither : (a b : Bool) → (a || b) ≡ false → (a ≡ false) × (b ≡ false)
+neither false b h = (refl, h)
+neither true b h = absurd-bool (sym h)
+
+-- the first two bytes tell most names apart
+module _ (p : List ℕ) (a : ℕ) (ha : a + 1 < length p) where
+  second-other : (s : List ℕ) → (getD p a 0 ≡ 32 → ⊥) → (getD p a 0 ≡ 91 → ⊥) → (getD p (a + 1) 0 ≡ 32 → ⊥) → (getD p (a + 1) 0 ≡ 91 → ⊥)
+      → getD p a 0 ≡ getD s 0 32 → (getD p (a + 1) 0 ≡ getD s 1 32 → ⊥) → rest p s a 0 0 0 ≡ Differs
+  second-other [] s1 o1 s2 o2 e ne = absurd (s1 e)
+  second-other (x ∷ []) s1 o1 s2 o2 e ne =
+      rest-byte p (x ∷ []) a 0 0 0 (omega arith) s1 o1 (omega arith) (sym e) ∙ rest-short p (x ∷ []) (a + 1) 1 0 0 ha s2 o2 (omega arith)
+  second-other (x ∷ (y ∷ s)) s1 o1 s2 o2 e ne =
+      rest-byte p (x ∷ (y ∷ s)) a 0 0 0 (omega arith) s1 o1 (omega arith) (sym e)
+      ∙ rest-other p (x ∷ (y ∷ s)) (a + 1) 1 0 0 ha s2 o2 (omega arith) (λ (z : y ≡ getD p (a + 1) 0). ne (sym z))
+
+  pub may-other : (s : List ℕ) → mayFit (getD p (a + 1) 0) (getD s 0 32) (getD s 1 32) ≡ false → rest p s a 0 0 0 ≡ Differs
+  unfolding mayFit
+  may-other s h =
+      let q = getD p (a + 1) 0 in
+      let x = getD s 0 32 in
+      let n1 = neither (eqb q (getD s 1 32)) (eqb q 91 || (eqb q 32 || (eqb x 91 || eqb x 32))) h in
+      let n2 = neither (eqb q 91) (eqb q 32 || (eqb x 91 || eqb x 32)) (n1 .1) in
+      let n3 = neither (eqb q 32) (eqb x 91 || eqb x 32) (n2 .1) in
+      let n4 = neither (eqb x 91) (eqb x 32) (n3 .1) in
+      go (eqb (getD p a 0) x) refl (eqb-false q (getD s 1 32) (n1 .0)) (eqb-false q 91 (n2 .0)) (eqb-false q 32 (n3 .0)) (eqb-false x 91 (n4 .0)) (eqb-false x 32 (n4 .1))
+    where
+      go : (t : Bool) → eqb (getD p a 0) (getD s 0 32) ≡ t → (getD p (a + 1) 0 ≡ getD s 1 32 → ⊥) → (getD p (a + 1) 0 ≡ 91 → ⊥) → (getD p (a + 1) 0 ≡ 32 → ⊥)
+          → (getD s 0 32 ≡ 91 → ⊥) → (getD s 0 32 ≡ 32 → ⊥) → rest p s a 0 0 0 ≡ Differs
+      go false et y o2 s2 o1 s1 =
+          head-other (pieces (drop a p)) s (λ (e : headOf (pieces (drop a p)) ≡ getD s 0 32). eqb-false (getD p a 0) (getD s 0 32) et (sym (head-at p a (omega arith)) ∙ e))
+      go true et y o2 s2 o1 s1 =
+          let e = eqb-true (getD p a 0) (getD s 0 32) et in
+          second-other s (λ (z : getD p a 0 ≡ 32). s1 (sym e ∙ z)) (λ (z : getD p a 0 ≡ 91). o1 (sym e ∙ z)) s2 o2 e y

@@ -1,0 +1,226 @@
+// The column names of a header, each judged by what the book says of it.
+use book::column;
+use book::is_opt;
+use book_kinds::family_number;
+use book_names::Found;
+use line_head_stamps::came_before;
+use scan::places::both;
+use scan::places::either;
+use scan::places::put_if;
+use text::cells::cell_end;
+ghost use mathlib.Core.Path.{_≡_};
+ghost use Prim.Native.Nat.{_+_, _-_, _≤_, _<_};
+ghost use lib.ListN.{length, drop, set};
+ghost use Rattle.text.specs.Lines.{LIMIT, cells};
+ghost use Rattle.book.specs.Text.{bookIn, IsBook};
+ghost use Rattle.book_names.specs.Names.{isKnown};
+ghost use Rattle.book.specs.Book.{columnOf};
+ghost use Rattle.scan.specs.Places.{lent, Puts};
+ghost use Rattle.rules.specs.Rules.{lastIndex, kindIn};
+ghost use Rattle.scan.specs.Machine.{idsOf, columnIn, eachCell, nameCell, headCell, KindsOf, Within, knownBreaks};
+ghost use Rattle.line_head_stamps.specs.Stamps.{ROOM as room};
+
+// The letter of a column that names no id.
+const NO_FAMILY: u8 = b'-';
+
+// Whether the book has the name (12).
+fn is_known(found: Found) -> bool
+    ensures { λ r. ⌜ r ≡ isKnown found ⌝ }
+{
+    match found {
+        Found::Unknown => false,
+        Found::Known {
+            entry: _,
+            kind: _,
+            family: _,
+            i: _,
+            j: _,
+        } => true,
+    }
+}
+
+// The kind of a column's cells: those under an unknown column are text.
+fn kind_in(found: Found) -> u8
+    ensures { λ r. ⌜ r ≡ kindIn found ⌝ }
+{
+    match found {
+        Found::Unknown => b'T',
+        Found::Known {
+            entry: _,
+            kind,
+            family: _,
+            i: _,
+            j: _,
+        } => kind,
+    }
+}
+
+// The last of a name's indices, where 0 stands for none.
+fn last_index(i: usize, j: usize) -> usize
+    ensures { λ r. ⌜ r ≡ lastIndex i j ⌝ }
+{
+    if j == 0 {
+        return i;
+    }
+    j
+}
+
+// Whether a known column names an assay, study variable or run that the file does not declare (15).
+fn undeclared(flags: &[[bool; 64]; 4], found: Found) -> bool
+    requires { ⌜ Within found ⌝ }
+    ensures { λ r. ⌜ r ≡ columnIn (idsOf (now (flags .entry))) found ⌝ }
+{
+    match found {
+        Found::Unknown => false,
+        Found::Known {
+            entry: _,
+            kind: _,
+            family,
+            i,
+            j,
+        } => {
+            if family == NO_FAMILY {
+                return false;
+            }
+            let f = family_number(family);
+            let last = last_index(i, j);
+            !flags[f][last - 1]
+        }
+    }
+}
+
+// The name in cell c: it is unknown (12), or came before (13).
+fn name_known(
+    places: &mut [u32],
+    count: u32,
+    c: u32,
+    line_no: u32,
+    control: u32,
+    found: Found,
+    again: bool,
+) -> u32
+    requires { ⌜ count ≤ 4294967000 ⌝ }
+    ensures { λ r. ⌜ Puts (knownBreaks again found control «line_no» c) 3 (lent (now (places .entry)) count) (lent (now (places .exit)) r) ⌝ }
+{
+    let known = is_known(found);
+    let k1 = put_if(places, count, control == c, 1, line_no, c);
+    let k2 = put_if(places, k1, !known, 12, line_no, c);
+    put_if(places, k2, again, 13, line_no, c)
+}
+
+// The same, or it is no `opt_` name after one (14), or names an undeclared id (15). `again` and `opt` say whether it, and any `opt_` name, came before.
+fn name_cell(
+    places: &mut [u32],
+    count: u32,
+    name: &[u8],
+    c: u32,
+    line_no: u32,
+    control: u32,
+    found: Found,
+    again: bool,
+    opt: bool,
+    flags: &[[bool; 64]; 4],
+) -> u32
+    requires { ⌜ count ≤ 4294966000 ⌝ }
+    requires { ⌜ Within found ⌝ }
+    ensures { λ r. ⌜ Puts (nameCell again opt (idsOf (now (flags .entry))) found control «line_no» c (now (name .entry))) 5 (lent (now (places .entry)) count) (lent (now (places .exit)) r) ⌝ }
+{
+    let late = both(!is_opt(name), opt);
+    let named = undeclared(flags, found);
+    let k1 = name_known(places, count, c, line_no, control, found, again);
+    let k2 = put_if(places, k1, late, 14, line_no, c);
+    put_if(places, k2, named, 15, line_no, c)
+}
+
+// The name in cell c, looked up once: its breaks are put, and its kind is kept at place c - 1.
+fn head_cell(
+    places: &mut [u32],
+    count: u32,
+    book: &[u8],
+    name: &[u8],
+    c: u32,
+    section: u32,
+    line_no: u32,
+    control: u32,
+    again: bool,
+    opt: bool,
+    flags: &[[bool; 64]; 4],
+    kinds: &mut [u8; 256],
+) -> u32
+    requires { ⌜ count ≤ 4294966000 ⌝ }
+    requires { ⌜ IsBook (now book) ⌝ }
+    requires { ⌜ (0 < c) × (c ≤ 256) ⌝ }
+    requires { ⌜ length (now kinds) ≡ 256 ⌝ }
+    ensures { λ r. ⌜ Puts (nameCell again opt (idsOf (now (flags .entry))) (columnOf (bookIn (now (book .entry))) section (now (name .entry))) control «line_no» c (now (name .entry))) 5 (lent (now (places .entry)) count) (lent (now (places .exit)) r) ⌝ }
+    ensures { λ r. ⌜ now (kinds .exit) ≡ set (now (kinds .entry)) (c - 1) (kindIn (columnOf (bookIn (now (book .entry))) section (now (name .entry)))) ⌝ }
+{
+    let found = column(book, section as usize, name);
+    kinds[(c - 1) as usize] = kind_in(found);
+    name_cell(
+        places,
+        count,
+        name,
+        c,
+        line_no,
+        control,
+        found,
+        again,
+        opt,
+        flags,
+    )
+}
+
+// The column names from cell 2 on, which begins at `from`: their breaks are put, and their kinds kept for the rows.
+pub fn head_cells(
+    places: &mut [u32],
+    count: u32,
+    book: &[u8],
+    line: &[u8],
+    from: usize,
+    section: u32,
+    line_no: u32,
+    control: u32,
+    flags: &[[bool; 64]; 4],
+    kinds: &mut [u8; 256],
+    stamps: &mut [u32],
+) -> u32
+    requires { ⌜ count ≤ 4000000000 ⌝ }
+    requires { ⌜ IsBook (now book) ⌝ }
+    requires { ⌜ (from ≤ length (now line)) × (length (now line) ≤ LIMIT) ⌝ }
+    requires { ⌜ length (cells (drop from (now line))) ≤ 255 ⌝ }
+    requires { ⌜ length (now kinds) ≡ 256 ⌝ }
+    requires { ⌜ length (now stamps) ≡ room ⌝ }
+    ensures { λ r. ⌜ Puts (eachCell (headCell (bookIn (now (book .entry))) section (cells (drop from (now (line .entry)))) (idsOf (now (flags .entry))) control «line_no») 2 (cells (drop from (now (line .entry))))) 1275 (lent (now (places .entry)) count) (lent (now (places .exit)) r) ⌝ }
+    ensures { λ r. ⌜ KindsOf (bookIn (now (book .entry))) section (cells (drop from (now (line .entry)))) (now (kinds .exit)) ⌝ }
+    ensures { λ r. ⌜ length (now (kinds .exit)) ≡ 256 ⌝ }
+    ensures { λ r. ⌜ length (now (stamps .exit)) ≡ room ⌝ }
+{
+    let mut at = from;
+    let mut c: u32 = 2;
+    let mut k = count;
+    let mut opt = false;
+    loop {
+        let e = cell_end(line, at);
+        let again = came_before(stamps, line_no, line, (c - 2) as usize, at, e);
+        k = head_cell(
+            places,
+            k,
+            book,
+            &line[at..e],
+            c,
+            section,
+            line_no,
+            control,
+            again,
+            opt,
+            flags,
+            kinds,
+        );
+        opt = either(opt, is_opt(&line[at..e]));
+        if e == line.len() {
+            return k;
+        }
+        at = e + 1;
+        c += 1;
+    }
+}

@@ -1,0 +1,34 @@
+-- `line_meta_keys::mark` meets its contract: a known key has a slot within the list, and an unknown one none. Assumes nothing.
+use native.Mathlib.Omega.{arith}
+use borrow.Author.Needs.{needs}
+use Rattle.line_meta_keys.proofs.Laws.Slotting.{inside}
+use Rattle.line_meta_keys.proofs.mark.Statement.{statement}
+use Rattle.line_meta_keys.proofs.mark.Tie as tie
+
+slot-of-requires : tie.Need-slot-of-requires
+slot-of-requires c κs =
+    let f = c .before in
+    let start = f .before .before .before .before in
+    let in-slots = inside _ (f .found .given .1) (start .pre .1 .0) in
+    (start .pre .0, (in-slots .0, in-slots .1))
+
+slice-write-slots : tie.Need-slice-write-slots
+slice-write-slots c =
+    let f = c .before .before in
+    let start = f .before .before .before .before in
+    omega (arith, c .slot-of .ensures, inside _ (f .found .given .1) (start .pre .1 .0) .1, start .pre .1 .1)
+
+returns-2 : tie.Need-returns-2
+returns-2 c = rw (c .slot-of .ensures, c .before .before .found .given .1)
+
+pub mark-spec : {M : Type 1} → statement M
+mark-spec =
+    tie.close
+    (tie.spec
+    (λ c. search needs)
+    (λ c. search needs)
+    slot-of-requires
+    slice-write-slots
+    (λ c. search needs)
+    (λ c. search needs)
+    returns-2)

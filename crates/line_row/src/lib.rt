@@ -1,0 +1,116 @@
+// Judging a row: rules 1 and 17 to 20, put into the lent places.
+use book_kinds::cell_of_kind;
+use scan::places::both;
+use scan::places::either;
+use scan::places::put_if;
+use text::cells::cell_end;
+use text::cells::count_cells;
+ghost use Prim.Native.Nat.{_+_, _≤_};
+ghost use lib.ListN.{length, drop};
+ghost use Rattle.text.specs.Lines.{cells};
+ghost use Rattle.scan.specs.Places.{lent, Puts};
+ghost use Rattle.scan.specs.Machine.{eachCell, kindCell, rowCell, rowBreaks, rowFirst};
+
+// A header of more cells has no kinds for its columns.
+const MOST_CELLS: usize = 256;
+
+// Cell c of a row, whose column has the kind: it is empty (19), or not of the kind (20).
+fn row_cell(
+    places: &mut [u32],
+    count: u32,
+    cell: &[u8],
+    c: u32,
+    line_no: u32,
+    control: u32,
+    kind: u8,
+) -> u32
+    requires { ⌜ count ≤ 4294967000 ⌝ }
+    ensures { λ r. ⌜ Puts (kindCell kind control «line_no» c (now (cell .entry))) 3 (lent (now (places .entry)) count) (lent (now (places .exit)) r) ⌝ }
+{
+    let good = cell_of_kind(kind, cell);
+    let empty = cell.len() == 0;
+    let hit = control == c;
+    if !either(hit, either(empty, !good)) {
+        return count;
+    }
+    let k1 = put_if(places, count, hit, 1, line_no, c);
+    let k2 = put_if(places, k1, empty, 19, line_no, c);
+    put_if(places, k2, both(!empty, !good), 20, line_no, c)
+}
+
+// The cells of a row from cell 2 on, which begins at `from`.
+fn row_cells(
+    places: &mut [u32],
+    count: u32,
+    line: &[u8],
+    from: usize,
+    line_no: u32,
+    control: u32,
+    kinds: &[u8; 256],
+) -> u32
+    requires { ⌜ from ≤ length (now line) ⌝ }
+    requires { ⌜ length (cells (drop from (now line))) ≤ 255 ⌝ }
+    requires { ⌜ count ≤ 4000000000 ⌝ }
+    ensures { λ r. ⌜ Puts (eachCell (rowCell (now (kinds .entry)) control «line_no») 2 (cells (drop from (now (line .entry))))) 765 (lent (now (places .entry)) count) (lent (now (places .exit)) r) ⌝ }
+{
+    let mut at = from;
+    let mut c: u32 = 2;
+    let mut k = count;
+    loop {
+        let e = cell_end(line, at);
+        let kind = kinds[(c - 1) as usize];
+        k = row_cell(places, k, &line[at..e], c, line_no, control, kind);
+        if e == line.len() {
+            return k;
+        }
+        at = e + 1;
+        c += 1;
+    }
+}
+
+// Cell 1 of a row: it is not under a header of its section (17), or is and has another number of cells (18).
+fn row_code(
+    places: &mut [u32],
+    count: u32,
+    line_no: u32,
+    control: u32,
+    headed: bool,
+    uneven: bool,
+) -> u32
+    requires { ⌜ count ≤ 4294967000 ⌝ }
+    ensures { λ r. ⌜ Puts (rowFirst headed uneven control «line_no») 3 (lent (now (places .entry)) count) (lent (now (places .exit)) r) ⌝ }
+{
+    let k1 = put_if(places, count, control == 1, 1, line_no, 1);
+    let k2 = put_if(places, k1, !headed, 17, line_no, 1);
+    put_if(places, k2, uneven, 18, line_no, 1)
+}
+
+// The breaks of a row of the section, put after the first `count`; the answer is how many there are then. The nearest header above is of the section
+// `header`, 0 for none, and has `width` cells of these kinds. `control` is the cell of the first control byte, 0 for none.
+pub fn judge_row(
+    places: &mut [u32],
+    count: u32,
+    line: &[u8],
+    section: u32,
+    line_no: u32,
+    control: u32,
+    header: u32,
+    width: usize,
+    kinds: &[u8; 256],
+) -> u32
+    requires { ⌜ count ≤ 3999998000 ⌝ }
+    ensures { λ r. ⌜ Puts (rowBreaks header width (now (kinds .entry)) section control «line_no» (cells (now (line .entry)))) 1300 (lent (now (places .entry)) count) (lent (now (places .exit)) r) ⌝ }
+{
+    let headed = header == section;
+    let under = both(headed, width <= MOST_CELLS);
+    let even = count_cells(line) == width;
+    let k = row_code(places, count, line_no, control, headed, both(under, !even));
+    if !both(under, even) {
+        return put_if(places, k, 1 < control, 1, line_no, control);
+    }
+    let e = cell_end(line, 0);
+    if e == line.len() {
+        return k;
+    }
+    row_cells(places, k, line, e + 1, line_no, control, kinds)
+}

@@ -1,0 +1,204 @@
+-- References, and the indices that a list of them names. Assumes nothing.
+use Prim.Native.Nat.{ℕ, _+_, _-_, _≤_, _<_}
+use mathlib.Core.Path.{_≡_, refl, ap, sym, _∙_}
+use mathlib.Core.Bool.{Bool, true, false, cond, _&&_, _||_, and-assoc, and-true, or-false, or-true, or-assoc}
+use mathlib.Core.List.{List, [], _∷_, _++_, map, append-nil}
+use native.Mathlib.Omega.{arith}
+use borrow.Author.Tests.{eq-eqb, ne-eqb, eqb-true, eqb-false}
+use lib.Dec.{eqb}
+use lib.ListN.{length, take, drop, getD, set, replicate, length-set, drop-of-length-le, getD-replicate}
+use lib.Seq.{drop-append-seam, getD-set-same, getD-set-other}
+use Rattle.text_bytes.specs.Bytes.{begins, any, all, onFirst, splitOn, isSpace}
+use Rattle.text_bytes.specs.Places.{part, Ends}
+use Rattle.text_bytes.proofs.Laws.Begins.{begins-is, begins-self}
+use Rattle.text_bytes.proofs.Laws.Pieces.{drop-step, piece-cut, piece-last}
+use Rattle.value_references.specs.Index.{written, indexAt}
+use Rattle.value_references.specs.References.{alone, refTo, trimmed, spaced, refsTo, isIndex, isReferences, names, Tells}
+use Rattle.value_references.specs.declared.index.Index.{Index}
+use Rattle.value_references.specs.declared.index.Index.the-variants.{Not, Is}
+use Rattle.text_bytes.proofs.Laws.Each.{to-end, split-some}
+use Rattle.value_references.proofs.Laws.Indices.{index-read, index-written}
+
+-- ONE REFERENCE
+
+module _ (w b : List ℕ) where
+  pub ref-none : begins w b ≡ false → refTo w b ≡ 0
+  unfolding refTo
+  ref-none h = rw h
+
+  module _ (h : begins w b ≡ true) (o : Index) (e : o ≡ indexAt (take (length b - length w) (drop (length w) b))) where
+    rest-is : refTo w b ≡ alone o (length (take (length b - length w) (drop (length w) b)))
+    unfolding refTo
+    rest-is = rw (h, e, to-end b (length w))
+
+    pub ref-not : o ≡ Not → refTo w b ≡ 0
+    ref-not n = rest-is ∙ rw n
+
+    pub ref-is : (i v : ℕ) → o ≡ Is i v → v ≡ length (take (length b - length w) (drop (length w) b)) → refTo w b ≡ i
+    ref-is i v n q = rest-is ∙ rw (n, eq-eqb v _ q)
+
+    pub ref-more : (i v : ℕ) → o ≡ Is i v → (v ≡ length (take (length b - length w) (drop (length w) b)) → ⊥) → refTo w b ≡ 0
+    ref-more i v n q = rest-is ∙ rw (n, ne-eqb v _ q)
+
+alone-le : (s : List ℕ) (n : ℕ) (o : Index) → indexAt s ≡ o → alone o n ≤ 64
+alone-le s n Not e = omega arith
+alone-le s n (Is i v) e = go (eqb v n)
+  where
+    go : (t : Bool) → cond t i 0 ≤ 64
+    go true = index-read s i v e .high
+    go false = omega arith
+
+pub ref-le : (w b : List ℕ) → refTo w b ≤ 64
+unfolding refTo
+ref-le w b = go (begins w b)
+  where
+    go : (t : Bool) → cond t (alone (indexAt (drop (length w) b)) (length (drop (length w) b))) 0 ≤ 64
+    go true = alone-le (drop (length w) b) (length (drop (length w) b)) (indexAt (drop (length w) b)) refl
+    go false = omega arith
+
+-- A REFERENCE IS THE WORD AND THE INDEX AS IT IS WRITTEN, and the other way round
+
+alone-read : (r : List ℕ) (i : ℕ) (o : Index) → indexAt r ≡ o → alone o (length r) ≡ i → 1 ≤ i → r ≡ written i
+alone-read r i Not e a h = absurd (omega arith)
+alone-read r i (Is v u) e a h = go (eqb u (length r)) refl a
+  where
+    go : (t : Bool) → eqb u (length r) ≡ t → cond t v 0 ≡ i → r ≡ written i
+    go true q z =
+        let n : drop u r ≡ [] = drop-of-length-le r {i = u} (omega (arith, eqb-true u (length r) q)) in
+        index-read r v u e .text ∙ rw (n, z) (append-nil (written i))
+    go false q z = absurd (omega arith)
+
+pub ref-read : (w b : List ℕ) (i : ℕ) → refTo w b ≡ i → 1 ≤ i → b ≡ w ++ written i
+unfolding refTo
+ref-read w b i e h = go (begins w b) refl e
+  where
+    rest : List ℕ
+    rest = drop (length w) b
+
+    go : (t : Bool) → begins w b ≡ t → cond t (alone (indexAt rest) (length rest)) 0 ≡ i → b ≡ w ++ written i
+    go true q z = begins-is w b q ∙ ap (λ (x : List ℕ). w ++ x) (alone-read rest i (indexAt rest) refl z h)
+    go false q z = absurd (omega arith)
+
+pub ref-written : (w : List ℕ) (i : ℕ) → 1 ≤ i → i ≤ 64 → refTo w (w ++ written i) ≡ i
+unfolding refTo
+ref-written w i lo hi =
+    let n : indexAt (written i) ≡ Is i (length (written i)) = ap indexAt (sym (append-nil (written i))) ∙ index-written i [] lo hi in
+    rw (begins-self w (written i), drop-append-seam w (written i), n, eq-eqb (length (written i)) (length (written i)) refl)
+
+-- SPACES IN FRONT
+
+module _ (l : List ℕ) (i : ℕ) where
+  pub trim-next : i < length l → getD l i 0 ≡ 32 → trimmed (drop i l) ≡ trimmed (drop (i + 1) l)
+  unfolding trimmed isSpace
+  trim-next h e = rw (drop-step l i h, eq-eqb (getD l i 0) 32 e)
+
+  pub trim-stop : i < length l → (getD l i 0 ≡ 32 → ⊥) → trimmed (drop i l) ≡ drop i l
+  unfolding trimmed isSpace
+  trim-stop h e = rw (drop-step l i h, ne-eqb (getD l i 0) 32 e)
+
+  pub trim-end : length l ≤ i → trimmed (drop i l) ≡ drop i l
+  unfolding trimmed
+  trim-end h = rw (drop-of-length-le l h)
+
+-- THE PIECES OF A LIST
+
+-- a space in front goes, and any other byte stays
+front-space : (x : ℕ) (ps : List (List ℕ)) → eqb x 32 ≡ true → (length ps ≡ 0 → ⊥) → map trimmed ps ≡ map trimmed (onFirst x ps)
+unfolding trimmed isSpace onFirst
+front-space x [] e h = absurd (h refl)
+front-space x (p ∷ ps) e h = rw e
+
+front-other : (x : ℕ) (ps : List (List ℕ)) → eqb x 32 ≡ false → spaced (onFirst x ps) ≡ map trimmed (onFirst x ps)
+unfolding trimmed isSpace onFirst
+front-other x [] e = rw e
+front-other x (p ∷ ps) e = rw e
+
+-- spaces in front of a text are those in front of its first piece
+trim-split : (l : List ℕ) → spaced (splitOn 44 (trimmed l)) ≡ map trimmed (splitOn 44 l)
+unfolding trimmed isSpace splitOn
+trim-split [] = refl
+trim-split (x ∷ xs) = go (eqb x 32) refl (trim-split xs)
+  where
+    ps : List (List ℕ)
+    ps = splitOn 44 xs
+
+    other : (t : Bool) → eqb x 32 ≡ false → spaced (cond t ([] ∷ ps) (onFirst x ps)) ≡ map trimmed (cond t ([] ∷ ps) (onFirst x ps))
+    other true e = refl
+    other false e = front-other x ps e
+
+    go : (t : Bool) → eqb x 32 ≡ t → spaced (splitOn 44 (trimmed xs)) ≡ map trimmed ps
+        → spaced (splitOn 44 (cond t (trimmed xs) (x ∷ xs))) ≡ map trimmed (cond (eqb x 44) ([] ∷ ps) (onFirst x ps))
+    go true e ih = ih ∙ rw (ne-eqb x 44 (λ z. omega (arith, eqb-true x 32 e))) (front-space x ps e (split-some 44 xs))
+    go false e ih = other (eqb x 44) e
+
+module _ (w : List ℕ) {s : List ℕ} {at e : ℕ} (h : Ends 44 s at e) where
+  refs-next : (k : ℕ) → e < length s → drop k s ≡ trimmed (drop (e + 1) s) → refsTo w (drop at s) ≡ refTo w (part at e s) ∷ refsTo w (drop k s)
+  unfolding refsTo
+  refs-next k lt q = rw (piece-cut h lt, q) (ap (λ (ps : List (List ℕ)). refTo w (part at e s) ∷ map (refTo w) ps) (sym (trim-split (drop (e + 1) s))))
+
+  refs-last : e ≡ length s → refsTo w (drop at s) ≡ refTo w (part at e s) ∷ []
+  unfolding refsTo
+  refs-last q = rw (piece-last h q)
+
+-- WHAT IS TOLD SO FAR
+
+-- the flags with the index i among them; 0 is none
+abbrev pub marked : List Bool → ℕ → List Bool
+marked t i = cond (eqb i 0) t (set t (i - 1) true)
+
+marked-length : (t : List Bool) (i : ℕ) → length (marked t i) ≡ length t
+marked-length t i = go (eqb i 0)
+  where
+    go : (z : Bool) → length (cond z t (set t (i - 1) true)) ≡ length t
+    go true = refl
+    go false = length-set t (i - 1) true
+
+marked-at : (t : List Bool) (i j : ℕ) → i ≤ length t → 1 ≤ j → getD (marked t i) (j - 1) false ≡ (getD t (j - 1) false || eqb j i)
+marked-at t i j h k = go (eqb i 0) refl (eqb j i) refl
+  where
+    go : (z : Bool) → eqb i 0 ≡ z → (y : Bool) → eqb j i ≡ y → getD (cond z t (set t (i - 1) true)) (j - 1) false ≡ (getD t (j - 1) false || y)
+    go true e true d = absurd (omega (arith, eqb-true i 0 e, eqb-true j i d))
+    go true e false d = sym (or-false (getD t (j - 1) false))
+    go false e true d =
+        let p = eqb-false i 0 e in
+        let z : j - 1 ≡ i - 1 = omega (arith, eqb-true j i d) in
+        rw z (getD-set-same t (i - 1) true false (omega arith) ∙ sym (or-true (getD t (i - 1) false)))
+    go false e false d =
+        let p = eqb-false i 0 e in
+        getD-set-other t (i - 1) (j - 1) true false (λ z. eqb-false j i d (omega arith)) ∙ sym (or-false (getD t (j - 1) false))
+
+pub record SoFar (w s : List ℕ) (at : ℕ) (g : Bool) (t : List Bool) : Type 0 where
+  pub width : length t ≡ 64
+  pub good : isReferences w s ≡ (g && isReferences w (drop at s))
+  pub named : (j : ℕ) → 1 ≤ j → j ≤ 64 → names j w s ≡ (getD t (j - 1) false || names j w (drop at s))
+
+pub told-start : (w s : List ℕ) → SoFar w s 0 true (replicate 64 false)
+told-start w s = record {
+  width = refl;
+  good = refl;
+  named = λ j a b. rw (getD-replicate 64 (j - 1) false false (omega arith));
+}
+
+module _ {w s : List ℕ} {at : ℕ} {g : Bool} {t : List Bool} (f : SoFar w s at g t) {e : ℕ} (h : Ends 44 s at e) (i : ℕ) (r : i ≡ refTo w (part at e s)) where
+  fits : i ≤ length t
+  fits = omega (arith, ref-le w (part at e s), f .width)
+
+  pub told-next : (k : ℕ) (g′ : Bool) (t′ : List Bool) → e < length s → drop k s ≡ trimmed (drop (e + 1) s) → g′ ≡ (g && isIndex i) → t′ ≡ marked t i → SoFar w s k g′ t′
+  unfolding isReferences any all
+  told-next k g′ t′ lt q eg et =
+      let n : refsTo w (drop at s) ≡ i ∷ refsTo w (drop k s) = refs-next w h k lt q ∙ rw r in
+      record {
+        width = ap length et ∙ marked-length t i ∙ f .width;
+        good = f .good ∙ rw (n, eg) (sym (and-assoc g (isIndex i) (all isIndex (refsTo w (drop k s)))));
+        named = λ j a b. f .named j a b ∙ rw (n, et, marked-at t i j fits a) (sym (or-assoc (getD t (j - 1) false) (eqb j i) (any (eqb j) (refsTo w (drop k s)))));
+      }
+
+  pub told-last : (g′ : Bool) (t′ : List Bool) → e ≡ length s → g′ ≡ (g && isIndex i) → t′ ≡ marked t i → Tells w s (record { good = g′; named = t′ })
+  unfolding isReferences any all
+  told-last g′ t′ q eg et =
+      let n : refsTo w (drop at s) ≡ i ∷ [] = refs-last w h q ∙ rw r in
+      record {
+        width = ap length et ∙ marked-length t i ∙ f .width;
+        good = sym (f .good ∙ rw (n, eg, and-true (isIndex i)));
+        named = λ j a b. sym (f .named j a b ∙ rw (n, et, marked-at t i j fits a, or-false (eqb j i)));
+      }

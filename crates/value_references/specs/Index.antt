@@ -1,0 +1,52 @@
+-- An index: 1 to 64, decimal, no leading zero, in square brackets. Assumes nothing.
+use Prim.Native.Nat.{ℕ, _+_, _*_, _-_, _/_, _%_}
+use mathlib.Core.Bool.{Bool, cond, not, _&&_}
+use mathlib.Core.List.{[], _∷_}
+use lib.Dec.{eqb, leb, ltb}
+use lib.ListN.{length, getD, drop}
+use Rattle.text_bytes.specs.Bytes.{Bytes}
+use Rattle.value_references.specs.declared.index.Index.{Index}
+use Rattle.value_references.specs.declared.index.Index.the-variants.{Not, Is}
+
+-- the highest index
+abbrev pub MOST : ℕ
+MOST = 64
+
+-- the index i as it is written: 91 is `[`, 48 is `0`, 93 is `]`
+unfoldable pub written : ℕ → Bytes
+written i = cond (ltb i 10) (91 ∷ (48 + i) ∷ 93 ∷ []) (91 ∷ (48 + i / 10) ∷ (48 + i % 10) ∷ 93 ∷ [])
+
+abbrev pub isDigit : ℕ → Bool
+isDigit x = leb 48 x && leb x 57
+
+-- the digits at the front of a text
+unfoldable pub digits : Bytes → Bytes
+digits [] = []
+digits (x ∷ s) = let r = x ∷ digits s in cond (isDigit x) r []
+
+-- a number with one digit more
+abbrev pub more : ℕ → ℕ → ℕ
+more n d = n * 10 + (d - 48)
+
+-- the number that digits write after n
+unfoldable pub number : ℕ → Bytes → ℕ
+number n [] = n
+number n (d ∷ ds) = number (more n d) ds
+
+-- whether `[`, one digit or more and `]` stand at the front of a text
+unfoldable pub bracketed : Bytes → Bool
+bracketed s =
+    let n = length (digits (drop 1 s)) in
+    eqb (getD s 0 0) 91 && ltb 1 (1 + n) && eqb (getD s (1 + n) 0) 93
+
+-- whether the digits of a bracketed text begin with zero
+abbrev pub beginsZero : Bytes → Bool
+beginsZero s = eqb (getD s 1 0) 48
+
+-- the index at the front of a text, with the number of its bytes
+unfoldable pub indexAt : Bytes → Index
+indexAt s =
+    let ds = digits (drop 1 s) in
+    cond (bracketed s && not (beginsZero s) && leb (number 0 ds) MOST)
+    (Is (number 0 ds) (1 + length ds + 1))
+    Not

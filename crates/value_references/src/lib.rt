@@ -1,0 +1,94 @@
+// References to the ids of a family, and lists of them.
+pub mod index;
+
+use crate::index::Index;
+use crate::index::read_index;
+use text_bytes::COMMA;
+use text_bytes::SPACE;
+use text_bytes::begins_with;
+use text_bytes::seek;
+ghost use mathlib.Core.Path.{_≡_};
+ghost use mathlib.Core.Bool.{true, cond, _&&_};
+ghost use Prim.Native.Nat.{_-_, _≤_};
+ghost use lib.ListN.{length, drop, set};
+ghost use lib.Dec.{eqb};
+ghost use Rattle.value_references.specs.References.{refTo, trimmed, isIndex, Tells};
+
+// How many indices a family has.
+pub const INDICES: usize = 64;
+
+// What a list of references says: whether it is one, and at place i - 1 whether it names the index i.
+pub struct Named {
+    pub good: bool,
+    pub named: [bool; INDICES],
+}
+
+// The index that s refers to, where s is the word and then an index; 0 where it is not.
+pub fn reference(word: &[u8], s: &[u8]) -> usize
+    ensures { λ r. ⌜ r ≡ refTo (now (word .entry)) (now (s .entry)) ⌝ }
+{
+    if !begins_with(word, s) {
+        return 0;
+    }
+    let n = word.len();
+    let rest = &s[n..];
+    let found = read_index(rest);
+    match found {
+        Index::Not => 0,
+        Index::Is(i, w) => { if w == rest.len() { i } else { 0 } }
+    }
+}
+
+// The first place from `from` on where no space stands, or the length.
+fn skip_spaces(s: &[u8], from: usize) -> usize
+    requires { ⌜ from ≤ length (now s) ⌝ }
+    ensures { λ r. ⌜ (from ≤ r) × (r ≤ length (now (s .entry))) × (drop r (now (s .entry)) ≡ trimmed (drop from (now (s .entry)))) ⌝ }
+{
+    let mut i = from;
+    while i < s.len() {
+        if s[i] != SPACE {
+            return i;
+        }
+        i += 1;
+    }
+    i
+}
+
+// Whether all pieces so far, and the one that refers to i, are references.
+fn good_with(good: bool, i: usize) -> bool
+    ensures { λ r. ⌜ r ≡ (good && isIndex i) ⌝ }
+{
+    if i == 0 {
+        return false;
+    }
+    good
+}
+
+// Marks the index i as named; 0 is none.
+fn mark(named: &mut [bool; INDICES], i: usize)
+    requires { ⌜ i ≤ 64 ⌝ }
+    ensures { λ _. ⌜ now (named .exit) ≡ cond (eqb i 0) (now (named .entry)) (set (now (named .entry)) (i - 1) true) ⌝ }
+{
+    if i > 0 {
+        named[i - 1] = true;
+    }
+}
+
+// What the pieces between commas refer to, the spaces after each comma left out.
+pub fn references(word: &[u8], s: &[u8]) -> Named
+    ensures { λ r. ⌜ Tells (now (word .entry)) (now (s .entry)) r ⌝ }
+{
+    let mut good = true;
+    let mut named = [false; INDICES];
+    let mut at = 0;
+    loop {
+        let e = seek(s, at, COMMA);
+        let i = reference(word, &s[at..e]);
+        good = good_with(good, i);
+        mark(&mut named, i);
+        if e == s.len() {
+            return Named { good, named };
+        }
+        at = skip_spaces(s, e + 1);
+    }
+}
