@@ -4,14 +4,14 @@ use Prim.Native.Nat.{ℕ, _+_, _-_}
 use Prim.Native.String.{String}
 use mathlib.Core.Bool.{Bool, true, false, cond, _&&_}
 use mathlib.Core.List.{List, [], _∷_, map}
-use lib.ListN.{length, getD}
+use lib.ListN.{length, getD, drop}
 use lib.Dec.{eqb, leb, ltb}
-use Rattle.text_bytes.specs.Bytes.{Bytes, bytes, is, begins}
+use Rattle.text_bytes.specs.Bytes.{Bytes, bytes, same, is, begins}
 use Rattle.book_names.specs.Names.{Entry, entryOf, lookupIn}
 use Rattle.book_names.specs.declared.Found.{Found}
 use Rattle.book_names.specs.declared.Found.the-variants.{Unknown, Known}
 use Rattle.book.specs.Letters.{TEXT, NONE, OPT}
-use Rattle.book.specs.Keys.{keys, demanded}
+use Rattle.book.specs.Keys.{keys}
 use Rattle.book.specs.Columns.{proteinColumns, peptideColumns, psmColumns, moleculeColumns, proteinRequired, peptideRequired, psmRequired, moleculeRequired}
 
 -- a section: the line codes of its headers and of its rows, its columns, a line each, and those that its header must have
@@ -24,12 +24,34 @@ pub record Section : Type 0 where
 abbrev pub section : String → String → List String → List String → Section
 section header row columns required = record { header = header; row = row; columns = columns; required = required }
 
--- a book: the number of its first section, its sections in their order, its keys, a line each, and those that a file must have
+-- a demand on the metadata: the form of a key that some line must have, the cell of line N + 1 at which its absence is reported, and a letter that says when it
+-- is asked
+pub record Demand : Type 0 where
+  pub form : String
+  pub cell : ℕ
+  pub asked : ℕ
+
+-- * of every file
+abbrev pub ALWAYS : ℕ
+ALWAYS = 42
+
+abbrev pub always : String → ℕ → Demand
+always form cell = record { form = form; cell = cell; asked = ALWAYS }
+
+abbrev pub noDemand : Demand
+noDemand = always "" 0
+
+-- the cell of the last of these, c where there is none
+unfoldable pub lastCell : ℕ → List Demand → ℕ
+lastCell c [] = c
+lastCell c (d ∷ ds) = lastCell (d .cell) ds
+
+-- a book: the number of its first section, its sections in their order, its keys, a line each, and its demands, by rising cells
 pub record Book : Type 0 where
   pub first : ℕ
   pub sections : List Section
   pub keys : List String
-  pub demanded : List String
+  pub demands : List Demand
 
 -- SECTIONS
 
@@ -84,6 +106,10 @@ SLOTS = 43279
 abbrev pub entriesOf : List String → List Entry
 entriesOf lines = map entryOf (map bytes lines)
 
+-- a line of the keys has this form: what stands behind its two letters and a space
+unfoldable pub hasForm : String → String → Bool
+hasForm form line = same (drop 3 (bytes line)) (bytes form)
+
 -- what the book says of a key
 abbrev pub keyEntries : Book → List Entry
 keyEntries b = entriesOf (b .keys)
@@ -106,6 +132,16 @@ columnEntries b s = entriesOf ((sectionOf b s) .columns)
 unfoldable pub columnOf : Book → ℕ → Bytes → Found
 columnOf b s name = cond (isOpt name) (optOf name) (lookupIn (columnEntries b s) name)
 
+-- what the metadata of mzTab 1.0 must have: rule 21
+unfoldable pub demands : List Demand
+demands =
+    always "mzTab-version" 1
+    ∷ always "mzTab-mode" 2
+    ∷ always "mzTab-type" 3
+    ∷ always "description" 4
+    ∷ always "ms_run[n]-location" 5
+    ∷ []
+
 -- THE BOOK of mzTab 1.0: sections 1 protein, 2 peptide, 3 PSM, 4 small molecule
 unfoldable pub mzTab : Book
 mzTab =
@@ -118,7 +154,7 @@ mzTab =
           ∷ section "SMH" "SML" moleculeColumns moleculeRequired
           ∷ [];
       keys = keys;
-      demanded = demanded;
+      demands = demands;
     }
 
 -- the book that a file goes by, of its lines: the one there is

@@ -71,10 +71,6 @@ keys =
     ∷ "lS study_variable[n]-sample_refs"
     ∷ []
 
--- the keys that a file must have: rule 21
-unfoldable pub demanded : List String
-demanded = "mzTab-version" ∷ "mzTab-mode" ∷ "mzTab-type" ∷ "description" ∷ "ms_run[n]-location" ∷ []
-
 -- whether a key is one of the `colunit` ones, which may come twice
 unfoldable pub isColunit : Bytes → Bool
 isColunit name = begins (bytes "colunit-") name

@@ -4,8 +4,9 @@
 use Prim.Native.Nat.{ℕ, zero, suc, _+_, _*_, _/_, _%_, _≤_, _<_}
 use Prim.Native.String.{String}
 use mathlib.Core.Path.{_≡_}
-use mathlib.Core.Bool.{Bool, true, false}
+use mathlib.Core.Bool.{Bool, true, false, cond}
 use mathlib.Core.List.{List, [], _∷_, _++_, map}
+use lib.Dec.{eqb}
 use lib.ListN.{length, getD, drop}
 use Rattle.text_bytes.specs.Bytes.{Bytes, bytes, SPACE}
 use Rattle.text_bytes.specs.Places.{part}
@@ -13,7 +14,8 @@ use Rattle.text.specs.Lines.{TAB, cells}
 use Rattle.book_names.specs.Names.{Entry, formOf, spread, startOf}
 use Rattle.book_names.specs.Table.{WIDTH, entries}
 use Rattle.book_names.specs.Links.{HEADS, Linked}
-use Rattle.book.specs.Book.{Section, section, Book, noSection, codeIn, entriesOf, keyEntries, mzTab}
+use Rattle.book.specs.Book.{Section, section, Demand, ALWAYS, noDemand, Book, hasForm, noSection, codeIn, entriesOf, keyEntries, mzTab}
+use Rattle.book.specs.declared.demands.Demand.{Demand as Read}
 
 -- THE DIRECTORY: the number of the first section, how many there are, and an entry for each table, of which table 0 has the keys and table j + 1 the
 -- columns of section j from the first: the codes of its headers and its rows, and where its rows, its required columns and its links begin. One entry more
@@ -92,6 +94,29 @@ pub record Starts (t : Bytes) (es : List Entry) : Type 0 where
   pub ends : startsAt t + 2 * (length es + 1) ≤ length t
   pub starts : (e : ℕ) → e ≤ length es → startAt t e ≡ startOf es e
 
+-- THE DEMANDS stand behind the entries, four bytes each: the cell, the entry of the key, and when it is asked. How many there are stands in the last entry
+
+-- the first line of a table of keys that has this form
+unfoldable pub entryFor : List String → String → ℕ
+entryFor [] form = 0
+entryFor (k ∷ ks) form = let later = suc (entryFor ks form) in cond (hasForm form k) 0 later
+
+abbrev pub demandAt : Bytes → ℕ → ℕ
+demandAt t k = CODES + STEP * (getD t 1 0 + 1) + 4 * k
+
+pub record Demands (t : Bytes) (b : Book) : Type 0 where
+  pub many : getD t (CODES + STEP * getD t 1 0) 0 ≡ length (b .demands)
+  pub within : demandAt t (length (b .demands)) ≤ length t
+  pub cells : (k : ℕ) → k < length (b .demands) → numberAt t (demandAt t k) ≡ (getD (b .demands) k noDemand) .cell
+  pub entries : (k : ℕ) → k < length (b .demands) → getD t (demandAt t k + 2) 0 ≡ entryFor (b .keys) ((getD (b .demands) k noDemand) .form)
+  pub asked : (k : ℕ) → k < length (b .demands) → getD t (demandAt t k + 3) 0 ≡ (getD (b .demands) k noDemand) .asked
+
+-- a demand as it is read from the text
+pub record Demanded (b : Book) (k : ℕ) (d : Read) : Type 0 where
+  pub entry : d .entry ≡ entryFor (b .keys) ((getD (b .demands) k noDemand) .form)
+  pub cell : d .cell ≡ (getD (b .demands) k noDemand) .cell
+  pub asked : d .asked ≡ eqb ((getD (b .demands) k noDemand) .asked) ALWAYS
+
 -- a text holds a book
 pub record IsText (b : Book) (t : Bytes) : Type 0 where
   pub directory : IsDirectory b t
@@ -99,6 +124,7 @@ pub record IsText (b : Book) (t : Bytes) : Type 0 where
   pub columns : (j : ℕ) → j < length (b .sections) → Holds t (j + 1) ((getD (b .sections) j noSection) .columns)
   pub wanted : (j : ℕ) → j < length (b .sections) → Wants t (j + 1) ((getD (b .sections) j noSection) .required)
   pub slots : Starts t (keyEntries b)
+  pub demands : Demands t b
 
 -- the book that a text says it holds, and that it does
 unfoldable pub bookIn : Bytes → Book
@@ -153,32 +179,37 @@ startsFrom n (x ∷ es) = two n ++ startsFrom (n + spread (formOf x)) es
 abbrev pub allStarts : Book → Bytes
 allStarts b = startsFrom 0 (keyEntries b)
 
--- the entries of these tables, whose rows, required columns and links begin at these places, and the places where they end
-unfoldable pub entriesFrom : ℕ → ℕ → ℕ → List Section → Bytes
-entriesFrom r w l [] = bytes "      " ++ (two r ++ (two w ++ two l))
-entriesFrom r w l (s ∷ ss) =
+-- the demands of a book
+unfoldable pub demandRows : List String → List Demand → Bytes
+demandRows ks [] = []
+demandRows ks (d ∷ ds) = two (d .cell) ++ (entryFor ks (d .form) ∷ d .asked ∷ demandRows ks ds)
+
+-- the entries of these tables, whose rows, required columns and links begin at these places, and the places where they end, behind the number m
+unfoldable pub entriesFrom : ℕ → ℕ → ℕ → ℕ → List Section → Bytes
+entriesFrom m r w l [] = m ∷ bytes "     " ++ (two r ++ (two w ++ two l))
+entriesFrom m r w l (s ∷ ss) =
     bytes (s .header) ++ (bytes (s .row) ++ (two r ++ (two w ++ (two l ++
-    entriesFrom (r + WIDTH * length (s .columns)) (w + length (tabbed (s .required))) (l + (HEADS + length (s .columns))) ss))))
+    entriesFrom m (r + WIDTH * length (s .columns)) (w + length (tabbed (s .required))) (l + (HEADS + length (s .columns))) ss))))
 
 -- the directory of a book whose text has so many bytes before the rows, the required columns and the links
 unfoldable pub directoryOf : Book → ℕ → ℕ → ℕ → Bytes
-directoryOf b r w l = b .first ∷ length (b .sections) ∷ entriesFrom r w l (tablesOf b)
+directoryOf b r w l = b .first ∷ length (b .sections) ∷ (entriesFrom (length (b .demands)) r w l (tablesOf b) ++ demandRows (b .keys) (b .demands))
 
 -- THE TEXT of the one book: where its directory, its rows, its required columns, its starts and its links end
 abbrev pub DIRECTORY : ℕ
-DIRECTORY = 74
+DIRECTORY = 94
 
 abbrev pub ROWS : ℕ
-ROWS = 8012
+ROWS = 8032
 
 abbrev pub WANTED : ℕ
-WANTED = 8157
+WANTED = 8177
 
 abbrev pub STARTS : ℕ
-STARTS = 8281
+STARTS = 8301
 
 abbrev pub LINKS : ℕ
-LINKS = 9708
+LINKS = 9728
 
 unfoldable pub directoryText : Bytes
 directoryText = directoryOf mzTab DIRECTORY ROWS STARTS

@@ -16,19 +16,27 @@ pub const STEP: usize = 12;
 // The bytes of a line code.
 pub const CODE: usize = 3;
 
-// The directory of the book: sections 1 to 4.
-pub fn directory() -> [u8; 74]
+// The bytes of the directory.
+pub const DIRECTORY: usize = 94;
+
+// The directory of the book: sections 1 to 4, and five demands.
+pub fn directory() -> [u8; DIRECTORY]
     ensures { λ r. ⌜ r ≡ directoryText ⌝ }
     ensures { λ r. ⌜ HasDirectory r ⌝ }
 {
     *b"\
     \x01\x04\
-    MTDMTD\x4a\x00\x4c\x1f\x59\x20\
-    PRHPRT\x28\x0d\x4c\x1f\x96\x21\
-    PEHPEP\xcc\x11\x78\x1f\xac\x22\
-    PSHPSM\x04\x16\xa0\x1f\xc0\x23\
-    SMHSML\x3c\x1a\xcc\x1f\xd4\x24\
-    \x20\x20\x20\x20\x20\x20\x4c\x1f\xdd\x1f\xec\x25"
+    MTDMTD\x5e\x00\x60\x1f\x6d\x20\
+    PRHPRT\x3c\x0d\x60\x1f\xaa\x21\
+    PEHPEP\xe0\x11\x8c\x1f\xc0\x22\
+    PSHPSM\x18\x16\xb4\x1f\xd4\x23\
+    SMHSML\x50\x1a\xe0\x1f\xe8\x24\
+    \x05\x20\x20\x20\x20\x20\x60\x1f\xf1\x1f\x00\x26\
+    \x01\x00\x00*\
+    \x02\x00\x01*\
+    \x03\x00\x02*\
+    \x04\x00\x05*\
+    \x05\x00\x10*"
 }
 
 // A number that stands in two bytes, the lower first.
@@ -64,7 +72,7 @@ pub fn links_at(text: &[u8], k: usize) -> usize
 }
 
 // A byte as a number of a section's width.
-fn narrow(b: u8) -> u32
+pub fn narrow(b: u8) -> u32
     ensures { λ r. ⌜ r ≡ b ⌝ }
 {
     b as u32

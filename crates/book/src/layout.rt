@@ -1,4 +1,5 @@
 // A book laid out in one text: a directory, the rows of all tables, the required columns, where the slots of the keys begin, and the links of each table.
+use crate::directory::DIRECTORY;
 use crate::directory::directory;
 use crate::directory::links_at;
 use crate::directory::rows_at;
@@ -10,14 +11,12 @@ ghost use lib.ListN.{length, take};
 ghost use Rattle.book.specs.Book.{mzTab};
 ghost use Rattle.book.specs.Text.{STARTS as front-end, LINKS as all-end, tablesOf, allRows, allWanted, allStarts, IsBook, laidOut};
 
-// Where the directory, the rows, the required columns, the starts of the keys' slots and the links end.
-const DIRECTORY: usize = 74;
+// Where the rows, the required columns, the starts of the keys' slots and the links end.
+const ROWS: usize = 8032;
 
-const ROWS: usize = 8012;
+const WANTED: usize = 8177;
 
-const WANTED: usize = 8157;
-
-const LINKS: usize = 9708;
+const LINKS: usize = 9728;
 
 // How many tables there are: the keys, and the columns of each section.
 const TABLES: usize = 5;

@@ -1,2 +1,2 @@
--- The laws that the proofs cite.
+-- The laws that proofs cite.
 pub mod Laws

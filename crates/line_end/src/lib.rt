@@ -1,46 +1,28 @@
-// Rule 21: required metadata, read off the slots of the keys that the file has.
+// Required metadata, read off the slots of the keys that the file has: the book's demands, one after the other.
+use book::demands::count_demands;
+use book::demands::nth_demand;
 use book::slots::start_of;
+use scan::places::both;
 use scan::places::put_if;
-use value_references::INDICES;
 ghost use mathlib.Core.Path.{_≡_};
-ghost use Prim.Native.Nat.{_≤_};
-ghost use lib.ListN.{length};
-ghost use Rattle.book.specs.Book.{SLOTS};
+ghost use Prim.Native.Nat.{_≤_, _<_};
+ghost use lib.ListN.{length, getD};
+ghost use Rattle.book.specs.Book.{SLOTS, noDemand};
 ghost use Rattle.book.specs.Text.{bookIn, IsBook};
 ghost use Rattle.scan.specs.Places.{lent, Puts};
-ghost use Rattle.scan.specs.Machine.{hasEntry, hasRun, endBreaks, firstEnds};
+ghost use Rattle.scan.specs.Machine.{isMarked, demandBreak, endBreaks};
 
-// The entries of mzTab-version, mzTab-mode, mzTab-type, description and ms_run[n]-location in the table of keys.
-const VERSION: usize = 0;
+// The rule that a demand breaks.
+const RULE: u32 = 21;
 
-const MODE: usize = 1;
-
-const TYPE: usize = 2;
-
-const DESCRIPTION: usize = 5;
-
-const LOCATION: usize = 16;
-
-// Whether a key without an index is there, by its entry, which is one of the first six.
-fn has_entry(book: &[u8], entry: usize, slots: &[bool]) -> bool
-    requires { ⌜ IsBook (now book) ⌝ }
-    requires { ⌜ entry ≤ 5 ⌝ }
-    requires { ⌜ length (now slots) ≡ SLOTS ⌝ }
-    ensures { λ r. ⌜ r ≡ hasEntry (bookIn (now (book .entry))) (now (slots .entry)) entry ⌝ }
+// Whether any slot is marked, from one up to another.
+fn any_marked(slots: &[bool], from: usize, to: usize) -> bool
+    requires { ⌜ (from ≤ to) × (to ≤ length (now slots)) ⌝ }
+    ensures { λ r. ⌜ r ≡ isMarked (now (slots .entry)) from to ⌝ }
 {
-    slots[start_of(book, entry)]
-}
-
-// Whether any ms_run[n]-location is there: it has a slot for each n.
-fn has_run(book: &[u8], slots: &[bool]) -> bool
-    requires { ⌜ IsBook (now book) ⌝ }
-    requires { ⌜ length (now slots) ≡ SLOTS ⌝ }
-    ensures { λ r. ⌜ r ≡ hasRun (bookIn (now (book .entry))) (now (slots .entry)) ⌝ }
-{
-    let first = start_of(book, LOCATION);
-    let mut i = 0;
-    while i < INDICES {
-        if slots[first + i] {
+    let mut i = from;
+    while i < to {
+        if slots[i] {
             return true;
         }
         i += 1;
@@ -48,31 +30,42 @@ fn has_run(book: &[u8], slots: &[bool]) -> bool
     false
 }
 
-// The first three of the five.
-fn first_ends(places: &mut [u32], count: u32, book: &[u8], line_no: u32, slots: &[bool]) -> u32
+// Demand k: it is asked, and no line has such a key.
+fn judge_demand(
+    places: &mut [u32],
+    count: u32,
+    book: &[u8],
+    k: usize,
+    line_no: u32,
+    slots: &[bool],
+) -> u32
     requires { ⌜ IsBook (now book) ⌝ }
+    requires { ⌜ k < length ((bookIn (now book)) .demands) ⌝ }
     requires { ⌜ length (now slots) ≡ SLOTS ⌝ }
     requires { ⌜ count ≤ 4294967000 ⌝ }
-    ensures { λ r. ⌜ Puts (firstEnds (bookIn (now (book .entry))) (now (slots .entry)) «line_no») 3 (lent (now (places .entry)) count) (lent (now (places .exit)) r) ⌝ }
+    ensures { λ r. ⌜ Puts (demandBreak (bookIn (now (book .entry))) (now (slots .entry)) «line_no» (getD ((bookIn (now (book .entry))) .demands) k noDemand)) 1 (lent (now (places .entry)) count) (lent (now (places .exit)) r) ⌝ }
 {
-    let version = has_entry(book, VERSION, slots);
-    let mode = has_entry(book, MODE, slots);
-    let kind = has_entry(book, TYPE, slots);
-    let k1 = put_if(places, count, !version, 21, line_no, 1);
-    let k2 = put_if(places, k1, !mode, 21, line_no, 2);
-    put_if(places, k2, !kind, 21, line_no, 3)
+    let d = nth_demand(book, k);
+    let entry = d.entry;
+    let from = start_of(book, entry);
+    let to = start_of(book, entry + 1);
+    let lacking = both(d.asked, !any_marked(slots, from, to));
+    put_if(places, count, lacking, RULE, line_no, d.cell)
 }
 
-// What of the required metadata is absent: cells 1 to 5 of the line after the last.
+// What of the demanded metadata is absent, at the line after the last.
 pub fn judge_end(places: &mut [u32], count: u32, book: &[u8], line_no: u32, slots: &[bool]) -> u32
     requires { ⌜ IsBook (now book) ⌝ }
     requires { ⌜ length (now slots) ≡ SLOTS ⌝ }
     requires { ⌜ count ≤ 4294966000 ⌝ }
     ensures { λ r. ⌜ Puts (endBreaks (bookIn (now (book .entry))) (now (slots .entry)) «line_no») 5 (lent (now (places .entry)) count) (lent (now (places .exit)) r) ⌝ }
 {
-    let description = has_entry(book, DESCRIPTION, slots);
-    let runs = has_run(book, slots);
-    let k1 = first_ends(places, count, book, line_no, slots);
-    let k2 = put_if(places, k1, !description, 21, line_no, 4);
-    put_if(places, k2, !runs, 21, line_no, 5)
+    let n = count_demands(book);
+    let mut k = 0;
+    let mut c = count;
+    while k < n {
+        c = judge_demand(places, c, book, k, line_no, slots);
+        k += 1;
+    }
+    c
 }

@@ -8,7 +8,7 @@ use lib.Dec.{eqb, leb, ltb}
 use Rattle.text_bytes.specs.Bytes.{Bytes, bytes, same, isEmpty, any, all}
 use Rattle.text.specs.Lines.{lines, cells, cell, width, isMeta, isThree, isField}
 use Rattle.book.specs.Keys.{isColunit}
-use Rattle.book.specs.Book.{Book, sectionOf, keyOf, isOpt, columnOf, bookOf}
+use Rattle.book.specs.Book.{Demand, ALWAYS, lastCell, Book, hasForm, sectionOf, keyOf, isOpt, columnOf, bookOf}
 use Rattle.book.specs.Letters.{TEXT, REFERENCE, REFERENCES, NONE}
 use Rattle.book_names.specs.Names.{isKnown}
 use Rattle.book_ids.specs.Ids.{declares}
@@ -144,22 +144,26 @@ rules b =
     ∷ rule 20 (λ p c. leb 2 c && ((isUnder b p && isAsWide b p) && (not (isEmpty (cell c (p .here))) && not (cellOfKind (columnKind b p c) (cell c (p .here))))))
     ∷ []
 
--- REQUIRED METADATA, at line N + 1: a cell for each key that the book demands, in its order
+-- REQUIRED METADATA, at line N + 1, at the cells that the book's demands name
 
 -- a key of this form, as the table of keys writes it
 abbrev pub isForm : Book → String → Found → Bool
 isForm b form Unknown = false
-isForm b form (Known e k f i j) = same (drop 3 (bytes (getD (b .keys) e ""))) (bytes form)
+isForm b form (Known e k f i j) = hasForm form (getD (b .keys) e "")
 
 -- an MTD line of three cells with such a key
 unfoldable pub hasKey : Book → String → Bytes → Bool
 hasKey b form m = isField m && isForm b form (keyFound b m)
 
+-- a demand that is asked and that no line meets
+unfoldable pub isUnmet : Book → List Bytes → Demand → Bool
+isUnmet b file d = eqb (d .asked) ALWAYS && not (any (hasKey b (d .form)) file)
+
 unfoldable pub endRules : Book → List Rule
-endRules b = rule 21 (λ p c. not (any (hasKey b (getD (b .demanded) (c - 1) "")) (p .file))) ∷ []
+endRules b = rule 21 (λ p c. any (λ d. eqb (d .cell) c && isUnmet b (p .file) d) (b .demands)) ∷ []
 
 abbrev pub ends : Book → ℕ
-ends b = length (b .demanded)
+ends b = lastCell 0 (b .demands)
 
 -- ALL BREAKS of a file by a book, in order of line, then cell, then rule
 unfoldable pub breaksBy : Book → List Bytes → List Break

@@ -8,5 +8,6 @@ pub mod Keeping
 pub mod Following
 pub mod Lining
 pub mod Scanning
+pub mod Demanding
 pub mod Ending
 pub mod Placing

@@ -9,8 +9,9 @@ use lib.Dec.{eqb, leb, ltb}
 use Rattle.text_bytes.specs.Bytes.{Bytes, same, isEmpty, any}
 use Rattle.book.specs.Letters.{NONE}
 use Rattle.book.specs.Keys.{isColunit}
-use Rattle.book.specs.Book.{SLOTS, Book, keyOf, keyEntries, isOpt, columnOf}
-use Rattle.book_names.specs.Names.{slotOf, isKnown}
+use Rattle.book.specs.Book.{SLOTS, Demand, ALWAYS, Book, keyOf, keyEntries, isOpt, columnOf}
+use Rattle.book.specs.Text.{entryFor}
+use Rattle.book_names.specs.Names.{startOf, slotOf, isKnown}
 use Rattle.book_ids.specs.Ids.{declares}
 use Rattle.book_kinds.specs.Kinds.{ofKind, cellOfKind, familyNumber}
 use Rattle.book_names.specs.declared.Found.{Found}
@@ -173,20 +174,23 @@ unfoldable pub upFrom : ℕ → ℕ → List ℕ
 upFrom zero k = []
 upFrom (suc n) k = k ∷ upFrom n (suc k)
 
--- the entries of mzTab-version, mzTab-mode, mzTab-type, description and ms_run[n]-location in the table of keys
-abbrev pub hasEntry : Book → List Bool → ℕ → Bool
-hasEntry b slots e = getD slots (slotOf (keyEntries b) e 0 0) false
+-- whether a slot is marked, from one up to another
+unfoldable pub isMarked : List Bool → ℕ → ℕ → Bool
+isMarked slots from to = any (λ s. getD slots s false) (upFrom (to - from) from)
 
-abbrev pub hasRun : Book → List Bool → Bool
-hasRun b slots = any (λ i. getD slots (slotOf (keyEntries b) 16 i 0) false) (upFrom 64 1)
+-- a demand that is asked, and no slot of its key is marked
+unfoldable pub isLacking : Book → List Bool → Demand → Bool
+isLacking b slots d =
+    let e = entryFor (b .keys) (d .form) in
+    eqb (d .asked) ALWAYS && not (isMarked slots (startOf (keyEntries b) e) (startOf (keyEntries b) (e + 1)))
 
--- rule 21, at line n: the first three of the five
-abbrev pub firstEnds : Book → List Bool → ℕ → List Break → List Break
-firstEnds b slots n rest =
-    when (not (hasEntry b slots 0)) (breakAt n 1 21)
-    (when (not (hasEntry b slots 1)) (breakAt n 2 21)
-    (when (not (hasEntry b slots 2)) (breakAt n 3 21) rest))
+abbrev pub demandBreak : Book → List Bool → ℕ → Demand → List Break → List Break
+demandBreak b slots n d rest = when (isLacking b slots d) (breakAt n (d .cell) 21) rest
 
--- and all
-unfoldable pub endBreaks : Book → List Bool → ℕ → List Break → List Break
-endBreaks b slots n rest = firstEnds b slots n (when (not (hasEntry b slots 5)) (breakAt n 4 21) (when (not (hasRun b slots)) (breakAt n 5 21) rest))
+-- these demands, one after the other, and all of a book
+unfoldable pub demandBreaks : Book → List Bool → ℕ → List Demand → List Break → List Break
+demandBreaks b slots n [] rest = rest
+demandBreaks b slots n (d ∷ ds) rest = demandBreak b slots n d (demandBreaks b slots n ds rest)
+
+abbrev pub endBreaks : Book → List Bool → ℕ → List Break → List Break
+endBreaks b slots n rest = demandBreaks b slots n (b .demands) rest

@@ -16,8 +16,8 @@ use Rattle.book_names.specs.Table.{entries}
 use Rattle.book_names.specs.Links.{Linked}
 use Rattle.book.specs.Keys.{keys}
 use Rattle.book.specs.Columns.{proteinColumns, peptideColumns, psmColumns, moleculeColumns, proteinRequired, peptideRequired, psmRequired, moleculeRequired}
-use Rattle.book.specs.Book.{Section, Book, noSection, isSection, sectionOf, codeFor, codeIn, codedFrom, sectionBy, entriesOf, columnEntries, mzTab}
-use Rattle.book.specs.Text.{rowsAt, linksAt, rowsOf, codeAt, IsDirectory, IsTable, IsText, bookIn, HasDirectory, tabbed, entriesFrom, directoryOf, directoryText}
+use Rattle.book.specs.Book.{Section, Book, noSection, isSection, sectionOf, codeFor, codeIn, codedFrom, sectionBy, entriesOf, columnEntries, mzTab, demands, hasForm}
+use Rattle.book.specs.Text.{rowsAt, linksAt, rowsOf, codeAt, IsDirectory, IsTable, IsText, bookIn, HasDirectory, tabbed, entriesFrom, directoryOf, directoryText, demandRows, entryFor}
 
 -- A SECTION'S NUMBER
 module _ (b : Book) (s : ℕ) where
@@ -114,7 +114,7 @@ columns-at {b} {t} d s k l e h =
 
 -- THE DIRECTORY OF THE BOOK, computed
 its-codes : (row : Bool) (j : ℕ) → j < 4 → part (codeAt row j) (codeAt row j + 3) directoryText ≡ bytes (codeIn row (getD (mzTab .sections) j noSection))
-unfolding directoryText directoryOf mzTab entriesFrom bytes keys tabbed proteinColumns proteinRequired peptideColumns peptideRequired psmColumns psmRequired moleculeColumns moleculeRequired
+unfolding directoryText directoryOf mzTab demands entriesFrom demandRows entryFor hasForm same bytes keys tabbed proteinColumns proteinRequired peptideColumns peptideRequired psmColumns psmRequired moleculeColumns moleculeRequired
 its-codes true zero h = refl
 its-codes true (suc zero) h = refl
 its-codes true (suc (suc zero)) h = refl
@@ -127,7 +127,7 @@ its-codes false (suc (suc (suc zero))) h = refl
 its-codes false (suc (suc (suc (suc j)))) h = absurd (omega arith)
 
 its-directory : IsDirectory mzTab directoryText
-unfolding directoryText directoryOf mzTab entriesFrom bytes keys tabbed proteinColumns proteinRequired peptideColumns peptideRequired psmColumns psmRequired moleculeColumns moleculeRequired
+unfolding directoryText directoryOf mzTab demands entriesFrom demandRows entryFor hasForm same bytes keys tabbed proteinColumns proteinRequired peptideColumns peptideRequired psmColumns psmRequired moleculeColumns moleculeRequired
 its-directory = record { first = refl; count = refl; size = omega arith; codes = its-codes }
 
 pub has-directory : (t : Bytes) → t ≡ directoryText → HasDirectory t

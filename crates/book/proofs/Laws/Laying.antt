@@ -11,7 +11,7 @@ use lib.ListN.{length, getD, take, drop, set, length-append, length-take}
 use lib.Seq.{take-length, take-take, take-suc, take-suc-set, getD-take}
 use borrow.Author.Count.{below-none, below-more}
 use borrow.Author.Tests.{leb-true, ltb-true}
-use Rattle.text_bytes.specs.Bytes.{Bytes, bytes, splitOn, onFirst}
+use Rattle.text_bytes.specs.Bytes.{Bytes, bytes, splitOn, onFirst, same}
 use Rattle.text_bytes.specs.Places.{part}
 use Rattle.text.specs.Lines.{cells}
 use Rattle.text_bytes.proofs.Laws.Parts.{drop-take}
@@ -21,8 +21,8 @@ use Rattle.book_names.specs.Links.{Linked, Links}
 use Rattle.book_names.proofs.Laws.Linking.{entry-count, linked-part}
 use Rattle.book.specs.Keys.{keys}
 use Rattle.book.specs.Columns.{proteinColumns, peptideColumns, psmColumns, moleculeColumns, proteinRequired, peptideRequired, psmRequired, moleculeRequired}
-use Rattle.book.specs.Book.{Section, noSection, codeIn, entriesOf, keyEntries, mzTab}
-use Rattle.book.specs.Text.{DIRECTORY, ROWS, WANTED, STARTS, LINKS, numberAt, rowsAt, wantedAt, linksAt, rowsOf, wantedOf, startsAt, codeAt, IsDirectory, Holds, Wants, Starts, bookIn, IsBook, padded, laid, tabbed, tablesOf, allRows, allWanted, allStarts, entriesFrom, directoryOf, directoryText, laidOut}
+use Rattle.book.specs.Book.{Section, Demand, noDemand, demands, noSection, codeIn, entriesOf, keyEntries, mzTab, hasForm}
+use Rattle.book.specs.Text.{DIRECTORY, ROWS, WANTED, STARTS, LINKS, numberAt, rowsAt, wantedAt, linksAt, rowsOf, wantedOf, startsAt, codeAt, IsDirectory, Holds, Wants, Starts, bookIn, IsBook, padded, laid, tabbed, tablesOf, allRows, allWanted, allStarts, entriesFrom, directoryOf, directoryText, laidOut, CODES, STEP, entryFor, demandAt, Demands, demandRows}
 use Rattle.book.proofs.Laws.Starting.{number-behind, starts-read, starts-length}
 
 -- LAYING: s follows p in b. Nothing is copied, one byte more is, and all are
@@ -83,7 +83,7 @@ tested k l a b c d e f g h =
     }
 
 table : (k : ℕ) → k < 5 → Table k
-unfolding mzTab laidOut directoryText directoryOf entriesFrom allRows allWanted laid padded tabbed bytes keys proteinColumns peptideColumns psmColumns moleculeColumns proteinRequired peptideRequired psmRequired moleculeRequired entryOf piecesFrom cut rows
+unfolding mzTab demands laidOut directoryText directoryOf entriesFrom demandRows entryFor hasForm same allRows allWanted laid padded tabbed bytes keys proteinColumns peptideColumns psmColumns moleculeColumns proteinRequired peptideRequired psmRequired moleculeRequired entryOf piecesFrom cut rows
 table =
     five
     Table
@@ -94,8 +94,29 @@ table =
     (tested 4 refl refl refl refl refl refl refl refl refl)
 
 required : (j : ℕ) → j < 4 → cells (wantedOf laidOut (suc j)) ≡ map bytes ((getD (mzTab .sections) j noSection) .required)
-unfolding mzTab laidOut directoryText directoryOf entriesFrom allRows allWanted laid padded tabbed bytes keys proteinColumns peptideColumns psmColumns moleculeColumns proteinRequired peptideRequired psmRequired moleculeRequired splitOn onFirst
+unfolding mzTab demands laidOut directoryText directoryOf entriesFrom demandRows entryFor hasForm same allRows allWanted laid padded tabbed bytes keys proteinColumns peptideColumns psmColumns moleculeColumns proteinRequired peptideRequired psmRequired moleculeRequired splitOn onFirst
 required = four (λ j. cells (wantedOf laidOut (suc j)) ≡ map bytes ((getD (mzTab .sections) j noSection) .required)) refl refl refl refl
+
+-- the demands
+record DemandOf (k : ℕ) : Type 0 where
+  cell : numberAt laidOut (74 + 4 * k) ≡ (getD (mzTab .demands) k noDemand) .cell
+  entry : getD laidOut (74 + 4 * k + 2) 0 ≡ entryFor (mzTab .keys) ((getD (mzTab .demands) k noDemand) .form)
+  asked : getD laidOut (74 + 4 * k + 3) 0 ≡ (getD (mzTab .demands) k noDemand) .asked
+
+demand-of : (k : ℕ) → k < 5 → DemandOf k
+unfolding mzTab demands laidOut directoryText directoryOf entriesFrom demandRows entryFor hasForm same allRows allWanted laid padded tabbed bytes keys proteinColumns peptideColumns psmColumns moleculeColumns proteinRequired peptideRequired psmRequired moleculeRequired
+demand-of =
+    five
+    DemandOf
+    (record { cell = refl; entry = refl; asked = refl })
+    (record { cell = refl; entry = refl; asked = refl })
+    (record { cell = refl; entry = refl; asked = refl })
+    (record { cell = refl; entry = refl; asked = refl })
+    (record { cell = refl; entry = refl; asked = refl })
+
+demand-count : (length (mzTab .demands) ≡ 5) × (getD laidOut 62 0 ≡ 5)
+unfolding mzTab demands laidOut directoryText directoryOf entriesFrom demandRows entryFor hasForm same allRows allWanted laid padded tabbed bytes keys proteinColumns peptideColumns psmColumns moleculeColumns proteinRequired peptideRequired psmRequired moleculeRequired
+demand-count = (refl, refl)
 
 -- the starts of the keys' slots
 abbrev startsText : Bytes
@@ -108,8 +129,8 @@ key-count = refl
 starts-size : length startsText ≡ 124
 starts-size = starts-length (keyEntries mzTab) 0 ∙ ap (λ (n : ℕ). 2 * (n + 1)) key-count
 
-pub front-sizes : (length directoryText ≡ 74) × (length (allRows (tablesOf mzTab)) ≡ 7938) × (length (allWanted (tablesOf mzTab)) ≡ 145)
-unfolding mzTab directoryText directoryOf entriesFrom allRows allWanted laid padded tabbed bytes keys proteinColumns peptideColumns psmColumns moleculeColumns proteinRequired peptideRequired psmRequired moleculeRequired
+pub front-sizes : (length directoryText ≡ 94) × (length (allRows (tablesOf mzTab)) ≡ 7938) × (length (allWanted (tablesOf mzTab)) ≡ 145)
+unfolding mzTab demands directoryText directoryOf entriesFrom demandRows entryFor hasForm same allRows allWanted laid padded tabbed bytes keys proteinColumns peptideColumns psmColumns moleculeColumns proteinRequired peptideRequired psmRequired moleculeRequired
 front-sizes = (refl, refl, refl)
 
 -- what stands before them
@@ -131,11 +152,11 @@ sections : getD laidOut 1 0 ≡ 4
 unfolding laidOut directoryText directoryOf mzTab
 sections = refl
 
-directory-room : DIRECTORY ≤ length laidOut
+directory-room : 74 ≤ length laidOut
 directory-room = omega (arith, laid-size)
 
 directory : IsDirectory mzTab laidOut
-unfolding mzTab laidOut directoryText directoryOf entriesFrom allRows allWanted laid padded tabbed bytes keys proteinColumns peptideColumns psmColumns moleculeColumns proteinRequired peptideRequired psmRequired moleculeRequired
+unfolding mzTab demands laidOut directoryText directoryOf entriesFrom demandRows entryFor hasForm same allRows allWanted laid padded tabbed bytes keys proteinColumns peptideColumns psmColumns moleculeColumns proteinRequired peptideRequired psmRequired moleculeRequired
 directory = record { first = refl; count = refl; size = directory-room; codes = code }
   where
     code : (row : Bool) (j : ℕ) → j < 4 → part (codeAt row j) (codeAt row j + 3) laidOut ≡ bytes (codeIn row (getD (mzTab .sections) j noSection))
@@ -143,7 +164,7 @@ directory = record { first = refl; count = refl; size = directory-room; codes = 
     code false = four (λ j. part (codeAt false j) (codeAt false j + 3) laidOut ≡ bytes (codeIn false (getD (mzTab .sections) j noSection))) refl refl refl refl
 
 starts-place : wantedAt laidOut 5 ≡ WANTED
-unfolding mzTab laidOut directoryText directoryOf entriesFrom tabbed bytes keys proteinColumns peptideColumns psmColumns moleculeColumns proteinRequired peptideRequired psmRequired moleculeRequired
+unfolding mzTab demands laidOut directoryText directoryOf entriesFrom demandRows tabbed bytes keys proteinColumns peptideColumns psmColumns moleculeColumns proteinRequired peptideRequired psmRequired moleculeRequired
 starts-place = refl
 
 start-laid : (e : ℕ) → e ≤ 61 → numberAt laidOut (WANTED + 2 * e) ≡ startOf (keyEntries mzTab) e
@@ -228,6 +249,19 @@ module _ (t : Bytes) (begins : take STARTS t ≡ laidOut) where
         starts = λ e h. ap (λ (n : ℕ). numberAt t (n + 2 * e)) starts-at ∙ number-same (WANTED + 2 * e) (omega (arith, key-count)) ∙ start-laid e (omega (arith, key-count));
       }
 
+  demand-at : (k : ℕ) → demandAt t k ≡ 74 + 4 * k
+  demand-at k = ap (λ (n : ℕ). CODES + STEP * (n + 1) + 4 * k) (byte-same 1 (omega arith) ∙ sections)
+
+  demands-same : STARTS ≤ length t → Demands t mzTab
+  demands-same l =
+      record {
+        many = ap (λ (n : ℕ). getD t (CODES + STEP * n) 0) (byte-same 1 (omega arith) ∙ sections) ∙ byte-same 62 (omega arith) ∙ demand-count .1 ∙ sym (demand-count .0);
+        within = omega (arith, demand-at (length (mzTab .demands)), demand-count .0);
+        cells = λ k h. ap (numberAt t) (demand-at k) ∙ number-same (74 + 4 * k) (omega (arith, demand-count .0)) ∙ demand-of k (omega (arith, demand-count .0)) .cell;
+        entries = λ k h. ap (λ (n : ℕ). getD t (n + 2) 0) (demand-at k) ∙ byte-same (74 + 4 * k + 2) (omega (arith, demand-count .0)) ∙ demand-of k (omega (arith, demand-count .0)) .entry;
+        asked = λ k h. ap (λ (n : ℕ). getD t (n + 3) 0) (demand-at k) ∙ byte-same (74 + 4 * k + 3) (omega (arith, demand-count .0)) ∙ demand-of k (omega (arith, demand-count .0)) .asked;
+      }
+
 -- WHERE A TABLE STANDS, as it is read from the front
 pub record TableAt (front : Bytes) (k from to at : ℕ) : Type 0 where
   pub below : k < 5
@@ -301,6 +335,7 @@ midway-end t k h m =
       columns = λ j l. subst⁻¹ (λ (i : ℕ). Holds t i ((getD (mzTab .sections) j noSection) .columns)) (add-one j) (holds (suc j) (omega arith));
       wanted = λ j l. subst⁻¹ (λ (i : ℕ). Wants t i ((getD (mzTab .sections) j noSection) .required)) (add-one j) (wants t (m .begins) j l (omega (arith, m .long)));
       slots = starts-same t (m .begins) (omega (arith, m .long));
+      demands = demands-same t (m .begins) (omega (arith, m .long));
     }
   where
     holds : (i : ℕ) → i < 5 → Holds t i ((tableOf i) .columns)

@@ -4,6 +4,7 @@ use mathlib.Core.Path.{_≡_, refl, ap, sym, _∙_, subst}
 use mathlib.Core.Bool.{Bool, true, false, cond}
 use mathlib.Core.List.{List, [], _∷_, _++_}
 use mathlib.Core.Logic.{_⊎_, inl, inr, ⊎-elim}
+use native.Mathlib.Nat.{eq-or-lt-of-le}
 use native.Mathlib.Omega.{arith, by-contra}
 use lib.Dec.{eqb}
 use lib.ListN.{length, getD, drop}
@@ -306,13 +307,16 @@ start-rise (x ∷ es) e zero h l = absurd (omega arith)
 start-rise (x ∷ es) zero (suc e′) h l = omega arith
 start-rise (x ∷ es) (suc e) (suc e′) h l = omega (arith, start-rise es e e′ (omega arith) (omega arith))
 
+pub start-mono : (es : List Entry) (e e′ : ℕ) → e ≤ e′ → e′ ≤ length es → startOf es e ≤ startOf es e′
+start-mono es e e′ h l = ⊎-elim (λ (q : e ≡ e′). omega (arith, ap (startOf es) q)) (λ (q : e < e′). omega (arith, start-rise es e e′ q l)) (eq-or-lt-of-le h)
+
 -- indices that an entry of a table takes
 pub record Of (es : List Entry) (e i j : ℕ) : Type 0 where
   pub inside : e < length es
   pub shape : Shape (holes (formOf (nth es e))) i j
 
 module _ (es : List Entry) (e i j : ℕ) (o : Of es e i j) where
-  slot-before : (e′ : ℕ) → e < e′ → e′ ≤ length es → slotOf es e i j < startOf es e′
+  pub slot-before : (e′ : ℕ) → e < e′ → e′ ≤ length es → slotOf es e i j < startOf es e′
   slot-before e′ h l = omega (arith, among-below (formOf (nth es e)) _ i j refl (o .shape), start-rise es e e′ h l)
 
   -- the slot is below the end of all

@@ -33,4 +33,4 @@ end-left t {file} {n = n} {slots = slots} h e =
     let F = lines file in
     let all : n ≡ length F = scan-all (book-sized t) h e in
     let keys : Slots (bookIn t) F slots = subst (λ (ls : List Bytes). Slots (bookIn t) ls slots) (take-all n F (omega arith)) (h .stands .keys) in
-    scan-last (book-sized t) h e ∙ sym (append-nil (last (bookIn t) F)) ∙ sym (ap (λ (k : ℕ). endBreaks (bookIn t) slots (k + 1) []) all ∙ end-means t F slots keys []) ∙ sym (append-nil (endBreaks (bookIn t) slots (n + 1) []))
+    scan-last (book-sized t) h e ∙ sym (append-nil (last (bookIn t) F)) ∙ sym (ap (λ (k : ℕ). endBreaks (bookIn t) slots (k + 1) []) all ∙ end-means (bookIn t) (book-sized t) F slots keys []) ∙ sym (append-nil (endBreaks (bookIn t) slots (n + 1) []))

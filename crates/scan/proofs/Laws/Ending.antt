@@ -1,31 +1,31 @@
 -- Required metadata, by the slots of all lines: rule 21. Assumes nothing.
 use mathlib.Core.Path.{_≡_, refl, sym, ap, subst, _∙_}
-use mathlib.Core.Bool.{Bool, true, false, not, _&&_, _||_}
-use mathlib.Core.List.{List, [], _∷_, _++_}
+use mathlib.Core.Bool.{Bool, true, false, cond, not, _&&_, _||_}
+use mathlib.Core.List.{List, [], _∷_, _++_, map}
 use mathlib.Core.Logic.{⊎-elim}
 use Prim.Native.String.{String}
-use Prim.Native.Nat.{ℕ, zero, suc, _+_, _≤_, _<_}
+use Prim.Native.Nat.{ℕ, zero, suc, _+_, _-_, _≤_, _<_}
 use native.Mathlib.Nat.{eq-or-lt-of-le}
-use native.Mathlib.Omega.{arith}
-use lib.Dec.{eqb}
-use lib.ListN.{length, getD, drop}
-use borrow.Author.Tests.{eq-eqb, eqb-true}
-use Rattle.text_bytes.specs.Bytes.{Bytes, bytes, same, any, all}
-use Rattle.text_bytes.proofs.Laws.Tests.{absurd-bool}
-use Rattle.book_names.specs.Names.{Entry, piecesFrom, entryOf, slotOf, formOf}
+use native.Mathlib.Omega.{arith, by-contra}
+use lib.Dec.{eqb, leb, ltb}
+use lib.ListN.{length, getD, length-map}
+use borrow.Author.Tests.{eq-eqb, ne-eqb, eqb-true, eqb-false, le-leb, lt-ltb, leb-true, ltb-true}
+use Rattle.text_bytes.specs.Bytes.{Bytes, bytes, any, all}
+use Rattle.text_bytes.proofs.Laws.Tests.{absurd-bool, and-both}
+use Rattle.text.specs.Lines.{cell, isField}
+use Rattle.book_names.specs.Names.{Entry, entryOf, startOf, slotOf}
 use Rattle.book_names.specs.declared.Found.{Found}
 use Rattle.book_names.specs.declared.Found.the-variants.{Unknown, Known}
-use Rattle.book_names.proofs.Laws.Known.{holes, nth, Of, known-of, slot-apart, slot-inside}
-use Rattle.text.specs.Lines.{isField}
-use Rattle.rules.specs.Breaks.{Break, breakAt, when, each, atCell, atEnd}
-use Rattle.rules.specs.Rules.{keyFound, isForm, hasKey, endRules, ends}
-use Rattle.scan.specs.Machine.{isSlot, hasSlot, Slots, upFrom, hasEntry, endBreaks}
+use Rattle.book_names.proofs.Laws.Known.{Of, known-of, start-rise, start-mono, slot-before}
+use Rattle.book.specs.Book.{SLOTS, Demand, Book, hasForm, keyOf, keyEntries}
+use Rattle.book.specs.Text.{entryFor}
+use Rattle.book.proofs.Laws.Sized.{howMany, isOne, Sized}
+use Rattle.rules.specs.Breaks.{Break, breakAt, when, atCell, atEnd}
+use Rattle.rules.specs.Rules.{keyFound, isForm, hasKey, isUnmet, endRules, ends}
+use Rattle.scan.specs.Machine.{isSlot, hasSlot, Slots, upFrom, isMarked, isLacking, demandBreaks, endBreaks}
 use Rattle.scan.proofs.Laws.Rowing.{test-eq}
 use Rattle.scan.proofs.Laws.Keeping.{any-alike}
-use Rattle.book.specs.Book.{SLOTS, keyOf, keyEntries, mzTab}
-use Rattle.book.specs.Keys.{keys, demanded}
-use Rattle.book.specs.Text.{bookIn}
-use Rattle.book.proofs.Laws.Sized.{book-sized}
+use Rattle.scan.proofs.Laws.Demanding.{listed, cells-listed}
 
 -- A RANGE
 
@@ -90,151 +90,151 @@ any-both : {A : Type 0} (a : Bool) (f : A → Bool) (xs : List A) → any (λ (x
 any-both true f xs = refl
 any-both false f xs = any-false xs
 
-module _ (t : Bytes) where
-  -- THE FORMS of the keys, by their entries
+-- THE ENTRY OF A FORM, where just one key has it
 
-  -- the form of entry e, as the table writes it
-  abbrev form : ℕ → Bytes
-  form e = drop 3 (bytes (getD keys e ""))
+none-has : (p : String → Bool) (ks : List String) (e : ℕ) → howMany p ks ≡ 0 → e < length ks → p (getD ks e "") ≡ false
+unfolding howMany
+none-has p [] e h l = absurd (omega arith)
+none-has p (k ∷ ks) e h l = go (p k) refl e l h (none-has p ks)
+  where
+    go : (t : Bool) → p k ≡ t → (e : ℕ) → e < suc (length ks) → cond t (suc (howMany p ks)) (howMany p ks) ≡ 0 → ((e : ℕ) → howMany p ks ≡ 0 → e < length ks → p (getD ks e "") ≡ false)
+        → p (getD (k ∷ ks) e "") ≡ false
+    go true q e m z f = absurd (omega arith)
+    go false q zero m z f = q
+    go false q (suc e) m z f = f e z (omega arith)
 
-  -- only entry E has the form d: computed over the table
-  Only : String → ℕ → Type 0
-  Only d E = all (λ e. not (same (form e) (bytes d)) || eqb e E) (upFrom 61 0) ≡ true
-
-  only : (d : String) (E e : ℕ) → Only d E → e < 61 → same (form e) (bytes d) ≡ true → e ≡ E
-  unfolding Only
-  only d E e o h s = eqb-true e E (rw s at (all-up (λ k. not (same (form k) (bytes d)) || eqb k E) 61 0 e o (omega arith) (omega arith)))
-
-  -- the entries of the keys, and their slots
-  abbrev es : List Entry
-  es = keyEntries (bookIn t)
-
-  abbrev slot : ℕ → ℕ → ℕ → ℕ
-  slot e i j = slotOf es e i j
-
-  abbrev places : ℕ → ℕ
-  places e = holes (formOf (nth es e))
-
-  slot-in : {e i j : ℕ} → Of es e i j → slot e i j < SLOTS
-  slot-in {e} {i} {j} o = omega (arith, slot-inside es e i j o, book-sized t .slots)
-
-  module _ (x : Bytes) (e k f i j : ℕ) (q : keyOf (bookIn t) x ≡ Known e k f i j) where
-    here : Of es e i j
-    unfolding keyOf
-    here = known-of es x e k f i j q
-
-    inside : e < 61
-    inside = omega (arith, here .inside, book-sized t .few)
-
-    -- a form with no index has one slot
-    form-slot : (d : String) (E : ℕ) → Only d E → same (form E) (bytes d) ≡ true → places E ≡ 0 → Of es E 0 0 → same (form e) (bytes d) ≡ eqb (slot e i j) (slot E 0 0)
-    form-slot d E o s z there = test-eq (same (form e) (bytes d)) (eqb (slot e i j) (slot E 0 0))
-        (λ v.
-        let g : e ≡ E = only d E e o inside v in
-        let w : places e ≡ 0 = ap places g ∙ z in
-        let i0 : i ≡ 0 = omega (arith, here .shape) in
-        let j0 : j ≡ 0 = omega (arith, here .shape) in
-        eq-eqb (slot e i j) (slot E 0 0) (rw (g, i0, j0)))
-        (λ v.
-        let g = slot-apart es e i j E 0 0 here there (eqb-true (slot e i j) (slot E 0 0) v) .0 in
-        subst (λ (n : ℕ). same (form n) (bytes d) ≡ true) (sym g) s)
-
-    -- a form with one index has 64
-    form-slots : (d : String) (E : ℕ) → Only d E → same (form E) (bytes d) ≡ true → places E ≡ 1 → ((n : ℕ) → 1 ≤ n → n < 65 → Of es E n 0) → same (form e) (bytes d) ≡ any (λ n. eqb (slot e i j) (slot E n 0)) (upFrom 64 1)
-    form-slots d E o s z there = test-eq (same (form e) (bytes d)) (any (λ n. eqb (slot e i j) (slot E n 0)) (upFrom 64 1))
-        (λ v.
-        let g : e ≡ E = only d E e o inside v in
-        let w : places e ≡ 1 = ap places g ∙ z in
-        let j0 : j ≡ 0 = omega (arith, here .shape) in
-        any-up (λ n. eqb (slot e i j) (slot E n 0)) 64 1 i (omega (arith, here .shape)) (omega (arith, here .shape)) (eq-eqb (slot e i j) (slot E i 0) (rw (g, j0))))
-        (λ v.
-        let r = up-any (λ n. eqb (slot e i j) (slot E n 0)) 64 1 v in
-        let g = slot-apart es e i j E (r .0) 0 here (there (r .0) (r .1 .0) (r .1 .1 .0)) (eqb-true (slot e i j) (slot E (r .0) 0) (r .1 .1 .1)) .0 in
-        subst (λ (n : ℕ). same (form n) (bytes d) ≡ true) (sym g) s)
-
-  -- A LINE WITH SUCH A KEY
-
-  module _ (d : String) (E : ℕ) (o : Only d E) (s : same (form E) (bytes d) ≡ true) (l : E < length es) where
-    -- the slot of a form with no index, and those of one with an index
-    alone : places E ≡ 0 → Of es E 0 0
-    alone z = record { inside = l; shape = omega arith }
-
-    each-of : places E ≡ 1 → (n : ℕ) → 1 ≤ n → n < 65 → Of es E n 0
-    each-of z n a b = record { inside = l; shape = omega arith }
-
-    key-slot : places E ≡ 0 → (m : Bytes) → hasSlot (bookIn t) (slot E 0 0) m ≡ hasKey (bookIn t) d m
-    unfolding bookIn mzTab hasSlot hasKey
-    key-slot z m = rw (by (keyFound (bookIn t) m) refl)
+one-entry : (form : String) (ks : List String) (e : ℕ) → howMany (hasForm form) ks ≡ 1 → e < length ks → hasForm form (getD ks e "") ≡ eqb e (entryFor ks form)
+unfolding howMany entryFor
+one-entry form [] e h l = absurd (omega arith)
+one-entry form (k ∷ ks) e h l = go (hasForm form k) refl e l h (one-entry form ks)
+  where
+    go : (t : Bool) → hasForm form k ≡ t → (e : ℕ) → e < suc (length ks) → cond t (suc (howMany (hasForm form) ks)) (howMany (hasForm form) ks) ≡ 1
+        → ((e : ℕ) → howMany (hasForm form) ks ≡ 1 → e < length ks → hasForm form (getD ks e "") ≡ eqb e (entryFor ks form))
+        → hasForm form (getD (k ∷ ks) e "") ≡ eqb e (cond t 0 (suc (entryFor ks form)))
+    go true q zero m z f = q
+    go true q (suc e) m z f = none-has (hasForm form) ks e (omega arith) (omega arith) ∙ sym (ne-eqb (suc e) 0 (λ x. omega arith))
+    go false q zero m z f = q ∙ sym (ne-eqb 0 (suc (entryFor ks form)) (λ x. omega arith))
+    go false q (suc e) m z f = f e z (omega arith) ∙ next (eqb e (entryFor ks form)) refl
       where
-        by : (r : Found) → keyFound (bookIn t) m ≡ r → isSlot (bookIn t) (slot E 0 0) r ≡ isForm (bookIn t) d r
-        by Unknown q = refl
-        by (Known e k f i j) q = sym (form-slot _ e k f i j q d E o s z (alone z))
+        next : (t : Bool) → eqb e (entryFor ks form) ≡ t → t ≡ eqb (suc e) (suc (entryFor ks form))
+        next true x = sym (eq-eqb (suc e) (suc (entryFor ks form)) (ap suc (eqb-true e (entryFor ks form) x)))
+        next false x = sym (ne-eqb (suc e) (suc (entryFor ks form)) (λ y. eqb-false e (entryFor ks form) x (omega arith)))
 
-    key-slots : places E ≡ 1 → (m : Bytes) → any (λ n. hasSlot (bookIn t) (slot E n 0) m) (upFrom 64 1) ≡ hasKey (bookIn t) d m
-    unfolding bookIn mzTab hasSlot hasKey
-    key-slots z m = any-both (isField m) (λ n. isSlot (bookIn t) (slot E n 0) (keyFound (bookIn t) m)) (upFrom 64 1) ∙ rw (by (keyFound (bookIn t) m) refl)
-      where
-        by : (r : Found) → keyFound (bookIn t) m ≡ r → any (λ n. isSlot (bookIn t) (slot E n 0) r) (upFrom 64 1) ≡ isForm (bookIn t) d r
-        by Unknown q = any-false (upFrom 64 1)
-        by (Known e k f i j) q = sym (form-slots _ e k f i j q d E o s z (each-of z))
+pub entry-inside : (form : String) (ks : List String) → howMany (hasForm form) ks ≡ 1 → entryFor ks form < length ks
+unfolding howMany entryFor
+entry-inside form [] h = absurd (omega arith)
+entry-inside form (k ∷ ks) h = go (hasForm form k) h (entry-inside form ks)
+  where
+    go : (t : Bool) → cond t (suc (howMany (hasForm form) ks)) (howMany (hasForm form) ks) ≡ 1 → (howMany (hasForm form) ks ≡ 1 → entryFor ks form < length ks)
+        → cond t 0 (suc (entryFor ks form)) < suc (length ks)
+    go true z f = omega arith
+    go false z f = omega (arith, f z)
 
-    -- some line has the key where its slot is marked
-    entry-means : (above : List Bytes) (slots : List Bool) → places E ≡ 0 → Slots (bookIn t) above slots → hasEntry (bookIn t) slots E ≡ any (hasKey (bookIn t) d) above
-    entry-means above slots z h = h (slot E 0 0) (slot-in (alone z)) ∙ any-alike (hasSlot (bookIn t) (slot E 0 0)) (hasKey (bookIn t) d) (key-slot z) above
+-- THE SLOTS OF AN ENTRY
 
-    run-means : (above : List Bytes) (slots : List Bool) → places E ≡ 1 → Slots (bookIn t) above slots → any (λ n. getD slots (slot E n 0) false) (upFrom 64 1) ≡ any (hasKey (bookIn t) d) above
-    run-means above slots z h =
-        any-within (λ n. getD slots (slot E n 0) false) (λ n. any (hasSlot (bookIn t) (slot E n 0)) above) 64 1 (λ n a b. h (slot E n 0) (slot-in (each-of z n a b)))
-        ∙ any-swap (λ n m. hasSlot (bookIn t) (slot E n 0) m) (upFrom 64 1) above ∙ any-alike (λ m. any (λ n. hasSlot (bookIn t) (slot E n 0) m) (upFrom 64 1)) (hasKey (bookIn t) d) (key-slots z) above
+-- a number in a range
+range-any : (x n k : ℕ) → any (λ s. eqb x s) (upFrom n k) ≡ (leb k x && ltb x (k + n))
+range-any x n k = test-eq (any (λ s. eqb x s) (upFrom n k)) (leb k x && ltb x (k + n)) there back
+  where
+    there : any (λ s. eqb x s) (upFrom n k) ≡ true → (leb k x && ltb x (k + n)) ≡ true
+    there h =
+        let r = up-any (λ s. eqb x s) n k h in
+        let z = eqb-true x (r .0) (r .1 .1 .1) in
+        rw (le-leb k x (omega (arith, r .1 .0)), lt-ltb x (k + n) (omega (arith, r .1 .1 .0)))
 
-  -- THE FIVE
+    back : (leb k x && ltb x (k + n)) ≡ true → any (λ s. eqb x s) (upFrom n k) ≡ true
+    back h =
+        let q = and-both (leb k x) (ltb x (k + n)) h in
+        any-up (λ s. eqb x s) n k x (leb-true k x (q .0)) (ltb-true x (k + n) (q .1)) (eq-eqb x x refl)
 
-  -- a break in front of a list, and of what comes after it
-  front : (t : Bool) (b : Break) (bs rest : List Break) → when t b (bs ++ rest) ≡ (when t b [] ++ bs) ++ rest
-  front true b bs rest = refl
-  front false b bs rest = refl
+module _ (es : List Entry) (E : ℕ) (hE : E < length es) where
+  abbrev from : ℕ
+  from = startOf es E
 
-  only-version : Only "mzTab-version" 0
-  unfolding Only all upFrom keys bytes same
-  only-version = refl
+  abbrev many : ℕ
+  many = startOf es (E + 1) - startOf es E
 
-  only-mode : Only "mzTab-mode" 1
-  unfolding Only all upFrom keys bytes same
-  only-mode = refl
-
-  only-type : Only "mzTab-type" 2
-  unfolding Only all upFrom keys bytes same
-  only-type = refl
-
-  only-description : Only "description" 5
-  unfolding Only all upFrom keys bytes same
-  only-description = refl
-
-  only-location : Only "ms_run[n]-location" 16
-  unfolding Only all upFrom keys bytes same
-  only-location = refl
-
-  -- what is put at the end is what rule 21 gives
-  pub end-means : (F : List Bytes) (slots : List Bool) → Slots (bookIn t) F slots → (rest : List Break) → endBreaks (bookIn t) slots (length F + 1) rest ≡ atEnd (endRules (bookIn t)) (ends (bookIn t)) F ++ rest
-  unfolding endBreaks atEnd endRules each atCell bookIn mzTab demanded keys bytes same holes piecesFrom entryOf
-  end-means F slots h rest =
-      rw (
-        entry-means "mzTab-version" 0 only-version refl (omega arith) F slots refl h,
-        entry-means "mzTab-mode" 1 only-mode refl (omega arith) F slots refl h,
-        entry-means "mzTab-type" 2 only-type refl (omega arith) F slots refl h,
-        entry-means "description" 5 only-description refl (omega arith) F slots refl h,
-        run-means "ms_run[n]-location" 16 only-location refl (omega arith) F slots refl h,
-      ) (go (not (any (hasKey (bookIn t) "mzTab-version") F)) (not (any (hasKey (bookIn t) "mzTab-mode") F)) (not (any (hasKey (bookIn t) "mzTab-type") F)) (not (any (hasKey (bookIn t) "description") F)) (not (any (hasKey (bookIn t) "ms_run[n]-location") F)))
+  -- they are those of the names that are found at it
+  entry-range : (e i j : ℕ) → Of es e i j → any (λ s. eqb (slotOf es e i j) s) (upFrom many from) ≡ eqb e E
+  entry-range e i j o =
+      range-any (slotOf es e i j) many from
+      ∙ test-eq (leb from (slotOf es e i j) && ltb (slotOf es e i j) (from + many)) (eqb e E) there back
     where
-      n : ℕ
-      n = length F + 1
+      up : startOf es E ≤ startOf es (E + 1)
+      up = omega (arith, start-rise es E (E + 1) (omega arith) (omega arith))
 
-      go : (a b c d e : Bool)
-          → when a (breakAt n 1 21) (when b (breakAt n 2 21) (when c (breakAt n 3 21) (when d (breakAt n 4 21) (when e (breakAt n 5 21) rest))))
-          ≡ (when a (breakAt n 1 21) [] ++ (when b (breakAt n 2 21) [] ++ (when c (breakAt n 3 21) [] ++ (when d (breakAt n 4 21) [] ++ (when e (breakAt n 5 21) [] ++ []))))) ++ rest
-      go a b c d e =
-          let e1 = when e (breakAt n 5 21) [] ++ [] in
-          let d1 = when d (breakAt n 4 21) [] ++ e1 in
-          let c1 = when c (breakAt n 3 21) [] ++ d1 in
-          let b1 = when b (breakAt n 2 21) [] ++ c1 in
-          ap (when a (breakAt n 1 21)) (ap (when b (breakAt n 2 21)) (ap (when c (breakAt n 3 21)) (ap (when d (breakAt n 4 21)) (front e (breakAt n 5 21) [] rest) ∙ front d (breakAt n 4 21) e1 rest) ∙ front c (breakAt n 3 21) d1 rest) ∙ front b (breakAt n 2 21) c1 rest) ∙ front a (breakAt n 1 21) b1 rest
+      there : (leb from (slotOf es e i j) && ltb (slotOf es e i j) (from + many)) ≡ true → eqb e E ≡ true
+      there h =
+          let q = and-both (leb from (slotOf es e i j)) (ltb (slotOf es e i j) (from + many)) h in
+          let lo = leb-true from (slotOf es e i j) (q .0) in
+          let hi = ltb-true (slotOf es e i j) (from + many) (q .1) in
+          let a : E ≤ e = by-contra E e (λ m. omega (arith, slot-before es e i j o E m (omega arith), lo)) in
+          let b : e ≤ E = by-contra e E (λ m. omega (arith, hi, up, start-mono es (E + 1) e (omega arith) (omega (arith, o .inside)))) in
+          eq-eqb e E (omega arith)
+
+      back : eqb e E ≡ true → (leb from (slotOf es e i j) && ltb (slotOf es e i j) (from + many)) ≡ true
+      back t =
+          let z = eqb-true e E t in
+          let s : startOf es e ≡ startOf es E = ap (startOf es) z in
+          let lt = slot-before es e i j o (E + 1) (omega arith) (omega arith) in
+          rw (le-leb from (slotOf es e i j) (omega (arith, s)), lt-ltb (slotOf es e i j) (from + many) (omega (arith, lt, up)))
+
+-- SOME LINE HAS A KEY OF THE FORM where a slot of its entry is marked
+module _ (b : Book) (sized : Sized b) (form : String) (one : howMany (hasForm form) (b .keys) ≡ 1) where
+  abbrev es : List Entry
+  es = keyEntries b
+
+  abbrev E : ℕ
+  E = entryFor (b .keys) form
+
+  keys-many : length es ≡ length (b .keys)
+  keys-many = length-map (map bytes (b .keys)) entryOf ∙ length-map (b .keys) bytes
+
+  pub inside : E < length es
+  inside = omega (arith, entry-inside form (b .keys) one, keys-many)
+
+  form-slot : (m : Bytes) (r : Found) → keyFound b m ≡ r → any (λ s. isSlot b s r) (upFrom (many es E inside) (from es E inside)) ≡ isForm b form r
+  unfolding keyOf
+  form-slot m Unknown q = any-false (upFrom (many es E inside) (from es E inside))
+  form-slot m (Known e k f i j) q =
+      let o = known-of es (cell 2 m) e k f i j q in
+      entry-range es E inside e i j o ∙ sym (one-entry form (b .keys) e one (omega (arith, o .inside, keys-many)))
+
+  line-slot : (m : Bytes) → any (λ s. hasSlot b s m) (upFrom (many es E inside) (from es E inside)) ≡ hasKey b form m
+  unfolding hasSlot hasKey
+  line-slot m = any-both (isField m) (λ s. isSlot b s (keyFound b m)) (upFrom (many es E inside) (from es E inside)) ∙ rw (form-slot m (keyFound b m) refl)
+
+  pub marked-means : (F : List Bytes) (slots : List Bool) → Slots b F slots → isMarked slots (startOf es E) (startOf es (E + 1)) ≡ any (hasKey b form) F
+  unfolding isMarked
+  marked-means F slots h =
+      any-within (λ s. getD slots s false) (λ s. any (hasSlot b s) F) (many es E inside) (from es E inside) (λ s l m. h s (omega (arith, below, sized .slots)))
+      ∙ any-swap (λ s m. hasSlot b s m) (upFrom (many es E inside) (from es E inside)) F
+      ∙ any-alike (λ m. any (λ s. hasSlot b s m) (upFrom (many es E inside) (from es E inside))) (hasKey b form) line-slot F
+    where
+      below : startOf es (E + 1) ≤ startOf es (length es)
+      below = start-mono es (E + 1) (length es) (omega (arith, inside)) (omega arith)
+
+-- WHAT IS PUT AT THE END is what rule 21 gives
+module _ (b : Book) (sized : Sized b) (F : List Bytes) (slots : List Bool) (h : Slots b F slots) where
+  -- demand by demand
+  lacking-is : (d : Demand) → isOne (b .keys) d ≡ true → isLacking b slots d ≡ isUnmet b F d
+  unfolding isLacking isUnmet isOne
+  lacking-is d o = rw (marked-means b sized (d .form) (eqb-true (howMany (hasForm (d .form)) (b .keys)) 1 o) F slots h)
+
+  puts-listed : (n : ℕ) (ds : List Demand) → all (isOne (b .keys)) ds ≡ true → (rest : List Break)
+      → demandBreaks b slots n ds rest ≡ listed (isUnmet b F) n 21 ds ++ rest
+  unfolding demandBreaks listed all
+  puts-listed n [] o rest = refl
+  puts-listed n (d ∷ ds) o rest =
+      let q = and-both (isOne (b .keys) d) (all (isOne (b .keys)) ds) o in
+      rw (lacking-is d (q .0), puts-listed n ds (q .1) rest) (front (isUnmet b F d) (breakAt n (d .cell) 21) (listed (isUnmet b F) n 21 ds) rest)
+    where
+      front : (t : Bool) (x : Break) (bs rest : List Break) → when t x (bs ++ rest) ≡ when t x bs ++ rest
+      front true x bs rest = refl
+      front false x bs rest = refl
+
+  pub end-means : (rest : List Break) → endBreaks b slots (length F + 1) rest ≡ atEnd (endRules b) (ends b) F ++ rest
+  unfolding atEnd endRules atCell
+  end-means rest =
+      puts-listed (length F + 1) (b .demands) (sized .forms) rest
+      ∙ ap (λ (bs : List Break). bs ++ rest) (sym (cells-listed (isUnmet b F) (length F + 1) 21 (ends b) 0 (b .demands) (sized .order) (omega arith)))

@@ -129,7 +129,7 @@ breaks-bound book sized b h =
       from-bound book F F 0 refl,
       widths-bound b,
       each-bound 1 (ends book) 1 (atCell (endRules book) (spotAt F (length F + 1)) (length F + 1)) (at-bound (endRules book) (spotAt F (length F + 1)) (length F + 1)),
-      sized .demands,
+      sized .ends,
       ap (λ (k : ℕ). length (each k 1 (λ i. atLine (rules book) (spotAt F i) i))) z,
     )
 

@@ -1,16 +1,16 @@
 -- `book::directory::directory`: the bytes of the code are the directory of the book. Assumes nothing.
 use mathlib.Core.Path.{refl}
-use Rattle.text_bytes.specs.Bytes.{bytes}
+use Rattle.text_bytes.specs.Bytes.{bytes, same}
 use Rattle.book.specs.Keys.{keys}
 use Rattle.book.specs.Columns.{proteinColumns, peptideColumns, psmColumns, moleculeColumns, proteinRequired, peptideRequired, psmRequired, moleculeRequired}
-use Rattle.book.specs.Book.{mzTab}
-use Rattle.book.specs.Text.{tabbed, entriesFrom, directoryOf, directoryText}
+use Rattle.book.specs.Book.{mzTab, demands, hasForm}
+use Rattle.book.specs.Text.{tabbed, entriesFrom, directoryOf, directoryText, demandRows, entryFor}
 use Rattle.book.proofs.Laws.Directing.{has-directory}
 use Rattle.book.proofs.directory.directory.Statement.{statement}
 use Rattle.book.proofs.directory.directory.Tie as tie
 
 returns : tie.Need-returns
-unfolding directoryText directoryOf mzTab entriesFrom bytes keys tabbed proteinColumns proteinRequired peptideColumns peptideRequired psmColumns psmRequired moleculeColumns moleculeRequired
+unfolding directoryText directoryOf mzTab demands entriesFrom demandRows entryFor hasForm same bytes keys tabbed proteinColumns proteinRequired peptideColumns peptideRequired psmColumns psmRequired moleculeColumns moleculeRequired
 returns c = (refl, has-directory _ refl)
 
 pub directory-spec : {M : Type 1} → statement M
