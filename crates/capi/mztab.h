@@ -46,7 +46,7 @@ uint32_t mztab_reading(const uint8_t *file, size_t file_length, uint32_t section
 /* Judges a file by the 21 rules. The answer is the count of all breaks, 0 for an accepted file. The first of them that fit are written to places, three
  * numbers each: rule, line, cell; in order of line, then cell, then rule. places is a pointer to places_length numbers, not null also where that is 0.
  * A place that no whole break fills is left as it was. Of a file that is too long the count is 0, *number is 1 and no place is written. The call needs
- * some 400 KB of stack. */
+ * some 200 KB of stack. */
 uint32_t mztab_judge(const uint8_t *file, size_t file_length, uint32_t *places, size_t places_length, uint32_t *number);
 
 /* A break: its rule, and its line and cell in the file. */
@@ -55,7 +55,7 @@ struct mztab_fault {
 };
 
 /* The same as mztab_judge over a list of records: the first of all breaks that fit are written to faults, a record each. A record that no break fills is
- * left as it was. faults is a pointer to faults_length records, not null also where that is 0. The call needs some 500 KB of stack. */
+ * left as it was. faults is a pointer to faults_length records, not null also where that is 0. The call needs some 250 KB of stack. */
 uint32_t mztab_faults(const uint8_t *file, size_t file_length, struct mztab_fault *faults, size_t faults_length, uint32_t *number);
 
 /* Counts the rows of a section: the lines with its row code, whatever breaks the file has. Row r of mztab_cell is there exactly for r from 1 to the
@@ -64,7 +64,7 @@ uint32_t mztab_rows(const uint8_t *file, size_t file_length, uint32_t section, u
 
 /* The weights of the study variables of an accepted file. weights is a list of exactly 64 places: place i - 1 gets the number of protein rows whose cell
  * under `protein_abundance_study_variable[i]` is not `null`, 0 where the header has no such column. Refused with 1, 7, and 15 where the list has not 64
- * places; no place is then written. The call judges the file: it needs as much stack as mztab_judge, some 400 KB. */
+ * places; no place is then written. The call judges the file: it needs as much stack as mztab_judge, some 200 KB. */
 void mztab_weights(const uint8_t *file, size_t file_length, uint32_t *weights, size_t weights_length, uint32_t *number);
 
 /* Adds two amounts in cents. The answer is their sum. Where that is over 100,000,000,000, of any two 64-bit numbers, it is refused with 16, and the

@@ -9,7 +9,7 @@
 //! assert_eq!(mztab::cell(file, 4, 1, 2), Ok(b"2+" as &[u8]));
 //! ```
 //!
-//! No call keeps what it is lent. Calls may run at the same time; a judging call needs some 500 KB of stack, and a thread of Rust has 2 MB.
+//! No call keeps what it is lent. Calls may run at the same time; a judging call needs some 250 KB of stack, and a thread of Rust has 2 MB.
 
 #![deny(unsafe_code)]
 
