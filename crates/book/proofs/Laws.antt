@@ -4,4 +4,5 @@ pub mod Apart
 pub mod Sized
 pub mod Directing
 pub mod Starting
+pub mod Demanded
 pub mod Laying

@@ -1,16 +1,17 @@
 -- A rule book: what a version of the format says of sections and their line codes, of keys and of columns. Every definition that asks a table takes the
 -- book. Then the one book that there is. Assumes nothing.
-use Prim.Native.Nat.{ℕ, _+_, _-_}
+use Prim.Native.Nat.{ℕ, zero, suc, _+_, _-_}
 use Prim.Native.String.{String}
 use mathlib.Core.Bool.{Bool, true, false, cond, _&&_}
-use mathlib.Core.List.{List, [], _∷_, map}
+use mathlib.Core.List.{List, [], _∷_, _++_, map}
 use lib.ListN.{length, getD, drop}
 use lib.Dec.{eqb, leb, ltb}
 use Rattle.text_bytes.specs.Bytes.{Bytes, bytes, same, is, begins}
 use Rattle.book_names.specs.Names.{Entry, entryOf, lookupIn}
 use Rattle.book_names.specs.declared.Found.{Found}
 use Rattle.book_names.specs.declared.Found.the-variants.{Unknown, Known}
-use Rattle.book.specs.Letters.{TEXT, NONE, OPT}
+use Rattle.value_references.specs.Index.{MOST}
+use Rattle.book.specs.Letters.{TEXT, NONE, ALWAYS, OPT}
 use Rattle.book.specs.Keys.{keys}
 use Rattle.book.specs.Columns.{proteinColumns, peptideColumns, psmColumns, moleculeColumns, proteinRequired, peptideRequired, psmRequired, moleculeRequired}
 
@@ -24,27 +25,54 @@ pub record Section : Type 0 where
 abbrev pub section : String → String → List String → List String → Section
 section header row columns required = record { header = header; row = row; columns = columns; required = required }
 
--- a demand on the metadata: the form of a key that some line must have, the cell of line N + 1 at which its absence is reported, and a letter that says when it
--- is asked
+-- a demand on the metadata: the form of a key that some line must have, the cell of line N + 1 at which its absence is reported, a letter that says of which
+-- files it is asked, and the section that these must have, 0 for none. With the number of a family it is asked for each id of it that the file declares: the
+-- key must have the id's index, and its absence is reported so many cells further on
 pub record Demand : Type 0 where
   pub form : String
   pub cell : ℕ
   pub asked : ℕ
+  pub section : ℕ
+  pub each : ℕ
 
--- * of every file
-abbrev pub ALWAYS : ℕ
-ALWAYS = 42
+-- once, and not for each id of a family
+abbrev pub ONCE : ℕ
+ONCE = 4
 
 abbrev pub always : String → ℕ → Demand
-always form cell = record { form = form; cell = cell; asked = ALWAYS }
+always form cell = record { form = form; cell = cell; asked = ALWAYS; section = 0; each = ONCE }
 
 abbrev pub noDemand : Demand
 noDemand = always "" 0
 
+-- what a demand wants: its key, with the index of an id, or 0 where any line with such a key will do
+pub record Want : Type 0 where
+  pub demand : Demand
+  pub index : ℕ
+
+abbrev pub want : Demand → ℕ → Want
+want d i = record { demand = d; index = i }
+
+abbrev pub cellOf : Want → ℕ
+cellOf w = w .demand .cell + w .index
+
+-- k, k + 1, .., n of them
+unfoldable pub upFrom : ℕ → ℕ → List ℕ
+upFrom zero k = []
+upFrom (suc n) k = k ∷ upFrom n (suc k)
+
+-- one thing, or one for each index of the family's ids
+unfoldable pub wantsOf : Demand → List Want
+wantsOf d = cond (eqb (d .each) ONCE) (want d 0 ∷ []) (map (want d) (upFrom MOST 1))
+
+unfoldable pub wantsIn : List Demand → List Want
+wantsIn [] = []
+wantsIn (d ∷ ds) = wantsOf d ++ wantsIn ds
+
 -- the cell of the last of these, c where there is none
-unfoldable pub lastCell : ℕ → List Demand → ℕ
+unfoldable pub lastCell : ℕ → List Want → ℕ
 lastCell c [] = c
-lastCell c (d ∷ ds) = lastCell (d .cell) ds
+lastCell c (w ∷ ws) = lastCell (cellOf w) ws
 
 -- a book: the number of its first section, its sections in their order, its keys, a line each, and its demands, by rising cells
 pub record Book : Type 0 where
@@ -52,6 +80,10 @@ pub record Book : Type 0 where
   pub sections : List Section
   pub keys : List String
   pub demands : List Demand
+
+-- all that its demands want
+abbrev pub wants : Book → List Want
+wants b = wantsIn (b .demands)
 
 -- SECTIONS
 

@@ -81,6 +81,32 @@ VARIABLE = 86
 abbrev pub RUN : ℕ
 RUN = 82
 
+-- WHEN A DEMAND IS ASKED
+
+-- * of every file
+abbrev pub ALWAYS : ℕ
+ALWAYS = 42
+
+-- + of every file that has a mode and a type
+abbrev pub TYPED : ℕ
+TYPED = 43
+
+-- C of Complete files that have a type
+abbrev pub COMPLETE : ℕ
+COMPLETE = 67
+
+-- q of Quantification files that have a mode
+abbrev pub QUANTIFIED : ℕ
+QUANTIFIED = 113
+
+-- Q of Complete Quantification files
+abbrev pub BOTH : ℕ
+BOTH = 81
+
+-- A of Complete Quantification files, and of Summary ones where some assay is declared
+abbrev pub ASSAYED : ℕ
+ASSAYED = 65
+
 -- the entry number of an `opt_` column, which stands in no table
 abbrev pub OPT : ℕ
 OPT = 255

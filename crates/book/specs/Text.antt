@@ -14,7 +14,7 @@ use Rattle.text.specs.Lines.{TAB, cells}
 use Rattle.book_names.specs.Names.{Entry, formOf, spread, startOf}
 use Rattle.book_names.specs.Table.{WIDTH, entries}
 use Rattle.book_names.specs.Links.{HEADS, Linked}
-use Rattle.book.specs.Book.{Section, section, Demand, ALWAYS, noDemand, Book, hasForm, noSection, codeIn, entriesOf, keyEntries, mzTab}
+use Rattle.book.specs.Book.{Section, section, Demand, noDemand, Book, hasForm, noSection, codeIn, entriesOf, keyEntries, mzTab}
 use Rattle.book.specs.declared.demands.Demand.{Demand as Read}
 
 -- THE DIRECTORY: the number of the first section, how many there are, and an entry for each table, of which table 0 has the keys and table j + 1 the
@@ -94,7 +94,12 @@ pub record Starts (t : Bytes) (es : List Entry) : Type 0 where
   pub ends : startsAt t + 2 * (length es + 1) ≤ length t
   pub starts : (e : ℕ) → e ≤ length es → startAt t e ≡ startOf es e
 
--- THE DEMANDS stand behind the entries, four bytes each: the cell, the entry of the key, and when it is asked. How many there are stands in the last entry
+-- THE DEMANDS stand behind the entries, a few bytes each: the cell, the entry of the key, when it is asked, the section and the family. How many there are
+-- stands in the last entry
+
+-- the bytes of a demand
+abbrev pub SIZE : ℕ
+SIZE = 6
 
 -- the first line of a table of keys that has this form
 unfoldable pub entryFor : List String → String → ℕ
@@ -102,7 +107,7 @@ entryFor [] form = 0
 entryFor (k ∷ ks) form = let later = suc (entryFor ks form) in cond (hasForm form k) 0 later
 
 abbrev pub demandAt : Bytes → ℕ → ℕ
-demandAt t k = CODES + STEP * (getD t 1 0 + 1) + 4 * k
+demandAt t k = CODES + STEP * (getD t 1 0 + 1) + SIZE * k
 
 pub record Demands (t : Bytes) (b : Book) : Type 0 where
   pub many : getD t (CODES + STEP * getD t 1 0) 0 ≡ length (b .demands)
@@ -110,12 +115,16 @@ pub record Demands (t : Bytes) (b : Book) : Type 0 where
   pub cells : (k : ℕ) → k < length (b .demands) → numberAt t (demandAt t k) ≡ (getD (b .demands) k noDemand) .cell
   pub entries : (k : ℕ) → k < length (b .demands) → getD t (demandAt t k + 2) 0 ≡ entryFor (b .keys) ((getD (b .demands) k noDemand) .form)
   pub asked : (k : ℕ) → k < length (b .demands) → getD t (demandAt t k + 3) 0 ≡ (getD (b .demands) k noDemand) .asked
+  pub sections : (k : ℕ) → k < length (b .demands) → getD t (demandAt t k + 4) 0 ≡ (getD (b .demands) k noDemand) .section
+  pub families : (k : ℕ) → k < length (b .demands) → getD t (demandAt t k + 5) 0 ≡ (getD (b .demands) k noDemand) .each
 
 -- a demand as it is read from the text
 pub record Demanded (b : Book) (k : ℕ) (d : Read) : Type 0 where
   pub entry : d .entry ≡ entryFor (b .keys) ((getD (b .demands) k noDemand) .form)
   pub cell : d .cell ≡ (getD (b .demands) k noDemand) .cell
-  pub asked : d .asked ≡ eqb ((getD (b .demands) k noDemand) .asked) ALWAYS
+  pub asked : d .asked ≡ (getD (b .demands) k noDemand) .asked
+  pub section : d .section ≡ (getD (b .demands) k noDemand) .section
+  pub each : d .each ≡ (getD (b .demands) k noDemand) .each
 
 -- a text holds a book
 pub record IsText (b : Book) (t : Bytes) : Type 0 where
@@ -182,7 +191,7 @@ allStarts b = startsFrom 0 (keyEntries b)
 -- the demands of a book
 unfoldable pub demandRows : List String → List Demand → Bytes
 demandRows ks [] = []
-demandRows ks (d ∷ ds) = two (d .cell) ++ (entryFor ks (d .form) ∷ d .asked ∷ demandRows ks ds)
+demandRows ks (d ∷ ds) = two (d .cell) ++ (entryFor ks (d .form) ∷ d .asked ∷ d .section ∷ d .each ∷ demandRows ks ds)
 
 -- the entries of these tables, whose rows, required columns and links begin at these places, and the places where they end, behind the number m
 unfoldable pub entriesFrom : ℕ → ℕ → ℕ → ℕ → List Section → Bytes
@@ -197,19 +206,19 @@ directoryOf b r w l = b .first ∷ length (b .sections) ∷ (entriesFrom (length
 
 -- THE TEXT of the one book: where its directory, its rows, its required columns, its starts and its links end
 abbrev pub DIRECTORY : ℕ
-DIRECTORY = 94
+DIRECTORY = 104
 
 abbrev pub ROWS : ℕ
-ROWS = 8032
+ROWS = 8042
 
 abbrev pub WANTED : ℕ
-WANTED = 8177
+WANTED = 8187
 
 abbrev pub STARTS : ℕ
-STARTS = 8301
+STARTS = 8311
 
 abbrev pub LINKS : ℕ
-LINKS = 9728
+LINKS = 9738
 
 unfoldable pub directoryText : Bytes
 directoryText = directoryOf mzTab DIRECTORY ROWS STARTS

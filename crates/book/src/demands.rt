@@ -8,17 +8,20 @@ ghost use Prim.Native.Nat.{_<_};
 ghost use lib.ListN.{length};
 ghost use Rattle.book.specs.Text.{bookIn, IsBook, Demanded};
 
-// The bytes of a demand: two for its cell, one for its key's entry, one that says when it is asked.
-const DEMAND: usize = 4;
+// The bytes of a demand: two for its cell, and one each for its key's entry, when it is asked, its section and its family.
+const SIZE: usize = 6;
 
-// Asked of every file.
-const ALWAYS: u8 = b'*';
+// A demand that is asked once, and not for each id of a family.
+pub const ONCE: usize = 4;
 
-// The entry of the key that is demanded, the cell at which its absence is reported, and whether it is asked.
+// The entry of the key that is demanded, the cell at which its absence is reported, the letter that says of which files it is asked, the section that these
+// must have, 0 for none, and the number of the family for each of whose ids it is asked, or ONCE.
 pub struct Demand {
     pub entry: usize,
     pub cell: u32,
-    pub asked: bool,
+    pub asked: u8,
+    pub section: usize,
+    pub each: usize,
 }
 
 // How many demands there are.
@@ -35,11 +38,18 @@ pub fn nth_demand(book: &[u8], k: usize) -> Demand
     requires { ⌜ k < length ((bookIn (now book)) .demands) ⌝ }
     ensures { λ r. ⌜ Demanded (bookIn (now (book .entry))) k r ⌝ }
 {
-    let at = CODES + STEP * (wide(book[1]) + 1) + DEMAND * k;
-    let entry = wide(book[at + 2]);
+    let at = CODES + STEP * (wide(book[1]) + 1) + SIZE * k;
     let low = narrow(book[at]);
     let high = narrow(book[at + 1]);
     let cell = low + 256 * high;
-    let asked = book[at + 3] == ALWAYS;
-    Demand { entry, cell, asked }
+    let entry = wide(book[at + 2]);
+    let section = wide(book[at + 4]);
+    let each = wide(book[at + 5]);
+    Demand {
+        entry,
+        cell,
+        asked: book[at + 3],
+        section,
+        each,
+    }
 }

@@ -1,7 +1,7 @@
 -- How the text of the book is made: bytes are laid one after the other, then the links of each table are written behind those of the tables before it. The tables
 -- and places of what stands in front of the links are computed; a text that begins so has the same ones. Assumes nothing.
 use Prim.Native.Nat.{ℕ, zero, suc, _+_, _-_, _*_, _/_, _≤_, _<_}
-use mathlib.Core.Path.{_≡_, refl, ap, sym, _∙_, subst⁻¹}
+use mathlib.Core.Path.{_≡_, refl, ap, sym, _∙_, subst, subst⁻¹}
 use mathlib.Core.Bool.{Bool, true, false}
 use mathlib.Core.List.{[], _∷_, _++_, map, append-assoc, append-nil}
 use native.Mathlib.Numerals.{add-one}
@@ -22,8 +22,9 @@ use Rattle.book_names.proofs.Laws.Linking.{entry-count, linked-part}
 use Rattle.book.specs.Keys.{keys}
 use Rattle.book.specs.Columns.{proteinColumns, peptideColumns, psmColumns, moleculeColumns, proteinRequired, peptideRequired, psmRequired, moleculeRequired}
 use Rattle.book.specs.Book.{Section, Demand, noDemand, demands, noSection, codeIn, entriesOf, keyEntries, mzTab, hasForm}
-use Rattle.book.specs.Text.{DIRECTORY, ROWS, WANTED, STARTS, LINKS, numberAt, rowsAt, wantedAt, linksAt, rowsOf, wantedOf, startsAt, codeAt, IsDirectory, Holds, Wants, Starts, bookIn, IsBook, padded, laid, tabbed, tablesOf, allRows, allWanted, allStarts, entriesFrom, directoryOf, directoryText, laidOut, CODES, STEP, entryFor, demandAt, Demands, demandRows}
+use Rattle.book.specs.Text.{DIRECTORY, ROWS, WANTED, STARTS, LINKS, numberAt, rowsAt, wantedAt, linksAt, rowsOf, wantedOf, startsAt, codeAt, IsDirectory, Holds, Wants, Starts, bookIn, IsBook, padded, laid, tabbed, tablesOf, allRows, allWanted, allStarts, entriesFrom, directoryOf, directoryText, laidOut, CODES, STEP, entryFor, SIZE, demandAt, Demands, demandRows}
 use Rattle.book.proofs.Laws.Starting.{number-behind, starts-read, starts-length}
+use Rattle.book.proofs.Laws.Demanded.{RowAt, row-behind, rows-read}
 
 -- LAYING: s follows p in b. Nothing is copied, one byte more is, and all are
 pub copied-none : (b s : Bytes) (at : ℕ) → take (at + 0) b ≡ take at b ++ take 0 s
@@ -97,22 +98,28 @@ required : (j : ℕ) → j < 4 → cells (wantedOf laidOut (suc j)) ≡ map byte
 unfolding mzTab demands laidOut directoryText directoryOf entriesFrom demandRows entryFor hasForm same allRows allWanted laid padded tabbed bytes keys proteinColumns peptideColumns psmColumns moleculeColumns proteinRequired peptideRequired psmRequired moleculeRequired splitOn onFirst
 required = four (λ j. cells (wantedOf laidOut (suc j)) ≡ map bytes ((getD (mzTab .sections) j noSection) .required)) refl refl refl refl
 
--- the demands
-record DemandOf (k : ℕ) : Type 0 where
-  cell : numberAt laidOut (74 + 4 * k) ≡ (getD (mzTab .demands) k noDemand) .cell
-  entry : getD laidOut (74 + 4 * k + 2) 0 ≡ entryFor (mzTab .keys) ((getD (mzTab .demands) k noDemand) .form)
-  asked : getD laidOut (74 + 4 * k + 3) 0 ≡ (getD (mzTab .demands) k noDemand) .asked
+-- the demands stand behind the entries of the tables
+tops : Bytes
+tops = mzTab .first ∷ length (mzTab .sections) ∷ entriesFrom (length (mzTab .demands)) DIRECTORY ROWS STARTS (tablesOf mzTab)
 
-demand-of : (k : ℕ) → k < 5 → DemandOf k
-unfolding mzTab demands laidOut directoryText directoryOf entriesFrom demandRows entryFor hasForm same allRows allWanted laid padded tabbed bytes keys proteinColumns peptideColumns psmColumns moleculeColumns proteinRequired peptideRequired psmRequired moleculeRequired
-demand-of =
-    five
-    DemandOf
-    (record { cell = refl; entry = refl; asked = refl })
-    (record { cell = refl; entry = refl; asked = refl })
-    (record { cell = refl; entry = refl; asked = refl })
-    (record { cell = refl; entry = refl; asked = refl })
-    (record { cell = refl; entry = refl; asked = refl })
+rest : Bytes
+rest = allRows (tablesOf mzTab) ++ (allWanted (tablesOf mzTab) ++ allStarts mzTab)
+
+laid-tops : laidOut ≡ tops ++ (demandRows (mzTab .keys) (mzTab .demands) ++ rest)
+unfolding laidOut directoryText directoryOf tops rest
+laid-tops =
+    ap (λ (l : Bytes). mzTab .first ∷ length (mzTab .sections) ∷ l)
+    (append-assoc (entriesFrom (length (mzTab .demands)) DIRECTORY ROWS STARTS (tablesOf mzTab)) (demandRows (mzTab .keys) (mzTab .demands)) rest)
+
+tops-size : length tops ≡ 74
+unfolding tops mzTab demands entriesFrom tabbed bytes keys proteinColumns peptideColumns psmColumns moleculeColumns proteinRequired peptideRequired psmRequired moleculeRequired
+tops-size = refl
+
+demand-of : (k : ℕ) → k < length (mzTab .demands) → RowAt (mzTab .keys) (getD (mzTab .demands) k noDemand) laidOut (74 + SIZE * k)
+demand-of k h =
+    subst⁻¹ (λ (t : Bytes). RowAt (mzTab .keys) (getD (mzTab .demands) k noDemand) t (74 + SIZE * k)) laid-tops
+    (subst (λ (n : ℕ). RowAt (mzTab .keys) (getD (mzTab .demands) k noDemand) (tops ++ (demandRows (mzTab .keys) (mzTab .demands) ++ rest)) (n + SIZE * k)) tops-size
+    (row-behind (mzTab .keys) (getD (mzTab .demands) k noDemand) tops (demandRows (mzTab .keys) (mzTab .demands) ++ rest) (SIZE * k) (rows-read (mzTab .keys) (mzTab .demands) rest k h)))
 
 demand-count : (length (mzTab .demands) ≡ 5) × (getD laidOut 62 0 ≡ 5)
 unfolding mzTab demands laidOut directoryText directoryOf entriesFrom demandRows entryFor hasForm same allRows allWanted laid padded tabbed bytes keys proteinColumns peptideColumns psmColumns moleculeColumns proteinRequired peptideRequired psmRequired moleculeRequired
@@ -129,7 +136,7 @@ key-count = refl
 starts-size : length startsText ≡ 124
 starts-size = starts-length (keyEntries mzTab) 0 ∙ ap (λ (n : ℕ). 2 * (n + 1)) key-count
 
-pub front-sizes : (length directoryText ≡ 94) × (length (allRows (tablesOf mzTab)) ≡ 7938) × (length (allWanted (tablesOf mzTab)) ≡ 145)
+pub front-sizes : (length directoryText ≡ 104) × (length (allRows (tablesOf mzTab)) ≡ 7938) × (length (allWanted (tablesOf mzTab)) ≡ 145)
 unfolding mzTab demands directoryText directoryOf entriesFrom demandRows entryFor hasForm same allRows allWanted laid padded tabbed bytes keys proteinColumns peptideColumns psmColumns moleculeColumns proteinRequired peptideRequired psmRequired moleculeRequired
 front-sizes = (refl, refl, refl)
 
@@ -249,18 +256,23 @@ module _ (t : Bytes) (begins : take STARTS t ≡ laidOut) where
         starts = λ e h. ap (λ (n : ℕ). numberAt t (n + 2 * e)) starts-at ∙ number-same (WANTED + 2 * e) (omega (arith, key-count)) ∙ start-laid e (omega (arith, key-count));
       }
 
-  demand-at : (k : ℕ) → demandAt t k ≡ 74 + 4 * k
-  demand-at k = ap (λ (n : ℕ). CODES + STEP * (n + 1) + 4 * k) (byte-same 1 (omega arith) ∙ sections)
+  demand-at : (k : ℕ) → demandAt t k ≡ 74 + SIZE * k
+  demand-at k = ap (λ (n : ℕ). CODES + STEP * (n + 1) + SIZE * k) (byte-same 1 (omega arith) ∙ sections)
 
   demands-same : STARTS ≤ length t → Demands t mzTab
   demands-same l =
       record {
         many = ap (λ (n : ℕ). getD t (CODES + STEP * n) 0) (byte-same 1 (omega arith) ∙ sections) ∙ byte-same 62 (omega arith) ∙ demand-count .1 ∙ sym (demand-count .0);
         within = omega (arith, demand-at (length (mzTab .demands)), demand-count .0);
-        cells = λ k h. ap (numberAt t) (demand-at k) ∙ number-same (74 + 4 * k) (omega (arith, demand-count .0)) ∙ demand-of k (omega (arith, demand-count .0)) .cell;
-        entries = λ k h. ap (λ (n : ℕ). getD t (n + 2) 0) (demand-at k) ∙ byte-same (74 + 4 * k + 2) (omega (arith, demand-count .0)) ∙ demand-of k (omega (arith, demand-count .0)) .entry;
-        asked = λ k h. ap (λ (n : ℕ). getD t (n + 3) 0) (demand-at k) ∙ byte-same (74 + 4 * k + 3) (omega (arith, demand-count .0)) ∙ demand-of k (omega (arith, demand-count .0)) .asked;
+        cells = λ k h. ap (numberAt t) (demand-at k) ∙ number-same (74 + SIZE * k) (omega (arith, demand-count .0)) ∙ demand-of k h .cell;
+        entries = λ k h. field k 2 (omega arith) h ∙ demand-of k h .entry;
+        asked = λ k h. field k 3 (omega arith) h ∙ demand-of k h .asked;
+        sections = λ k h. field k 4 (omega arith) h ∙ demand-of k h .section;
+        families = λ k h. field k 5 (omega arith) h ∙ demand-of k h .each;
       }
+    where
+      field : (k m : ℕ) → m < SIZE → k < length (mzTab .demands) → getD t (demandAt t k + m) 0 ≡ getD laidOut (74 + SIZE * k + m) 0
+      field k m l h = ap (λ (n : ℕ). getD t (n + m) 0) (demand-at k) ∙ byte-same (74 + SIZE * k + m) (omega (arith, demand-count .0))
 
 -- WHERE A TABLE STANDS, as it is read from the front
 pub record TableAt (front : Bytes) (k from to at : ℕ) : Type 0 where
