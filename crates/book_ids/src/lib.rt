@@ -5,13 +5,12 @@ use text::Part;
 use text::cells::count_cells;
 use text::cells::has_code;
 use text::cells::nth_cell;
-use text::lines::line_at;
 use text_bytes::begins_with;
 use value_references::index::Index;
 use value_references::index::read_index;
 ghost use mathlib.Core.Path.{_≡_};
 ghost use Rattle.book.specs.Text.{bookIn, IsBook};
-ghost use Rattle.book_ids.specs.Ids.{indexAfter, idOf, keyId, lineId, marked, Declared};
+ghost use Rattle.book_ids.specs.Ids.{indexAfter, idOf, keyId, lineId, marked};
 
 // An id: its family, 0 sample, 1 assay, 2 study variable, 3 run, and its index.
 pub enum Id {
@@ -95,7 +94,7 @@ pub fn line_id(book: &[u8], line: &[u8]) -> Id
 }
 
 // The flags, with that of the id that the line declares.
-fn mark_line(flags: &mut [[bool; 64]; 4], book: &[u8], line: &[u8])
+pub fn mark_line(flags: &mut [[bool; 64]; 4], book: &[u8], line: &[u8])
     requires { ⌜ IsBook (now book) ⌝ }
     ensures { λ _. ⌜ now (flags .exit) ≡ marked (now (flags .entry)) (lineId (bookIn (now (book .entry))) (now (line .entry))) ⌝ }
 {
@@ -103,20 +102,4 @@ fn mark_line(flags: &mut [[bool; 64]; 4], book: &[u8], line: &[u8])
         Id::Nothing => {}
         Id::Of(f, i) => flags[f][i - 1] = true,
     }
-}
-
-// Which ids the file declares: index i of a family at place i - 1. One pass over all lines.
-pub fn declared_ids(book: &[u8], file: &[u8]) -> [[bool; 64]; 4]
-    requires { ⌜ IsBook (now book) ⌝ }
-    ensures { λ r. ⌜ Declared (bookIn (now (book .entry))) r (now (file .entry)) ⌝ }
-{
-    let mut flags = [[false; 64]; 4];
-    let mut at = 0;
-    while at < file.len() {
-        let line = line_at(file, at);
-        let end = line.end;
-        mark_line(&mut flags, book, &file[at..end]);
-        at = line.next;
-    }
-    flags
 }

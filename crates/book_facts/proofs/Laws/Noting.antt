@@ -1,0 +1,137 @@
+-- Facts with one line more: what was found before stays, and the lines that are left decide the rest. Assumes nothing.
+use Prim.Native.Nat.{ℕ, zero, suc, _+_, _≤_}
+use Prim.Native.String.{String}
+use mathlib.Core.Path.{_≡_, refl, sym, ap, _∙_}
+use mathlib.Core.Bool.{Bool, true, false, cond, _&&_, and-false}
+use mathlib.Core.List.{List, [], _∷_}
+use mathlib.Core.Option.{none, some}
+use native.Mathlib.Omega.{arith}
+use lib.Dec.{eqb}
+use lib.ListN.{length, getD, getElem?}
+use borrow.Author.Tests.{eqb-true, ne-eqb, eq-eqb}
+use Rattle.text_bytes.specs.Bytes.{Bytes, bytes, same, begins}
+use Rattle.text_bytes.proofs.Laws.Same.{same-equal}
+use Rattle.text_bytes.proofs.Laws.Tests.{absurd-bool}
+use Rattle.text.specs.Lines.{cells, cell, width, isMeta, isField}
+use Rattle.book_facts.specs.Facts.{sooner, soonest, modeAt, typeAt, versionAt, modeIn, typeIn, versionIn, modeOf, typeOf, versionOf, FactsOf, notedField, noted}
+use Rattle.book_facts.specs.declared.Facts.{Facts}
+
+-- A CELL of a line
+pub nth-some : (xs : List Bytes) (k : ℕ) (x : Bytes) → getElem? xs k ≡ some x → getD xs k [] ≡ x
+nth-some [] k x e = absurd (let z : _≡_ {A = ℕ} 0 1 = cc in omega arith)
+nth-some (y ∷ xs) zero x e = cc
+nth-some (y ∷ xs) (suc k) x e = nth-some xs k x e
+
+pub nth-none : (xs : List Bytes) (k : ℕ) → getElem? xs k ≡ none → length xs ≤ k
+nth-none [] k e = omega arith
+nth-none (y ∷ xs) zero e = absurd (let z : _≡_ {A = ℕ} 0 1 = cc in omega arith)
+nth-none (y ∷ xs) (suc k) e = omega (arith, nth-none xs k e)
+
+pub no-field : (l : Bytes) → (length (cells l) ≡ 3 → ⊥) → isField l ≡ false
+unfolding isField
+no-field l h = rw (ne-eqb (length (cells l)) 3 h, and-false (isMeta l))
+
+pub other-code : (l : Bytes) → isMeta l ≡ false → isField l ≡ false
+unfolding isField
+other-code l h = rw h
+
+pub is-field : (l : Bytes) → isMeta l ≡ true → length (cells l) ≡ 3 → isField l ≡ true
+unfolding isField
+is-field l h e = rw (h, eq-eqb (length (cells l)) 3 e)
+
+-- A VALUE of a kind with the key that is sought
+module _ (p k : Bool) (x : ℕ) where
+  pub letter-key : p ≡ false → 0 ≡ cond (p && k) x 0
+  letter-key h = rw h
+
+  pub letter-kind : k ≡ false → 0 ≡ cond (p && k) x 0
+  letter-kind h = rw (h, and-false p)
+
+  pub letter-both : p ≡ true → k ≡ true → x ≡ cond (p && k) x 0
+  letter-both h m = rw (h, m)
+
+-- THE SOONER
+pub sooner-first : (a b : ℕ) → (a ≡ 0 → ⊥) → a ≡ sooner a b
+sooner-first a b h = rw (ne-eqb a 0 h)
+
+pub sooner-second : (a b : ℕ) → a ≡ 0 → b ≡ sooner a b
+sooner-second a b h = rw (eq-eqb a 0 h)
+
+sooner-none : (a : ℕ) → sooner a 0 ≡ a
+sooner-none a = go (eqb a 0) refl
+  where
+    go : (t : Bool) → eqb a 0 ≡ t → cond t 0 a ≡ a
+    go true e = sym (eqb-true a 0 e)
+    go false e = refl
+
+sooner-three : (a b c : ℕ) → sooner a (sooner b c) ≡ sooner (sooner a b) c
+sooner-three a b c = go (eqb a 0) refl
+  where
+    go : (t : Bool) → eqb a 0 ≡ t → cond t (sooner b c) a ≡ cond (eqb (cond t b a) 0) c (cond t b a)
+    go true e = refl
+    go false e = rw e
+
+soonest-next : (f : ℕ → Bytes → ℕ) (a n : ℕ) (l : Bytes) (ls : List Bytes) → sooner a (soonest f n (l ∷ ls)) ≡ sooner (sooner a (f n l)) (soonest f (n + 1) ls)
+unfolding soonest
+soonest-next f a n l ls = sooner-three a (f n l) (soonest f (n + 1) ls)
+
+-- A LINE
+module _ (x : Facts) (n : ℕ) (l : Bytes) where
+  kept : modeIn n l ≡ 0 → typeIn n l ≡ 0 → versionIn n l ≡ 0 → noted x n l ≡ x
+  unfolding noted
+  kept m t v = rw (m, t, v, sooner-none (x .mode), sooner-none (x .typed), sooner-none (x .version))
+
+  -- that is no field, or has another key, says nothing
+  pub noted-none : isField l ≡ false → noted x n l ≡ x
+  noted-none h = kept (rw h) (rw h) (rw h)
+
+  either : (t : Bool) (a : ℕ) → a ≡ 0 → cond t a 0 ≡ 0
+  either true a e = e
+  either false a e = refl
+
+  other : (key : Bytes) (sought : String) → begins (bytes "mzTab-") key ≡ false → begins (bytes "mzTab-") (bytes sought) ≡ true → same key (bytes sought) ≡ false
+  other key sought h b = go (same key (bytes sought)) refl
+    where
+      go : (t : Bool) → same key (bytes sought) ≡ t → t ≡ false
+      go true e = absurd-bool (sym h ∙ ap (begins (bytes "mzTab-")) (same-equal key (bytes sought) e) ∙ b)
+      go false e = refl
+
+  pub noted-other : begins (bytes "mzTab-") (cell 2 l) ≡ false → noted x n l ≡ x
+  unfolding begins bytes
+  noted-other h =
+      let a = other (cell 2 l) "mzTab-mode" h refl in
+      let b = other (cell 2 l) "mzTab-type" h refl in
+      let c = other (cell 2 l) "mzTab-version" h refl in
+      kept (either (isField l) (modeAt (cell 2 l) (cell 3 l)) (rw a)) (either (isField l) (typeAt (cell 2 l) (cell 3 l)) (rw b)) (either (isField l) (versionAt n (cell 2 l)) (rw c))
+
+  pub noted-field : {key value : Bytes} → isField l ≡ true → getD (cells l) 1 [] ≡ key → getD (cells l) 2 [] ≡ value → notedField x n key value ≡ noted x n l
+  unfolding noted cell
+  noted-field h k v = rw (h, k, v)
+
+-- ALL LINES: the facts so far, of n lines, and the lines that are left decide
+pub record Left (file : List Bytes) (x : Facts) (n : ℕ) (rest : List Bytes) : Type 0 where
+  pub mode : modeOf file ≡ sooner (x .mode) (soonest modeIn (n + 1) rest)
+  pub typed : typeOf file ≡ sooner (x .typed) (soonest typeIn (n + 1) rest)
+  pub version : versionOf file ≡ sooner (x .version) (soonest versionIn (n + 1) rest)
+
+pub left-start : (file : List Bytes) (x : Facts) → x .mode ≡ 0 → x .typed ≡ 0 → x .version ≡ 0 → Left file x 0 file
+unfolding modeOf typeOf versionOf
+left-start file x m t v = record { mode = rw m; typed = rw t; version = rw v }
+
+pub left-next : {file : List Bytes} {x : Facts} {n : ℕ} {rest : List Bytes} (l : Bytes) (ls : List Bytes) → rest ≡ l ∷ ls → Left file x n rest → Left file (noted x (n + 1) l) (n + 1) ls
+unfolding noted
+left-next {file} {x} {n} {rest} l ls e h =
+    record {
+      mode = h .mode ∙ ap (λ (r : List Bytes). sooner (x .mode) (soonest modeIn (n + 1) r)) e ∙ soonest-next modeIn (x .mode) (n + 1) l ls;
+      typed = h .typed ∙ ap (λ (r : List Bytes). sooner (x .typed) (soonest typeIn (n + 1) r)) e ∙ soonest-next typeIn (x .typed) (n + 1) l ls;
+      version = h .version ∙ ap (λ (r : List Bytes). sooner (x .version) (soonest versionIn (n + 1) r)) e ∙ soonest-next versionIn (x .version) (n + 1) l ls;
+    }
+
+pub left-done : {file : List Bytes} {x : Facts} {n : ℕ} {rest : List Bytes} → rest ≡ [] → Left file x n rest → FactsOf file x
+unfolding soonest
+left-done {file} {x} {n} {rest} e h =
+    record {
+      mode = sym (h .mode ∙ ap (λ (r : List Bytes). sooner (x .mode) (soonest modeIn (n + 1) r)) e ∙ sooner-none (x .mode));
+      typed = sym (h .typed ∙ ap (λ (r : List Bytes). sooner (x .typed) (soonest typeIn (n + 1) r)) e ∙ sooner-none (x .typed));
+      version = sym (h .version ∙ ap (λ (r : List Bytes). sooner (x .version) (soonest versionIn (n + 1) r)) e ∙ sooner-none (x .version));
+    }
