@@ -16,6 +16,10 @@ use Rattle.book.specs.Book.{Book, keyOf}
 use Rattle.book_ids.specs.declared.Id.{Id}
 use Rattle.book_ids.specs.declared.Id.the-variants.{Nothing, Of}
 
+-- the family of assays
+abbrev pub ASSAYS : ℕ
+ASSAYS = 1
+
 -- whether a line declares id i of family f: an MTD line that has three cells and a known key beginning with it
 unfoldable pub declares : Book → ℕ → ℕ → Bytes → Bool
 declares b f i line = isField line && isKnown (keyOf b (keyCell line)) && begins (family f ++ written i) (keyCell line)

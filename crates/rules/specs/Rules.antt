@@ -1,17 +1,19 @@
 -- When a line breaks each of the 21 rules: paper 01, 'The 21 rules', one line each, in its words and order, with what stops it. Assumes nothing.
 use Prim.Native.Nat.{ℕ, _-_}
 use Prim.Native.String.{String}
-use mathlib.Core.Bool.{Bool, false, cond, not, _&&_}
+use mathlib.Core.Bool.{Bool, true, false, cond, not, _&&_, _||_}
 use mathlib.Core.List.{List, [], _∷_, _++_}
 use lib.ListN.{length, getD, take, drop}
 use lib.Dec.{eqb, leb, ltb}
 use Rattle.text_bytes.specs.Bytes.{Bytes, bytes, same, isEmpty, any, all}
 use Rattle.text.specs.Lines.{lines, cells, cell, width, isMeta, isThree, isField}
 use Rattle.book.specs.Keys.{isColunit}
-use Rattle.book.specs.Book.{Demand, ALWAYS, lastCell, Book, hasForm, sectionOf, keyOf, isOpt, columnOf, bookOf}
-use Rattle.book.specs.Letters.{TEXT, REFERENCE, REFERENCES, NONE}
+use Rattle.book.specs.Book.{Want, cellOf, upFrom, wants, lastCell, Book, hasForm, sectionOf, keyOf, isOpt, columnOf, bookOf}
+use Rattle.book.specs.Letters.{TEXT, REFERENCE, REFERENCES, NONE, ALWAYS, TYPED, COMPLETE, QUANTIFIED, BOTH, ASSAYED}
 use Rattle.book_names.specs.Names.{isKnown}
-use Rattle.book_ids.specs.Ids.{declares}
+use Rattle.book_ids.specs.Ids.{ASSAYS, declares}
+use Rattle.book_facts.specs.Facts.{modeOf, typeOf}
+use Rattle.value_references.specs.Index.{MOST}
 use Rattle.value_references.specs.References.{refTo, refsTo}
 use Rattle.book_kinds.specs.Kinds.{ofKind, cellOfKind, familyNumber, wordOf}
 use Rattle.book_names.specs.declared.Found.{Found}
@@ -146,24 +148,55 @@ rules b =
 
 -- REQUIRED METADATA, at line N + 1, at the cells that the book's demands name
 
--- a key of this form, as the table of keys writes it
-abbrev pub isForm : Book → String → Found → Bool
-isForm b form Unknown = false
-isForm b form (Known e k f i j) = hasForm form (getD (b .keys) e "")
+-- when a demand is asked, by its letter, of a file of this mode and type, 0 for none (67 is C Complete, 81 Q Quantification); `assay` says whether some assay
+-- is declared
+unfoldable pub asks : ℕ → ℕ → ℕ → Bool → Bool
+asks asked mode type assay =
+    cond (eqb asked ALWAYS) true
+    (cond (eqb mode 0 || eqb type 0) false
+    (cond (eqb asked TYPED) true
+    (cond (eqb asked COMPLETE) (eqb mode 67)
+    (cond (eqb asked QUANTIFIED) (eqb type 81)
+    (cond (eqb asked BOTH) (eqb type 81 && eqb mode 67)
+    (cond (eqb asked ASSAYED) (eqb type 81 && (eqb mode 67 || assay)) false))))))
+
+-- some id of a family is declared
+abbrev pub isDeclared : Book → List Bytes → ℕ → Bool
+isDeclared b file f = any (λ i. any (declares b f i) file) (upFrom MOST 1)
+
+-- a section is present where a line has its header code or its row code; 0 is asked of none
+abbrev pub inSection : Book → ℕ → Bytes → Bool
+inSection b s l = eqb (header b l) s || eqb (row b l) s
+
+unfoldable pub isPresent : Book → List Bytes → ℕ → Bool
+isPresent b file s = eqb s 0 || any (inSection b s) file
+
+-- what is wanted for an id is asked where the id is declared
+abbrev pub isFor : Book → List Bytes → Want → Bool
+isFor b file w = eqb (w .index) 0 || any (declares b (w .demand .each) (w .index)) file
+
+unfoldable pub isAsked : Book → List Bytes → Want → Bool
+isAsked b file w =
+    asks (w .demand .asked) (modeOf file) (typeOf file) (isDeclared b file ASSAYS) && (isPresent b file (w .demand .section) && isFor b file w)
+
+-- a key of the form that is wanted, as the table of keys writes it, and with the id's index
+abbrev pub isWanted : Book → Want → Found → Bool
+isWanted b w Unknown = false
+isWanted b w (Known e k f i j) = hasForm (w .demand .form) (getD (b .keys) e "") && (eqb (w .index) 0 || eqb (w .index) i)
 
 -- an MTD line of three cells with such a key
-unfoldable pub hasKey : Book → String → Bytes → Bool
-hasKey b form m = isField m && isForm b form (keyFound b m)
+unfoldable pub hasKey : Book → Want → Bytes → Bool
+hasKey b w m = isField m && isWanted b w (keyFound b m)
 
--- a demand that is asked and that no line meets
-unfoldable pub isUnmet : Book → List Bytes → Demand → Bool
-isUnmet b file d = eqb (d .asked) ALWAYS && not (any (hasKey b (d .form)) file)
+-- what is asked and no line has
+unfoldable pub isUnmet : Book → List Bytes → Want → Bool
+isUnmet b file w = isAsked b file w && not (any (hasKey b w) file)
 
 unfoldable pub endRules : Book → List Rule
-endRules b = rule 21 (λ p c. any (λ d. eqb (d .cell) c && isUnmet b (p .file) d) (b .demands)) ∷ []
+endRules b = rule 21 (λ p c. any (λ w. eqb (cellOf w) c && isUnmet b (p .file) w) (wants b)) ∷ []
 
 abbrev pub ends : Book → ℕ
-ends b = lastCell 0 (b .demands)
+ends b = lastCell 0 (wants b)
 
 -- ALL BREAKS of a file by a book, in order of line, then cell, then rule
 unfoldable pub breaksBy : Book → List Bytes → List Break
