@@ -176,8 +176,7 @@ abbrev pub isFor : Book → List Bytes → Want → Bool
 isFor b file w = eqb (w .index) 0 || any (declares b (w .demand .each) (w .index)) file
 
 unfoldable pub isAsked : Book → List Bytes → Want → Bool
-isAsked b file w =
-    asks (w .demand .asked) (modeOf file) (typeOf file) (isDeclared b file ASSAYS) && (isPresent b file (w .demand .section) && isFor b file w)
+isAsked b file w = (asks (w .demand .asked) (modeOf file) (typeOf file) (isDeclared b file ASSAYS) && isPresent b file (w .demand .section)) && isFor b file w
 
 -- a key of the form that is wanted, as the table of keys writes it, and with the id's index
 abbrev pub isWanted : Book → Want → Found → Bool

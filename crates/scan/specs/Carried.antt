@@ -10,7 +10,7 @@ use Rattle.text.specs.Lines.{cells, lines, width}
 use Rattle.book.specs.Book.{SECTIONS, SLOTS, Book}
 use Rattle.rules.specs.Sorts.{sortOf, header, isTable, controlCell}
 use Rattle.rules.specs.Breaks.{Break, spotAt, each, atLine, atEnd}
-use Rattle.rules.specs.Rules.{ofSection, ofLater, nearer, nearest, rules, endRules, ends}
+use Rattle.rules.specs.Rules.{ofSection, ofLater, nearer, nearest, isPresent, rules, endRules, ends}
 use Rattle.scan.specs.Machine.{Ids, metaBreaks, headBreaks, rowBreaks, unknownBreaks, hasSlot, Slots, Kinds}
 use Rattle.scan.specs.declared.state.State.{State}
 use Rattle.rules.specs.declared.sorts.Sort.{Sort}
@@ -18,13 +18,32 @@ use Rattle.rules.specs.declared.sorts.Sort.the-variants.{Silent, Unknown, Meta,
 
 -- no line is above
 abbrev pub initial : State
-initial = record { seen = false ∷ false ∷ false ∷ false ∷ false ∷ []; highest = 0; section = 0; width = 1; table = false }
+initial =
+    record {
+      seen = false ∷ false ∷ false ∷ false ∷ false ∷ [];
+      present = true ∷ false ∷ false ∷ false ∷ false ∷ [];
+      highest = 0;
+      section = 0;
+      width = 1;
+      table = false;
+    }
 
 abbrev pub afterHeader : ℕ → ℕ → State → State
-afterHeader h w s = record { seen = set (s .seen) h true; highest = cond (ltb (s .highest) h) h (s .highest); section = h; width = w; table = true }
+afterHeader h w s =
+    record {
+      seen = set (s .seen) h true;
+      present = set (s .present) h true;
+      highest = cond (ltb (s .highest) h) h (s .highest);
+      section = h;
+      width = w;
+      table = true;
+    }
 
-abbrev pub afterRow : State → State
-afterRow s = record { seen = s .seen; highest = s .highest; section = s .section; width = s .width; table = true }
+-- a row changes it only where nothing of its section came before
+abbrev pub afterRow : ℕ → State → State
+afterRow r s =
+    cond (getD (s .present) r false) s
+    (record { seen = s .seen; present = set (s .present) r true; highest = s .highest; section = s .section; width = s .width; table = true })
 
 -- the state after a line of w cells, by its sort
 abbrev pub sortState : Sort → State → ℕ → State
@@ -32,7 +51,7 @@ sortState Silent s w = s
 sortState Meta s w = s
 sortState Unknown s w = s
 sortState (Header h) s w = afterHeader h w s
-sortState (Row r) s w = afterRow s
+sortState (Row r) s w = afterRow r s
 
 -- the breaks of a line, by its sort
 abbrev pub sortBreaks : Book → Sort → Ids → State → List ℕ → List Bool → ℕ → ℕ → List Bytes → List Break → List Break
@@ -49,6 +68,8 @@ lineBreaks b ids s kinds slots n l rest = sortBreaks b (sortOf b l) ids s kinds 
 pub record Stands (b : Book) (above : List Bytes) (s : State) (kinds : List ℕ) (slots : List Bool) : Type 0 where
   pub seen : (i : ℕ) → 0 < i → i < SECTIONS → getD (s .seen) i false ≡ any (ofSection b i) above
   pub sections : length (s .seen) ≡ SECTIONS
+  pub present : (i : ℕ) → i < SECTIONS → getD (s .present) i false ≡ isPresent b above i
+  pub presents : length (s .present) ≡ SECTIONS
   pub highest : (h : ℕ) → ltb h (s .highest) ≡ any (ofLater b h) above
   pub section : s .section ≡ header b (nearest b above)
   pub width : s .width ≡ length (cells (nearest b above))

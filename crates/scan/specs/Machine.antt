@@ -1,25 +1,28 @@
 -- The same breaks from what a scan carries along: each of these sets the breaks of a cell or a line in front of `rest`, what comes after. No public
 -- contract cites this file: that it says what the rules say is the law `means` of proofs/. Assumes nothing.
-use Prim.Native.Nat.{ℕ, zero, suc, _+_, _-_, _≤_, _<_}
+use Prim.Native.Nat.{ℕ, suc, _+_, _-_, _≤_, _<_}
 use mathlib.Core.Path.{_≡_}
-use mathlib.Core.Bool.{Bool, true, false, cond, not, _&&_}
+use mathlib.Core.Bool.{Bool, true, false, cond, not, _&&_, _||_}
 use mathlib.Core.List.{List, [], _∷_}
 use lib.ListN.{length, getD, take, drop}
 use lib.Dec.{eqb, leb, ltb}
 use Rattle.text_bytes.specs.Bytes.{Bytes, same, isEmpty, any}
 use Rattle.book.specs.Letters.{NONE}
 use Rattle.book.specs.Keys.{isColunit}
-use Rattle.book.specs.Book.{SLOTS, Demand, ALWAYS, Book, keyOf, keyEntries, isOpt, columnOf}
+use Rattle.book.specs.Book.{SECTIONS, SLOTS, Demand, Want, cellOf, upFrom, wants, Book, keyOf, keyEntries, isOpt, columnOf}
 use Rattle.book.specs.Text.{entryFor}
 use Rattle.book_names.specs.Names.{startOf, slotOf, isKnown}
-use Rattle.book_ids.specs.Ids.{declares}
+use Rattle.book_ids.specs.Ids.{ASSAYS, declares}
+use Rattle.book_facts.specs.Facts.{FactsOf}
+use Rattle.book_facts.specs.declared.Facts.{Facts}
+use Rattle.value_references.specs.Index.{MOST}
 use Rattle.book_kinds.specs.Kinds.{ofKind, cellOfKind, familyNumber}
 use Rattle.book_names.specs.declared.Found.{Found}
 use Rattle.book_names.specs.declared.Found.the-variants.{Unknown, Known}
 use Rattle.text.specs.Lines.{width, isField}
 use Rattle.rules.specs.Sorts.{header}
 use Rattle.rules.specs.Breaks.{Break, breakAt, when}
-use Rattle.rules.specs.Rules.{keyFound, isWrong, lastIndex, lacksColumn, names, kindIn, namedIn}
+use Rattle.rules.specs.Rules.{keyFound, isWrong, lastIndex, lacksColumn, names, kindIn, namedIn, asks, isPresent}
 
 -- CELLS
 
@@ -167,30 +170,51 @@ Slots b above slots = (s : ℕ) → s < SLOTS → getD slots s false ≡ any (ha
 abbrev pub Declares : Book → List Bytes → Ids → Type 0
 Declares b file ids = (f i : ℕ) → f < 4 → 1 ≤ i → i ≤ 64 → ids f i ≡ any (declares b f i) file
 
--- REQUIRED METADATA, by the slots of all lines
+-- REQUIRED METADATA, by the slots of all lines, the ids, the facts and the sections present
 
--- k, k + 1, .., n of them
-unfoldable pub upFrom : ℕ → ℕ → List ℕ
-upFrom zero k = []
-upFrom (suc n) k = k ∷ upFrom n (suc k)
-
--- whether a slot is marked, from one up to another
+-- whether a flag or a slot is marked, from one up to another
 unfoldable pub isMarked : List Bool → ℕ → ℕ → Bool
 isMarked slots from to = any (λ s. getD slots s false) (upFrom (to - from) from)
 
--- a demand that is asked, and no slot of its key is marked
-unfoldable pub isLacking : Book → List Bool → Demand → Bool
-isLacking b slots d =
-    let e = entryFor (b .keys) (d .form) in
-    eqb (d .asked) ALWAYS && not (isMarked slots (startOf (keyEntries b) e) (startOf (keyEntries b) (e + 1)))
+-- what was found of the file
+pub record Seen : Type 0 where
+  pub slots : List Bool
+  pub flags : List (List Bool)
+  pub facts : Facts
+  pub present : List Bool
 
-abbrev pub demandBreak : Book → List Bool → ℕ → Demand → List Break → List Break
-demandBreak b slots n d rest = when (isLacking b slots d) (breakAt n (d .cell) 21) rest
+-- it says what the file has
+pub record Tells (b : Book) (file : List Bytes) (x : Seen) : Type 0 where
+  pub slots : Slots b file (x .slots)
+  pub ids : Declares b file (idsOf (x .flags))
+  pub facts : FactsOf file (x .facts)
+  pub present : (s : ℕ) → s < SECTIONS → getD (x .present) s false ≡ isPresent b file s
 
--- these demands, one after the other, and all of a book
-unfoldable pub demandBreaks : Book → List Bool → ℕ → List Demand → List Break → List Break
-demandBreaks b slots n [] rest = rest
-demandBreaks b slots n (d ∷ ds) rest = demandBreak b slots n d (demandBreaks b slots n ds rest)
+-- whether a demand is asked of the file, and for the id
+unfoldable pub isAskedIn : Seen → Demand → Bool
+isAskedIn x d = asks (d .asked) (x .facts .mode) (x .facts .typed) (isMarked (getD (x .flags) ASSAYS []) 0 MOST) && getD (x .present) (d .section) false
 
-abbrev pub endBreaks : Book → List Bool → ℕ → List Break → List Break
-endBreaks b slots n rest = demandBreaks b slots n (b .demands) rest
+abbrev pub isForIn : Seen → Want → Bool
+isForIn x w = eqb (w .index) 0 || idsOf (x .flags) (w .demand .each) (w .index)
+
+-- the slots of the keys that are wanted: all of the entry's, or the one with the index
+abbrev pub firstSlot : Book → Want → ℕ
+firstSlot b w = startOf (keyEntries b) (entryFor (b .keys) (w .demand .form)) + (w .index - 1)
+
+abbrev pub endSlot : Book → Want → ℕ
+endSlot b w = cond (eqb (w .index) 0) (startOf (keyEntries b) (entryFor (b .keys) (w .demand .form) + 1)) (firstSlot b w + 1)
+
+-- what is asked, and no such slot is marked
+unfoldable pub isLacking : Book → Seen → Want → Bool
+isLacking b x w = (isAskedIn x (w .demand) && isForIn x w) && not (isMarked (x .slots) (firstSlot b w) (endSlot b w))
+
+abbrev pub wantBreak : Book → Seen → ℕ → Want → List Break → List Break
+wantBreak b x n w rest = when (isLacking b x w) (breakAt n (cellOf w) 21) rest
+
+-- these, one after the other, and all of a book
+unfoldable pub wantBreaks : Book → Seen → ℕ → List Want → List Break → List Break
+wantBreaks b x n [] rest = rest
+wantBreaks b x n (w ∷ ws) rest = wantBreak b x n w (wantBreaks b x n ws rest)
+
+abbrev pub endBreaks : Book → Seen → ℕ → List Break → List Break
+endBreaks b x n rest = wantBreaks b x n (wants b) rest

@@ -7,11 +7,12 @@ ghost use lib.Dec.{ltb};
 ghost use Rattle.book.specs.Book.{SECTIONS as limit};
 ghost use Rattle.scan.specs.Carried.{initial, afterHeader, afterRow};
 
-// Of the lines above: the sections that had a header, the highest of them, the nearest header's section and number of cells (0 and 1 where there is
-// none), and whether any is a header or row. `table` stands beside `seen`: at the end it would leave seven bytes of padding, which a copy takes in two halves
-// that overlap, and the next copy waits for both.
+// Of the lines above: the sections that had a header, those that had a header or a row (and 0, which is none), the highest that had a header, the nearest
+// header's section and number of cells (0 and 1 where there is none), and whether any is a header or row. `table` stands beside `seen`: at the end it would
+// leave seven bytes of padding, which a copy takes in two halves that overlap, and the next copy waits for both.
 pub struct State {
     pub seen: [bool; SECTIONS],
+    pub present: [bool; SECTIONS],
     pub table: bool,
     pub highest: u32,
     pub section: u32,
@@ -22,8 +23,11 @@ pub struct State {
 pub fn start() -> State
     ensures { λ r. ⌜ r ≡ initial ⌝ }
 {
+    let mut present = [false; SECTIONS];
+    present[0] = true;
     State {
         seen: [false; SECTIONS],
+        present,
         highest: 0,
         section: 0,
         width: 1,
@@ -45,6 +49,7 @@ pub fn after_header(state: State, section: u32, width: usize) -> State
 {
     let mut next = state;
     next.seen[section as usize] = true;
+    next.present[section as usize] = true;
     next.highest = higher(state.highest, section);
     next.section = section;
     next.width = width;
@@ -52,11 +57,17 @@ pub fn after_header(state: State, section: u32, width: usize) -> State
     next
 }
 
-// A row is above too.
-pub fn after_row(state: State) -> State
-    ensures { λ r. ⌜ r ≡ afterRow state ⌝ }
+// A row of the section is above too. Most rows stand below others of their section, and change nothing.
+pub fn after_row(state: State, section: u32) -> State
+    requires { ⌜ section < limit ⌝ }
+    ensures { λ r. ⌜ r ≡ afterRow section state ⌝ }
 {
+    let present = state.present;
+    if present[section as usize] {
+        return state;
+    }
     let mut next = state;
+    next.present[section as usize] = true;
     next.table = true;
     next
 }

@@ -1,14 +1,15 @@
 -- How many sections, keys and demands a book has: what a scan sets room aside for. Assumes nothing.
-use Prim.Native.Nat.{ℕ, suc, _+_, _≤_}
+use Prim.Native.Nat.{ℕ, suc, _+_, _≤_, _<_}
 use Prim.Native.String.{String}
 use mathlib.Core.Path.{_≡_, refl}
-use mathlib.Core.Bool.{Bool, true, cond, _&&_, _||_}
+use mathlib.Core.Bool.{Bool, true, false, cond, _&&_, _||_}
 use mathlib.Core.List.{List, [], _∷_}
 use native.Mathlib.Omega.{arith}
 use lib.Dec.{eqb, ltb}
 use lib.ListN.{length}
-use borrow.Author.Tests.{leb-true}
+use borrow.Author.Tests.{leb-true, ltb-true, eqb-true}
 use Rattle.text_bytes.specs.Bytes.{Bytes, bytes, same, all}
+use Rattle.text_bytes.proofs.Laws.Tests.{and-both}
 use Rattle.book_names.specs.Names.{entryOf, piecesFrom, pieces, spread, startOf}
 use Rattle.book_names.proofs.Laws.Known.{holes}
 use Rattle.book.specs.Keys.{keys}
@@ -25,9 +26,39 @@ unfoldable pub howMany : (String → Bool) → List String → ℕ
 howMany p [] = 0
 howMany p (x ∷ xs) = let later = howMany p xs in cond (p x) (suc later) later
 
--- just one key has the form that is demanded; for each id of a family, a form with one place
+-- a demand for each id of a family has a form with one place
+unfoldable pub isEach : Demand → Bool
+isEach d = ltb (d .each) ONCE && eqb (holes (pieces (bytes (d .form)))) 1
+
+-- a sound demand: just one key has its form
 unfoldable pub isSound : List String → Demand → Bool
-isSound ks d = eqb (howMany (hasForm (d .form)) ks) 1 && ((eqb (d .each) ONCE || (ltb (d .each) ONCE && eqb (holes (pieces (bytes (d .form)))) 1)) && ltb (d .section) SECTIONS)
+isSound ks d = eqb (howMany (hasForm (d .form)) ks) 1 && ((eqb (d .each) ONCE || isEach d) && ltb (d .section) SECTIONS)
+
+module _ (d : Demand) (h : isEach d ≡ true) where
+  pub each-family : d .each < ONCE
+  unfolding isEach
+  each-family = ltb-true (d .each) ONCE (and-both (ltb (d .each) ONCE) (eqb (holes (pieces (bytes (d .form)))) 1) h .0)
+
+  pub each-places : holes (pieces (bytes (d .form))) ≡ 1
+  unfolding isEach
+  each-places = eqb-true (holes (pieces (bytes (d .form)))) 1 (and-both (ltb (d .each) ONCE) (eqb (holes (pieces (bytes (d .form)))) 1) h .1)
+
+module _ (ks : List String) (d : Demand) (h : isSound ks d ≡ true) where
+  parts : (eqb (howMany (hasForm (d .form)) ks) 1 ≡ true) × ((eqb (d .each) ONCE || isEach d) ≡ true) × (ltb (d .section) SECTIONS ≡ true)
+  unfolding isSound
+  parts =
+      let p = and-both (eqb (howMany (hasForm (d .form)) ks) 1) ((eqb (d .each) ONCE || isEach d) && ltb (d .section) SECTIONS) h in
+      let q = and-both (eqb (d .each) ONCE || isEach d) (ltb (d .section) SECTIONS) (p .1) in
+      (p .0, q .0, q .1)
+
+  pub sound-one : howMany (hasForm (d .form)) ks ≡ 1
+  sound-one = eqb-true (howMany (hasForm (d .form)) ks) 1 (parts .0)
+
+  pub sound-each : eqb (d .each) ONCE ≡ false → isEach d ≡ true
+  sound-each e = let p = parts .1 in rw e at p
+
+  pub sound-section : d .section < SECTIONS
+  sound-section = ltb-true (d .section) SECTIONS (parts .2)
 
 -- what is wanted at line N + 1, at most
 abbrev pub WANTS : ℕ
@@ -49,5 +80,5 @@ pub record Sized (b : Book) : Type 0 where
   pub sound : all (isSound (b .keys)) (b .demands) ≡ true
 
 pub book-sized : (t : Bytes) → Sized (bookIn t)
-unfolding bookIn mzTab keys demands wantsOf wantsIn rising lastCell isSound howMany hasForm all same bytes entryOf piecesFrom holes spread startOf
+unfolding bookIn mzTab keys demands wantsOf wantsIn rising lastCell isEach isSound howMany hasForm all same bytes entryOf piecesFrom holes spread startOf
 book-sized t = record { low = omega arith; high = omega arith; slots = leb-true _ _ refl; many = omega arith; order = refl; ends = omega arith; sound = refl }

@@ -1,28 +1,32 @@
--- Required metadata, by the slots of all lines: rule 21. Assumes nothing.
+-- Required metadata, by the slots of all lines, the ids, the facts and the sections present: rule 21. Assumes nothing.
 use mathlib.Core.Path.{_≡_, refl, sym, ap, subst, _∙_}
-use mathlib.Core.Bool.{Bool, true, false, cond, not, _&&_, _||_}
+use mathlib.Core.Bool.{Bool, true, false, cond, not, _&&_, _||_, and-true, or-false}
 use mathlib.Core.List.{List, [], _∷_, _++_, map}
-use mathlib.Core.Logic.{⊎-elim}
+use mathlib.Core.Logic.{_⊎_, inl, inr, ⊎-elim}
 use Prim.Native.String.{String}
 use Prim.Native.Nat.{ℕ, zero, suc, _+_, _-_, _≤_, _<_}
 use native.Mathlib.Nat.{eq-or-lt-of-le}
 use native.Mathlib.Omega.{arith, by-contra}
 use lib.Dec.{eqb, leb, ltb}
-use lib.ListN.{length, getD, length-map}
+use lib.ListN.{length, getD, drop, length-map, List·getD-map}
 use borrow.Author.Tests.{eq-eqb, ne-eqb, eqb-true, eqb-false, le-leb, lt-ltb, leb-true, ltb-true}
 use Rattle.text_bytes.specs.Bytes.{Bytes, bytes, any, all}
+use Rattle.text_bytes.proofs.Laws.Same.{same-equal}
 use Rattle.text_bytes.proofs.Laws.Tests.{absurd-bool, and-both}
 use Rattle.text.specs.Lines.{cell, isField}
-use Rattle.book_names.specs.Names.{Entry, entryOf, startOf, slotOf}
+use Rattle.book_names.specs.Names.{Entry, entryOf, formOf, piecesFrom, pieces, startOf, slotOf}
+use Rattle.book_ids.specs.Ids.{ASSAYS, declares}
+use Rattle.book_facts.specs.Facts.{modeOf, typeOf}
+use Rattle.value_references.specs.Index.{MOST}
 use Rattle.book_names.specs.declared.Found.{Found}
 use Rattle.book_names.specs.declared.Found.the-variants.{Unknown, Known}
-use Rattle.book_names.proofs.Laws.Known.{Of, known-of, start-rise, start-mono, slot-before}
-use Rattle.book.specs.Book.{SLOTS, Demand, Book, hasForm, keyOf, keyEntries}
+use Rattle.book_names.proofs.Laws.Known.{Of, known-of, holes, nth, among-one, start-rise, start-mono, slot-before, slot-inside, slot-apart}
+use Rattle.book.specs.Book.{SECTIONS, SLOTS, Demand, ONCE, Want, want, cellOf, upFrom, wantsOf, wantsIn, wants, Book, hasForm, keyOf, keyEntries}
 use Rattle.book.specs.Text.{entryFor}
-use Rattle.book.proofs.Laws.Sized.{howMany, isOne, Sized}
+use Rattle.book.proofs.Laws.Sized.{howMany, isEach, isSound, sound-one, sound-each, sound-section, each-places, each-family, Sized}
 use Rattle.rules.specs.Breaks.{Break, breakAt, when, atCell, atEnd}
-use Rattle.rules.specs.Rules.{keyFound, isForm, hasKey, isUnmet, endRules, ends}
-use Rattle.scan.specs.Machine.{isSlot, hasSlot, Slots, upFrom, isMarked, isLacking, demandBreaks, endBreaks}
+use Rattle.rules.specs.Rules.{keyFound, asks, isDeclared, isPresent, isFor, isAsked, isWanted, hasKey, isUnmet, endRules, ends}
+use Rattle.scan.specs.Machine.{isSlot, hasSlot, Slots, isMarked, Seen, Tells, isAskedIn, isForIn, firstSlot, endSlot, isLacking, wantBreaks, endBreaks}
 use Rattle.scan.proofs.Laws.Rowing.{test-eq}
 use Rattle.scan.proofs.Laws.Keeping.{any-alike}
 use Rattle.scan.proofs.Laws.Demanding.{listed, cells-listed}
@@ -179,62 +183,207 @@ module _ (es : List Entry) (E : ℕ) (hE : E < length es) where
           let lt = slot-before es e i j o (E + 1) (omega arith) (omega arith) in
           rw (le-leb from (slotOf es e i j) (omega (arith, s)), lt-ltb (slotOf es e i j) (from + many) (omega (arith, lt, up)))
 
--- SOME LINE HAS A KEY OF THE FORM where a slot of its entry is marked
-module _ (b : Book) (sized : Sized b) (form : String) (one : howMany (hasForm form) (b .keys) ≡ 1) where
+-- A RANGE that begins one further on
+any-shift : (f g : ℕ → Bool) (n k : ℕ) → ((i : ℕ) → k ≤ i → i < k + n → f i ≡ g (suc i)) → any f (upFrom n k) ≡ any g (upFrom n (suc k))
+unfolding any upFrom
+any-shift f g zero k h = refl
+any-shift f g (suc n) k h = rw (h k (omega arith) (omega arith), any-shift f g n (suc k) (λ i a b. h i (omega arith) (omega arith)))
+
+-- SOUND: a demand of just one key; what it wants for an id has one place, and the id is of a family
+unfoldable isFit : List String → Want → Bool
+isFit ks w = isSound ks (w .demand) && (eqb (w .index) 0 || (isEach (w .demand) && (leb 1 (w .index) && leb (w .index) MOST)))
+
+fit-up : (ks : List String) (d : Demand) (n k : ℕ) → isSound ks d ≡ true → isEach d ≡ true → 1 ≤ k → k + n ≤ suc MOST → all (isFit ks) (map (want d) (upFrom n k)) ≡ true
+unfolding all upFrom isFit
+fit-up ks d zero k s e lo hi = refl
+fit-up ks d (suc n) k s e lo hi =
+    let z : k ≡ 0 → ⊥ = λ (q : k ≡ 0). omega arith in
+    rw (s, ne-eqb k 0 z, e, le-leb 1 k lo, le-leb k MOST (omega arith)) (fit-up ks d n (suc k) s e (omega arith) (omega arith))
+
+all-append : {A : Type 0} (p : A → Bool) (xs ys : List A) → all p xs ≡ true → all p ys ≡ true → all p (xs ++ ys) ≡ true
+unfolding all
+all-append p [] ys h k = k
+all-append p (x ∷ xs) ys h k = let q = and-both (p x) (all p xs) h in rw (q .0) (all-append p xs ys (q .1) k)
+
+fit-of : (ks : List String) (d : Demand) → isSound ks d ≡ true → all (isFit ks) (wantsOf d) ≡ true
+unfolding wantsOf all isFit
+fit-of ks d s = go (eqb (d .each) ONCE) refl
+  where
+    go : (t : Bool) → eqb (d .each) ONCE ≡ t → all (isFit ks) (cond t (want d 0 ∷ []) (map (want d) (upFrom MOST 1))) ≡ true
+    go true e = rw s
+    go false e = fit-up ks d MOST 1 s (sound-each ks d s e) (omega arith) (omega arith)
+
+fit-in : (ks : List String) (ds : List Demand) → all (isSound ks) ds ≡ true → all (isFit ks) (wantsIn ds) ≡ true
+unfolding wantsIn all
+fit-in ks [] h = refl
+fit-in ks (d ∷ ds) h =
+    let q = and-both (isSound ks d) (all (isSound ks) ds) h in
+    all-append (isFit ks) (wantsOf d) (wantsIn ds) (fit-of ks d (q .0)) (fit-in ks ds (q .1))
+
+-- THE SLOTS OF WHAT IS WANTED are those of the keys that meet it
+module _ (b : Book) (sized : Sized b) (w : Want) (sound : isSound (b .keys) (w .demand) ≡ true) where
   abbrev es : List Entry
   es = keyEntries b
 
   abbrev E : ℕ
-  E = entryFor (b .keys) form
+  E = entryFor (b .keys) (w .demand .form)
+
+  one : howMany (hasForm (w .demand .form)) (b .keys) ≡ 1
+  one = sound-one (b .keys) (w .demand) sound
 
   keys-many : length es ≡ length (b .keys)
   keys-many = length-map (map bytes (b .keys)) entryOf ∙ length-map (b .keys) bytes
 
   pub inside : E < length es
-  inside = omega (arith, entry-inside form (b .keys) one, keys-many)
+  inside = omega (arith, entry-inside (w .demand .form) (b .keys) one, keys-many)
 
-  form-slot : (m : Bytes) (r : Found) → keyFound b m ≡ r → any (λ s. isSlot b s r) (upFrom (many es E inside) (from es E inside)) ≡ isForm b form r
-  unfolding keyOf
-  form-slot m Unknown q = any-false (upFrom (many es E inside) (from es E inside))
-  form-slot m (Known e k f i j) q =
-      let o = known-of es (cell 2 m) e k f i j q in
-      entry-range es E inside e i j o ∙ sym (one-entry form (b .keys) e one (omega (arith, o .inside, keys-many)))
+  -- the one entry of the form has its places
+  its-form : hasForm (w .demand .form) (getD (b .keys) E "") ≡ true
+  its-form = one-entry (w .demand .form) (b .keys) E one (omega (arith, inside, keys-many)) ∙ eq-eqb E E refl
 
-  line-slot : (m : Bytes) → any (λ s. hasSlot b s m) (upFrom (many es E inside) (from es E inside)) ≡ hasKey b form m
-  unfolding hasSlot hasKey
-  line-slot m = any-both (isField m) (λ s. isSlot b s (keyFound b m)) (upFrom (many es E inside) (from es E inside)) ∙ rw (form-slot m (keyFound b m) refl)
+  its-entry : nth es E ≡ entryOf (bytes (getD (b .keys) E ""))
+  unfolding entryOf piecesFrom bytes
+  its-entry = List·getD-map entryOf (map bytes (b .keys)) E [] ∙ ap entryOf (List·getD-map bytes (b .keys) E "")
 
-  pub marked-means : (F : List Bytes) (slots : List Bool) → Slots b F slots → isMarked slots (startOf es E) (startOf es (E + 1)) ≡ any (hasKey b form) F
-  unfolding isMarked
-  marked-means F slots h =
-      any-within (λ s. getD slots s false) (λ s. any (hasSlot b s) F) (many es E inside) (from es E inside) (λ s l m. h s (omega (arith, below, sized .slots)))
-      ∙ any-swap (λ s m. hasSlot b s m) (upFrom (many es E inside) (from es E inside)) F
-      ∙ any-alike (λ m. any (λ s. hasSlot b s m) (upFrom (many es E inside) (from es E inside))) (hasKey b form) line-slot F
-    where
-      below : startOf es (E + 1) ≤ startOf es (length es)
-      below = start-mono es (E + 1) (length es) (omega (arith, inside)) (omega arith)
+  its-places : formOf (nth es E) ≡ pieces (bytes (w .demand .form))
+  unfolding entryOf hasForm
+  its-places = ap formOf its-entry ∙ ap pieces (same-equal (drop 3 (bytes (getD (b .keys) E ""))) (bytes (w .demand .form)) its-form)
+
+  abbrev begin : ℕ
+  begin = firstSlot b w
+
+  abbrev span : ℕ
+  span = endSlot b w - firstSlot b w
+
+  -- for any line with such a key
+  any-slot : w .index ≡ 0 → (e k f i j : ℕ) → Of es e i j → any (λ s. isSlot b s (Known e k f i j)) (upFrom span begin) ≡ isWanted b w (Known e k f i j)
+  any-slot z e k f i j o =
+      let a : startOf es E + (w .index - 1) ≡ startOf es E = omega arith in
+      rw (eq-eqb (w .index) 0 z, a, and-true (hasForm (w .demand .form) (getD (b .keys) e "")))
+      (entry-range es E inside e i j o ∙ sym (one-entry (w .demand .form) (b .keys) e one (omega (arith, o .inside, keys-many))))
+
+  -- for an id: the slot with its index
+  module _ (each : isEach (w .demand) ≡ true) (low : 1 ≤ w .index) (high : w .index ≤ MOST) where
+    its-one : holes (formOf (nth es E)) ≡ 1
+    its-one = ap holes its-places ∙ each-places (w .demand) each
+
+    its-shape : Of es E (w .index) 0
+    its-shape = record { inside = inside; shape = record { few = omega (arith, its-one); i-high = high; i-most = omega (arith, its-one); i-least = omega (arith, its-one); j-most = omega arith; j-least = omega (arith, its-one) } }
+
+    id-slot : (e k f i j : ℕ) → Of es e i j → any (λ s. isSlot b s (Known e k f i j)) (upFrom span begin) ≡ isWanted b w (Known e k f i j)
+    unfolding any upFrom
+    id-slot e k f i j o =
+        let n : w .index ≡ 0 → ⊥ = λ (q : w .index ≡ 0). omega arith in
+        let m : begin + 1 - begin ≡ 1 = omega arith in
+        rw (ne-eqb (w .index) 0 n, m, or-false (eqb (slotOf es e i j) begin), one-entry (w .demand .form) (b .keys) e one (omega (arith, o .inside, keys-many)))
+        (test-eq (eqb (slotOf es e i j) begin) (eqb e E && eqb (w .index) i) there back)
+      where
+        there : eqb (slotOf es e i j) begin ≡ true → (eqb e E && eqb (w .index) i) ≡ true
+        there h =
+            let q = slot-apart es e i j E (w .index) 0 o its-shape (eqb-true (slotOf es e i j) begin h) in
+            rw (eq-eqb e E (q .0), eq-eqb (w .index) i (sym (q .1)))
+
+        back : (eqb e E && eqb (w .index) i) ≡ true → eqb (slotOf es e i j) begin ≡ true
+        back h =
+            let q = and-both (eqb e E) (eqb (w .index) i) h in
+            let x = eqb-true e E (q .0) in
+            let y = eqb-true (w .index) i (q .1) in
+            let s = o .shape in
+            let p : holes (formOf (nth es e)) ≡ 1 = ap (λ (n : ℕ). holes (formOf (nth es n))) x ∙ its-one in
+            let v : j ≡ 0 = omega (arith, s .j-most) in
+            eq-eqb (slotOf es e i j) begin (omega (arith, among-one i j v, ap (startOf es) x))
+
+  module _ (ways : (w .index ≡ 0) ⊎ ((isEach (w .demand) ≡ true) × (1 ≤ w .index) × (w .index ≤ MOST))) where
+    form-slot : (m : Bytes) (r : Found) → keyFound b m ≡ r → any (λ s. isSlot b s r) (upFrom span begin) ≡ isWanted b w r
+    unfolding keyOf
+    form-slot m Unknown q = any-false (upFrom span begin)
+    form-slot m (Known e k f i j) q =
+        let o = known-of es (cell 2 m) e k f i j q in
+        ⊎-elim (λ z. any-slot z e k f i j o) (λ z. id-slot (z .0) (z .1) (z .2) e k f i j o) ways
+
+    line-slot : (m : Bytes) → any (λ s. hasSlot b s m) (upFrom span begin) ≡ hasKey b w m
+    unfolding hasSlot hasKey
+    line-slot m = any-both (isField m) (λ s. isSlot b s (keyFound b m)) (upFrom span begin) ∙ rw (form-slot m (keyFound b m) refl)
+
+    -- the slots are among all
+    pub slots-below : (firstSlot b w ≤ endSlot b w) × (endSlot b w ≤ SLOTS)
+    slots-below =
+        ⊎-elim
+        (λ (z : w .index ≡ 0). rw (eq-eqb (w .index) 0 z) (omega (arith, next), omega (arith, all, sized .slots)))
+        (λ (z : (isEach (w .demand) ≡ true) × (1 ≤ w .index) × (w .index ≤ MOST)).
+        let n : w .index ≡ 0 → ⊥ = λ (q : w .index ≡ 0). omega (arith, z .1) in
+        rw (ne-eqb (w .index) 0 n) (omega arith, omega (arith, slot-inside es E (w .index) 0 (its-shape (z .0) (z .1) (z .2)), sized .slots)))
+        ways
+      where
+        next : startOf es E ≤ startOf es (E + 1)
+        next = start-mono es E (E + 1) (omega arith) (omega (arith, inside))
+
+        all : startOf es (E + 1) ≤ startOf es (length es)
+        all = start-mono es (E + 1) (length es) (omega (arith, inside)) (omega arith)
+
+    pub marked-means : (F : List Bytes) (slots : List Bool) → Slots b F slots → isMarked slots (firstSlot b w) (endSlot b w) ≡ any (hasKey b w) F
+    unfolding isMarked
+    marked-means F slots h =
+        any-within (λ s. getD slots s false) (λ s. any (hasSlot b s) F) span begin (λ s l m. h s (omega (arith, slots-below)))
+        ∙ any-swap (λ s m. hasSlot b s m) (upFrom span begin) F
+        ∙ any-alike (λ m. any (λ s. hasSlot b s m) (upFrom span begin)) (hasKey b w) line-slot F
 
 -- WHAT IS PUT AT THE END is what rule 21 gives
-module _ (b : Book) (sized : Sized b) (F : List Bytes) (slots : List Bool) (h : Slots b F slots) where
-  -- demand by demand
-  lacking-is : (d : Demand) → isOne (b .keys) d ≡ true → isLacking b slots d ≡ isUnmet b F d
-  unfolding isLacking isUnmet isOne
-  lacking-is d o = rw (marked-means b sized (d .form) (eqb-true (howMany (hasForm (d .form)) (b .keys)) 1 o) F slots h)
+module _ (b : Book) (sized : Sized b) (F : List Bytes) (x : Seen) (h : Tells b F x) where
+  assays-are : isMarked (getD (x .flags) ASSAYS []) 0 MOST ≡ isDeclared b F ASSAYS
+  unfolding isMarked
+  assays-are =
+      any-shift (λ s. getD (getD (x .flags) ASSAYS []) s false) (λ i. any (declares b ASSAYS i) F) MOST 0
+      (λ i a l. let z : i ≡ suc i - 1 = omega arith in ap (λ (k : ℕ). getD (getD (x .flags) ASSAYS []) k false) z ∙ h .ids ASSAYS (suc i) (omega arith) (omega arith) (omega arith))
 
-  puts-listed : (n : ℕ) (ds : List Demand) → all (isOne (b .keys)) ds ≡ true → (rest : List Break)
-      → demandBreaks b slots n ds rest ≡ listed (isUnmet b F) n 21 ds ++ rest
-  unfolding demandBreaks listed all
+  asked-is : (w : Want) → w .demand .section < SECTIONS → isAskedIn x (w .demand) ≡ (asks (w .demand .asked) (modeOf F) (typeOf F) (isDeclared b F ASSAYS) && isPresent b F (w .demand .section))
+  unfolding isAskedIn
+  asked-is w l = rw (assays-are, h .facts .mode, h .facts .typed, h .present (w .demand .section) l)
+
+  for-is : (w : Want) → (w .index ≡ 0) ⊎ ((isEach (w .demand) ≡ true) × (1 ≤ w .index) × (w .index ≤ MOST)) → isForIn x w ≡ isFor b F w
+  for-is w ways =
+      ⊎-elim
+      (λ (z : w .index ≡ 0). rw (eq-eqb (w .index) 0 z))
+      (λ (z : (isEach (w .demand) ≡ true) × (1 ≤ w .index) × (w .index ≤ MOST)). rw (h .ids (w .demand .each) (w .index) (each-family (w .demand) (z .0)) (z .1) (z .2)))
+      ways
+
+  fit-ways : (w : Want) → isFit (b .keys) w ≡ true → (w .index ≡ 0) ⊎ ((isEach (w .demand) ≡ true) × (1 ≤ w .index) × (w .index ≤ MOST))
+  unfolding isFit
+  fit-ways w f = go (eqb (w .index) 0) refl (and-both (isSound (b .keys) (w .demand)) (eqb (w .index) 0 || (isEach (w .demand) && (leb 1 (w .index) && leb (w .index) MOST))) f .1)
+    where
+      go : (t : Bool) → eqb (w .index) 0 ≡ t → (t || (isEach (w .demand) && (leb 1 (w .index) && leb (w .index) MOST))) ≡ true
+          → (w .index ≡ 0) ⊎ ((isEach (w .demand) ≡ true) × (1 ≤ w .index) × (w .index ≤ MOST))
+      go true e m = inl (eqb-true (w .index) 0 e)
+      go false e m =
+          let p = and-both (isEach (w .demand)) (leb 1 (w .index) && leb (w .index) MOST) m in
+          let q = and-both (leb 1 (w .index)) (leb (w .index) MOST) (p .1) in
+          inr (p .0, leb-true 1 (w .index) (q .0), leb-true (w .index) MOST (q .1))
+
+  fit-sound : (w : Want) → isFit (b .keys) w ≡ true → isSound (b .keys) (w .demand) ≡ true
+  unfolding isFit
+  fit-sound w f = and-both (isSound (b .keys) (w .demand)) (eqb (w .index) 0 || (isEach (w .demand) && (leb 1 (w .index) && leb (w .index) MOST))) f .0
+
+  -- one by one
+  lacking-is : (w : Want) → isFit (b .keys) w ≡ true → isLacking b x w ≡ isUnmet b F w
+  unfolding isLacking isUnmet isAsked
+  lacking-is w f =
+      let s = fit-sound w f in
+      let ways = fit-ways w f in
+      rw (asked-is w (sound-section (b .keys) (w .demand) s), for-is w ways, marked-means b sized w s ways F (x .slots) (h .slots))
+
+  puts-listed : (n : ℕ) (ws : List Want) → all (isFit (b .keys)) ws ≡ true → (rest : List Break) → wantBreaks b x n ws rest ≡ listed (isUnmet b F) n 21 ws ++ rest
+  unfolding wantBreaks listed all
   puts-listed n [] o rest = refl
-  puts-listed n (d ∷ ds) o rest =
-      let q = and-both (isOne (b .keys) d) (all (isOne (b .keys)) ds) o in
-      rw (lacking-is d (q .0), puts-listed n ds (q .1) rest) (front (isUnmet b F d) (breakAt n (d .cell) 21) (listed (isUnmet b F) n 21 ds) rest)
+  puts-listed n (w ∷ ws) o rest =
+      let q = and-both (isFit (b .keys) w) (all (isFit (b .keys)) ws) o in
+      rw (lacking-is w (q .0), puts-listed n ws (q .1) rest) (front (isUnmet b F w) (breakAt n (cellOf w) 21) (listed (isUnmet b F) n 21 ws) rest)
     where
       front : (t : Bool) (x : Break) (bs rest : List Break) → when t x (bs ++ rest) ≡ when t x bs ++ rest
       front true x bs rest = refl
       front false x bs rest = refl
 
-  pub end-means : (rest : List Break) → endBreaks b slots (length F + 1) rest ≡ atEnd (endRules b) (ends b) F ++ rest
+  pub end-means : (rest : List Break) → endBreaks b x (length F + 1) rest ≡ atEnd (endRules b) (ends b) F ++ rest
   unfolding atEnd endRules atCell
   end-means rest =
-      puts-listed (length F + 1) (b .demands) (sized .forms) rest
-      ∙ ap (λ (bs : List Break). bs ++ rest) (sym (cells-listed (isUnmet b F) (length F + 1) 21 (ends b) 0 (b .demands) (sized .order) (omega arith)))
+      puts-listed (length F + 1) (wants b) (fit-in (b .keys) (b .demands) (sized .sound)) rest
+      ∙ ap (λ (bs : List Break). bs ++ rest) (sym (cells-listed (isUnmet b F) (length F + 1) 21 (ends b) 0 (wants b) (sized .order) (omega arith)))

@@ -1,20 +1,20 @@
 -- The state follows the lines: what is carried stands for the lines above, before the first line and after each. Assumes nothing.
 use mathlib.Core.Path.{_≡_, refl, sym, ap, _∙_}
-use mathlib.Core.Bool.{Bool, true, false, cond, _||_, or-false, or-true}
+use mathlib.Core.Bool.{Bool, true, false, cond, _||_, or-false, or-true, or-assoc}
 use mathlib.Core.List.{List, [], _∷_, _++_}
 use Prim.Native.Nat.{ℕ, zero, suc, _<_}
 use native.Mathlib.Nat.{not-suc-le-zero}
 use native.Mathlib.Omega.{arith}
 use lib.Dec.{eqb, ltb}
 use lib.Seq.{getD-set-same, getD-set-other}
-use lib.ListN.{getD, set, length-set}
-use borrow.Author.Tests.{ne-eqb, lt-ltb, le-ltb, ltb-true, ltb-false, eqb-true, eqb-false}
+use lib.ListN.{length, getD, set, length-set}
+use borrow.Author.Tests.{eq-eqb, ne-eqb, lt-ltb, le-ltb, ltb-true, ltb-false, eqb-true, eqb-false}
 use Rattle.text_bytes.specs.Bytes.{Bytes, any, isEmpty, splitOn}
 use Rattle.text.specs.Lines.{width}
-use Rattle.rules.specs.Sorts.{sortOf, headerIn, rowIn, isTable}
-use Rattle.rules.specs.Rules.{ofSection, ofLater, nearer, nearest, nearestIn}
+use Rattle.rules.specs.Sorts.{sortOf, headerIn, rowIn, header, row, isHeader, isTable}
+use Rattle.rules.specs.Rules.{ofSection, ofLater, nearer, nearest, nearestIn, inSection, isPresent}
 use Rattle.scan.specs.Machine.{hasSlot, Slots}
-use Rattle.scan.specs.Carried.{initial, afterHeader, afterRow, Stands, Follows}
+use Rattle.scan.specs.Carried.{initial, afterHeader, Stands, Follows}
 use Rattle.scan.specs.declared.state.State.{State}
 use Rattle.rules.specs.declared.sorts.Sort.{Sort}
 use Rattle.rules.specs.declared.sorts.Sort.the-variants.{Silent, Unknown, Meta, Header, Row}
@@ -30,10 +30,12 @@ nearest-append book (y ∷ ys) x found = nearest-append book ys x (nearer book y
 
 -- BEFORE THE FIRST LINE
 pub stands-start : (book : Book) (kinds : List ℕ) (slots : List Bool) → ((i : ℕ) → getD slots i false ≡ false) → Stands book [] initial kinds slots
-unfolding any nearestIn sortOf isEmpty splitOn
+unfolding any nearestIn sortOf isEmpty splitOn isPresent
 stands-start book kinds slots empty = record {
   seen = λ i p h. none i;
   sections = refl;
+  present = λ i h. only-zero i;
+  presents = refl;
   highest = λ h. le-ltb h 0 (omega arith);
   section = refl;
   width = refl;
@@ -50,6 +52,82 @@ stands-start book kinds slots empty = record {
     none (suc (suc (suc (suc zero)))) = refl
     none (suc (suc (suc (suc (suc i))))) = refl
 
+    only-zero : (i : ℕ) → getD (true ∷ false ∷ false ∷ false ∷ false ∷ []) i false ≡ (eqb i 0 || false)
+    only-zero zero = refl
+    only-zero (suc i) = none-after i ∙ sym (rw (ne-eqb (suc i) 0 (λ e. omega arith)))
+      where
+        none-after : (i : ℕ) → getD (false ∷ false ∷ false ∷ false ∷ []) i false ≡ false
+        none-after zero = refl
+        none-after (suc zero) = refl
+        none-after (suc (suc zero)) = refl
+        none-after (suc (suc (suc zero))) = refl
+        none-after (suc (suc (suc (suc i)))) = refl
+
+-- SECTIONS PRESENT, with one line more
+present-append : (book : Book) (above : List Bytes) (l : Bytes) (i : ℕ) → isPresent book (above ++ (l ∷ [])) i ≡ (isPresent book above i || inSection book i l)
+unfolding isPresent
+present-append book above l i = rw (any-append (inSection book i) above l) (sym (or-assoc (eqb i 0) (any (inSection book i) above) (inSection book i l)))
+
+zero-present : (book : Book) (above : List Bytes) (i : ℕ) → i ≡ 0 → isPresent book above i ≡ true
+unfolding isPresent
+zero-present book above i e = rw (eq-eqb i 0 e)
+
+-- a line of no section changes nothing
+present-same : (book : Book) (above : List Bytes) (l : Bytes) (i : ℕ) → header book l ≡ 0 → row book l ≡ 0 → isPresent book (above ++ (l ∷ [])) i ≡ isPresent book above i
+present-same book above l i z w = present-append book above l i ∙ go (eqb i 0) refl
+  where
+    go : (t : Bool) → eqb i 0 ≡ t → (isPresent book above i || inSection book i l) ≡ isPresent book above i
+    go true e = let q = zero-present book above i (eqb-true i 0 e) in rw q
+    go false e = rw (z, w, ne-eqb 0 i (λ q. eqb-false i 0 e (sym q))) (or-false (isPresent book above i))
+
+-- one of section r makes it present
+module _ (book : Book) (above : List Bytes) (l : Bytes) (present : List Bool) (r : ℕ) (low : 0 < r) (room : r < length present)
+    (stands : (i : ℕ) → i < SECTIONS → getD present i false ≡ isPresent book above i) (its : (i : ℕ) → 0 < i → inSection book i l ≡ eqb r i) where
+  present-set : (i : ℕ) → i < SECTIONS → getD (set present r true) i false ≡ isPresent book (above ++ (l ∷ [])) i
+  present-set i h = go (eqb r i) refl ∙ sym (present-append book above l i)
+    where
+      other : (t : Bool) → eqb i 0 ≡ t → eqb r i ≡ false → isPresent book above i ≡ (isPresent book above i || inSection book i l)
+      other true e q = let p = zero-present book above i (eqb-true i 0 e) in rw p
+      other false e q = let n = eqb-false i 0 e in rw (its i (omega arith), q) (sym (or-false (isPresent book above i)))
+
+      go : (t : Bool) → eqb r i ≡ t → getD (set present r true) i false ≡ (isPresent book above i || inSection book i l)
+      go true e =
+          let q : i ≡ r = sym (eqb-true r i e) in
+          ap (λ (k : ℕ). getD (set present r true) k false) q ∙ getD-set-same present r true false room ∙ sym (rw (its i (omega arith), e) (or-true (isPresent book above i)))
+      go false e = getD-set-other present r i true false (λ g. eqb-false r i e (sym g)) ∙ stands i h ∙ other (eqb i 0) refl e
+
+  -- and where it was, it stays
+  present-stay : getD present r false ≡ true → (i : ℕ) → i < SECTIONS → getD present i false ≡ isPresent book (above ++ (l ∷ [])) i
+  present-stay was i h = go (eqb r i) refl ∙ present-set i h
+    where
+      go : (t : Bool) → eqb r i ≡ t → getD present i false ≡ getD (set present r true) i false
+      go true e =
+          let q : i ≡ r = sym (eqb-true r i e) in
+          ap (λ (k : ℕ). getD present k false) q ∙ was ∙ sym (ap (λ (k : ℕ). getD (set present r true) k false) q ∙ getD-set-same present r true false room)
+      go false e = sym (getD-set-other present r i true false (λ g. eqb-false r i e (sym g)))
+
+-- a section that is present has a line above that is a header or row
+section-table : (book : Book) (r : ℕ) → 0 < r → (l : Bytes) → inSection book r l ≡ true → isTable book l ≡ true
+section-table book r low l h = go (eqb (header book l) r) refl h
+  where
+    go : (t : Bool) → eqb (header book l) r ≡ t → (t || eqb (row book l) r) ≡ true → isTable book l ≡ true
+    go true e m = let q = eqb-true (header book l) r e in rw (lt-ltb 0 (header book l) (omega arith))
+    go false e m = let q = eqb-true (row book l) r m in rw (lt-ltb 0 (row book l) (omega arith)) (or-true (isHeader book l))
+
+present-table : (book : Book) (r : ℕ) → 0 < r → (above : List Bytes) → any (inSection book r) above ≡ true → any (isTable book) above ≡ true
+unfolding any
+present-table book r low [] h = h
+present-table book r low (l ∷ ls) h = go (inSection book r l) refl h (present-table book r low ls)
+  where
+    go : (t : Bool) → inSection book r l ≡ t → (t || any (inSection book r) ls) ≡ true → (any (inSection book r) ls ≡ true → any (isTable book) ls ≡ true)
+        → (isTable book l || any (isTable book) ls) ≡ true
+    go true e m later = rw (section-table book r low l e)
+    go false e m later = rw (later m) (or-true (isTable book l))
+
+was-table : (book : Book) (r : ℕ) → 0 < r → (above : List Bytes) → isPresent book above r ≡ true → any (isTable book) above ≡ true
+unfolding isPresent
+was-table book r low above h = present-table book r low above (sym (rw (ne-eqb r 0 (λ e. omega arith))) ∙ h)
+
 -- AFTER A LINE
 module _ {book : Book} (sized : Sized book) {above : List Bytes} {s : State} {kinds : List ℕ} {slots : List Bool} {l : Bytes} {next : State} {kinds' : List ℕ} {slots' : List Bool}
     (st : Stands book above s kinds slots) (af : Follows book s kinds slots l next kinds' slots') where
@@ -58,8 +136,10 @@ module _ {book : Book} (sized : Sized book) {above : List Bytes} {s : State} {ki
 
   -- a line that is no header
   kept : headerIn (sortOf book l) ≡ 0 → next .seen ≡ s .seen → next .highest ≡ s .highest → next .section ≡ s .section → next .width ≡ s .width → next .table ≡ (s .table || isTable book l)
-      → Stands book (above ++ (l ∷ [])) next kinds' slots'
-  kept z a m f c d = record {
+      → ((i : ℕ) → i < SECTIONS → getD (next .present) i false ≡ isPresent book (above ++ (l ∷ [])) i) → length (next .present) ≡ SECTIONS → Stands book (above ++ (l ∷ [])) next kinds' slots'
+  kept z a m f c d p q = record {
+    present = p;
+    presents = q;
     seen = λ i q h. rw a (st .seen i q h ∙ sym (any-append (ofSection book i) above l ∙ rw (z, ne-eqb 0 i (λ e. omega arith)) (or-false (any (ofSection book i) above))));
     sections = rw a (st .sections);
     highest = λ h. rw m (st .highest h ∙ sym (any-append (ofLater book h) above l ∙ rw (z, le-ltb h 0 (omega arith)) (or-false (any (ofLater book h) above))));
@@ -73,10 +153,13 @@ module _ {book : Book} (sized : Sized book) {above : List Bytes} {s : State} {ki
   headed : (h : ℕ) → sortOf book l ≡ Header h → Stands book (above ++ (l ∷ [])) next kinds' slots'
   headed h e =
       let pos = header-section book sized l h e .0 in
+      let bound = header-section book sized l h e .1 in
       let q : next ≡ afterHeader h (width l) s = af .state ∙ rw e in
       rw q (record {
         seen = λ i p k. seen-set i p k;
         sections = length-set (s .seen) h true ∙ st .sections;
+        present = present-set book above l (s .present) h pos (omega (arith, bound, st .presents)) (st .present) (λ i p. rw (e, ne-eqb 0 i (λ z. omega arith)) (or-false (eqb h i)));
+        presents = length-set (s .present) h true ∙ st .presents;
         highest = λ k. rw (any-append (ofLater book k) above l, ← st .highest k, e) (highest-set k (ltb (s .highest) h) refl);
         section = rw (nearest-append book above l [], e, lt-ltb 0 h pos, e);
         width = rw (nearest-append book above l [], e, lt-ltb 0 h pos);
@@ -109,6 +192,38 @@ module _ {book : Book} (sized : Sized book) {above : List Bytes} {s : State} {ki
   same-state : {σ : Sort} → sortOf book l ≡ σ → next ≡ s → (headerIn σ ≡ 0) → (rowIn σ ≡ 0) → Stands book (above ++ (l ∷ [])) next kinds' slots'
   same-state e q z w = kept (rw e z) (ap (λ (x : State). x .seen) q) (ap (λ (x : State). x .highest) q) (ap (λ (x : State). x .section) q) (ap (λ (x : State). x .width) q)
       (ap (λ (x : State). x .table) q ∙ rw (e, z, w) (sym (or-false (s .table))))
+      (λ i h. ap (λ (x : State). getD (x .present) i false) q ∙ st .present i h ∙ sym (present-same book above l i (rw e z) (rw e w)))
+      (ap (λ (x : State). length (x .present)) q ∙ st .presents)
+
+  -- a row
+  rowed : (r : ℕ) → sortOf book l ≡ Row r → Stands book (above ++ (l ∷ [])) next kinds' slots'
+  rowed r e = go (getD (s .present) r false) refl (af .state ∙ rw e)
+    where
+      low : 0 < r
+      low = row-section book sized l r e .0
+
+      room : r < length (s .present)
+      room = omega (arith, row-section book sized l r e .1, st .presents)
+
+      its : (i : ℕ) → 0 < i → inSection book i l ≡ eqb r i
+      its i p = rw (e, ne-eqb 0 i (λ z. omega arith))
+
+      more : (x : Bool) → (x || isTable book l) ≡ true
+      more x = rw (e, lt-ltb 0 r low) (or-true x)
+
+      go : (t : Bool) → getD (s .present) r false ≡ t
+          → next ≡ cond t s (record { seen = s .seen; present = set (s .present) r true; highest = s .highest; section = s .section; width = s .width; table = true })
+          → Stands book (above ++ (l ∷ [])) next kinds' slots'
+      go true p q =
+          kept (rw e) (ap (λ (x : State). x .seen) q) (ap (λ (x : State). x .highest) q) (ap (λ (x : State). x .section) q) (ap (λ (x : State). x .width) q)
+          (ap (λ (x : State). x .table) q ∙ st .table ∙ was-table book r low above (sym (st .present r (omega (arith, room, st .presents))) ∙ p) ∙ sym (more (s .table)))
+          (λ i h. ap (λ (x : State). getD (x .present) i false) q ∙ present-stay book above l (s .present) r low room (st .present) its p i h)
+          (ap (λ (x : State). length (x .present)) q ∙ st .presents)
+      go false p q =
+          kept (rw e) (ap (λ (x : State). x .seen) q) (ap (λ (x : State). x .highest) q) (ap (λ (x : State). x .section) q) (ap (λ (x : State). x .width) q)
+          (ap (λ (x : State). x .table) q ∙ sym (more (s .table)))
+          (λ i h. ap (λ (x : State). getD (x .present) i false) q ∙ present-set book above l (s .present) r low room (st .present) its i h)
+          (ap (λ (x : State). length (x .present)) q ∙ length-set (s .present) r true ∙ st .presents)
 
   pub stands-next : Stands book (above ++ (l ∷ [])) next kinds' slots'
   stands-next = go (sortOf book l) refl
@@ -118,7 +233,4 @@ module _ {book : Book} (sized : Sized book) {above : List Bytes} {s : State} {ki
       go Unknown e = same-state e (af .state ∙ rw e) refl refl
       go Meta e = same-state e (af .state ∙ rw e) refl refl
       go (Header h) e = headed h e
-      go (Row r) e =
-          let q : next ≡ afterRow s = af .state ∙ rw e in
-          kept (rw e) (ap (λ (x : State). x .seen) q) (ap (λ (x : State). x .highest) q) (ap (λ (x : State). x .section) q) (ap (λ (x : State). x .width) q)
-          (ap (λ (x : State). x .table) q ∙ rw (e, lt-ltb 0 r (row-section book sized l r e .0)) (sym (or-true (s .table))))
+      go (Row r) e = rowed r e
