@@ -81,6 +81,13 @@ pub record Book : Type 0 where
   pub keys : List String
   pub demands : List Demand
 
+-- so many things are wanted at line N + 1, at most, and at so many cells, in every book
+abbrev pub WANTS : ℕ
+WANTS = 5
+
+abbrev pub CELLS : ℕ
+CELLS = 5
+
 -- all that its demands want
 abbrev pub wants : Book → List Want
 wants b = wantsIn (b .demands)

@@ -125,6 +125,7 @@ pub record Demanded (b : Book) (k : ℕ) (d : Read) : Type 0 where
   pub asked : d .asked ≡ (getD (b .demands) k noDemand) .asked
   pub section : d .section ≡ (getD (b .demands) k noDemand) .section
   pub each : d .each ≡ (getD (b .demands) k noDemand) .each
+  pub fits : d .cell < 65536
 
 -- a text holds a book
 pub record IsText (b : Book) (t : Bytes) : Type 0 where

@@ -1,22 +1,40 @@
 // Required metadata, read off the slots of the keys that the file has: the book's demands, one after the other.
+use book::SECTIONS;
+use book::demands::Demand;
+use book::demands::ONCE;
 use book::demands::count_demands;
 use book::demands::nth_demand;
 use book::slots::start_of;
 use scan::places::both;
+use scan::places::either;
 use scan::places::put_if;
+use value_references::INDICES;
 ghost use mathlib.Core.Path.{_≡_};
-ghost use Prim.Native.Nat.{_≤_, _<_};
+ghost use mathlib.Core.List.{[]};
+ghost use Prim.Native.Nat.{_+_, _≤_, _<_};
 ghost use lib.ListN.{length, getD};
-ghost use Rattle.book.specs.Book.{SLOTS, noDemand};
+ghost use Rattle.book.specs.Book.{WANTS, noDemand, wantsOf, upFrom};
 ghost use Rattle.book.specs.Text.{bookIn, IsBook};
+ghost use Rattle.book_ids.specs.Ids.{Flags};
+ghost use Rattle.rules.specs.Rules.{asks};
 ghost use Rattle.scan.specs.Places.{lent, Puts};
-ghost use Rattle.scan.specs.Machine.{isMarked, demandBreak, endBreaks};
+ghost use Rattle.scan.specs.Machine.{isMarked, wantBreaks, endBreaks};
+ghost use Rattle.line_end.specs.Ends.{seen, Whole, idBreaks};
 
 // The rule that a demand breaks.
 const RULE: u32 = 21;
 
-// Whether any slot is marked, from one up to another.
-fn any_marked(slots: &[bool], from: usize, to: usize) -> bool
+// What decides whether a demand is asked of a file: the letters of its mode and type, 0 for none, whether it declares an assay, and the sections that are
+// present, with 0 among them.
+pub struct Told {
+    pub mode: u8,
+    pub typed: u8,
+    pub assay: bool,
+    pub present: [bool; SECTIONS],
+}
+
+// Whether any flag or slot is marked, from one up to another.
+pub fn any_marked(slots: &[bool], from: usize, to: usize) -> bool
     requires { ⌜ (from ≤ to) × (to ≤ length (now slots)) ⌝ }
     ensures { λ r. ⌜ r ≡ isMarked (now (slots .entry)) from to ⌝ }
 {
@@ -30,6 +48,64 @@ fn any_marked(slots: &[bool], from: usize, to: usize) -> bool
     false
 }
 
+// Whether a demand with the letter is asked of a file of this mode and type: * of every file, + of those that have both, C of Complete ones, q of
+// Quantification ones, Q of those that are both, A of these and, where an assay is declared, of all Quantification ones.
+fn is_asked(asked: u8, mode: u8, typed: u8, assay: bool) -> bool
+    ensures { λ r. ⌜ r ≡ asks asked mode typed assay ⌝ }
+{
+    if asked == b'*' {
+        return true;
+    }
+    if mode == 0 {
+        return false;
+    }
+    if typed == 0 {
+        return false;
+    }
+    let complete = mode == b'C';
+    let quantified = typed == b'Q';
+    match asked {
+        b'+' => true,
+        b'C' => complete,
+        b'q' => quantified,
+        b'Q' => both(quantified, complete),
+        b'A' => both(quantified, either(complete, assay)),
+        _ => false,
+    }
+}
+
+// A demand that is asked for each declared id of a family: its key with the id's index is absent. The slots of the key begin at `from`.
+fn judge_ids(
+    places: &mut [u32],
+    count: u32,
+    line_no: u32,
+    d: Demand,
+    from: usize,
+    asked: bool,
+    slots: &[bool],
+    flags: &[[bool; 64]; 4],
+) -> u32
+    requires { ⌜ d .each < 4 ⌝ }
+    requires { ⌜ from + 64 ≤ length (now slots) ⌝ }
+    requires { ⌜ Flags (now flags) ⌝ }
+    requires { ⌜ d .cell < 65536 ⌝ }
+    requires { ⌜ count ≤ 4294967000 ⌝ }
+    ensures { λ r. ⌜ Puts (idBreaks asked (now (slots .entry)) (getD (now (flags .entry)) (d .each) []) from (d .cell) «line_no» (upFrom 64 1)) 64 (lent (now (places .entry)) count) (lent (now (places .exit)) r) ⌝ }
+{
+    let f = d.each;
+    let ids = flags[f];
+    let mut c = count;
+    let mut cell = d.cell;
+    let mut i = 0;
+    while i < INDICES {
+        cell += 1;
+        let lacking = both(both(asked, ids[i]), !slots[from + i]);
+        c = put_if(places, c, lacking, RULE, line_no, cell);
+        i += 1;
+    }
+    c
+}
+
 // Demand k: it is asked, and no line has such a key.
 fn judge_demand(
     places: &mut [u32],
@@ -38,33 +114,52 @@ fn judge_demand(
     k: usize,
     line_no: u32,
     slots: &[bool],
+    flags: &[[bool; 64]; 4],
+    told: Told,
 ) -> u32
     requires { ⌜ IsBook (now book) ⌝ }
     requires { ⌜ k < length ((bookIn (now book)) .demands) ⌝ }
-    requires { ⌜ length (now slots) ≡ SLOTS ⌝ }
+    requires { ⌜ Whole (now slots) (now flags) told ⌝ }
     requires { ⌜ count ≤ 4294967000 ⌝ }
-    ensures { λ r. ⌜ Puts (demandBreak (bookIn (now (book .entry))) (now (slots .entry)) «line_no» (getD ((bookIn (now (book .entry))) .demands) k noDemand)) 1 (lent (now (places .entry)) count) (lent (now (places .exit)) r) ⌝ }
+    ensures { λ r. ⌜ Puts (wantBreaks (bookIn (now (book .entry))) (seen (now (slots .entry)) (now (flags .entry)) told) «line_no» (wantsOf (getD ((bookIn (now (book .entry))) .demands) k noDemand))) (length (wantsOf (getD ((bookIn (now (book .entry))) .demands) k noDemand))) (lent (now (places .entry)) count) (lent (now (places .exit)) r) ⌝ }
 {
     let d = nth_demand(book, k);
     let entry = d.entry;
     let from = start_of(book, entry);
+    let section = d.section;
+    let present = told.present;
+    let asked = both(
+        is_asked(d.asked, told.mode, told.typed, told.assay),
+        present[section],
+    );
+    if d.each != ONCE {
+        return judge_ids(places, count, line_no, d, from, asked, slots, flags);
+    }
     let to = start_of(book, entry + 1);
-    let lacking = both(d.asked, !any_marked(slots, from, to));
+    let lacking = both(asked, !any_marked(slots, from, to));
     put_if(places, count, lacking, RULE, line_no, d.cell)
 }
 
 // What of the demanded metadata is absent, at the line after the last.
-pub fn judge_end(places: &mut [u32], count: u32, book: &[u8], line_no: u32, slots: &[bool]) -> u32
+pub fn judge_end(
+    places: &mut [u32],
+    count: u32,
+    book: &[u8],
+    line_no: u32,
+    slots: &[bool],
+    flags: &[[bool; 64]; 4],
+    told: Told,
+) -> u32
     requires { ⌜ IsBook (now book) ⌝ }
-    requires { ⌜ length (now slots) ≡ SLOTS ⌝ }
+    requires { ⌜ Whole (now slots) (now flags) told ⌝ }
     requires { ⌜ count ≤ 4294966000 ⌝ }
-    ensures { λ r. ⌜ Puts (endBreaks (bookIn (now (book .entry))) (now (slots .entry)) «line_no») 5 (lent (now (places .entry)) count) (lent (now (places .exit)) r) ⌝ }
+    ensures { λ r. ⌜ Puts (endBreaks (bookIn (now (book .entry))) (seen (now (slots .entry)) (now (flags .entry)) told) «line_no») WANTS (lent (now (places .entry)) count) (lent (now (places .exit)) r) ⌝ }
 {
     let n = count_demands(book);
     let mut k = 0;
     let mut c = count;
     while k < n {
-        c = judge_demand(places, c, book, k, line_no, slots);
+        c = judge_demand(places, c, book, k, line_no, slots, flags, told);
         k += 1;
     }
     c

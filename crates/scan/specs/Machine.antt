@@ -13,8 +13,7 @@ use Rattle.book.specs.Book.{SECTIONS, SLOTS, Demand, Want, cellOf, upFrom, want
 use Rattle.book.specs.Text.{entryFor}
 use Rattle.book_names.specs.Names.{startOf, slotOf, isKnown}
 use Rattle.book_ids.specs.Ids.{ASSAYS, declares}
-use Rattle.book_facts.specs.Facts.{FactsOf}
-use Rattle.book_facts.specs.declared.Facts.{Facts}
+use Rattle.book_facts.specs.Facts.{modeOf, typeOf}
 use Rattle.value_references.specs.Index.{MOST}
 use Rattle.book_kinds.specs.Kinds.{ofKind, cellOfKind, familyNumber}
 use Rattle.book_names.specs.declared.Found.{Found}
@@ -180,19 +179,21 @@ isMarked slots from to = any (λ s. getD slots s false) (upFrom (to - from) from
 pub record Seen : Type 0 where
   pub slots : List Bool
   pub flags : List (List Bool)
-  pub facts : Facts
+  pub mode : ℕ
+  pub typed : ℕ
   pub present : List Bool
 
 -- it says what the file has
 pub record Tells (b : Book) (file : List Bytes) (x : Seen) : Type 0 where
   pub slots : Slots b file (x .slots)
   pub ids : Declares b file (idsOf (x .flags))
-  pub facts : FactsOf file (x .facts)
+  pub mode : x .mode ≡ modeOf file
+  pub typed : x .typed ≡ typeOf file
   pub present : (s : ℕ) → s < SECTIONS → getD (x .present) s false ≡ isPresent b file s
 
 -- whether a demand is asked of the file, and for the id
 unfoldable pub isAskedIn : Seen → Demand → Bool
-isAskedIn x d = asks (d .asked) (x .facts .mode) (x .facts .typed) (isMarked (getD (x .flags) ASSAYS []) 0 MOST) && getD (x .present) (d .section) false
+isAskedIn x d = asks (d .asked) (x .mode) (x .typed) (isMarked (getD (x .flags) ASSAYS []) 0 MOST) && getD (x .present) (d .section) false
 
 abbrev pub isForIn : Seen → Want → Bool
 isForIn x w = eqb (w .index) 0 || idsOf (x .flags) (w .demand .each) (w .index)

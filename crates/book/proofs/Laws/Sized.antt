@@ -13,7 +13,7 @@ use Rattle.text_bytes.proofs.Laws.Tests.{and-both}
 use Rattle.book_names.specs.Names.{entryOf, piecesFrom, pieces, spread, startOf}
 use Rattle.book_names.proofs.Laws.Known.{holes}
 use Rattle.book.specs.Keys.{keys}
-use Rattle.book.specs.Book.{SECTIONS, SLOTS, Book, Demand, ONCE, Want, cellOf, wantsOf, wantsIn, wants, lastCell, keyEntries, demands, mzTab, hasForm}
+use Rattle.book.specs.Book.{SECTIONS, SLOTS, WANTS, CELLS, Book, Demand, ONCE, Want, cellOf, wantsOf, wantsIn, wants, lastCell, keyEntries, demands, mzTab, hasForm}
 use Rattle.book.specs.Text.{bookIn}
 
 -- the cells of what is wanted rise, from above k on
@@ -59,14 +59,6 @@ module _ (ks : List String) (d : Demand) (h : isSound ks d ≡ true) where
 
   pub sound-section : d .section < SECTIONS
   sound-section = ltb-true (d .section) SECTIONS (parts .2)
-
--- what is wanted at line N + 1, at most
-abbrev pub WANTS : ℕ
-WANTS = 5
-
--- the cells there
-abbrev pub CELLS : ℕ
-CELLS = 5
 
 -- sections are numbered from 1 and below SECTIONS; the keys' slots are below SLOTS; at most WANTS things are wanted, in order, at cells up to CELLS, and each
 -- demand is sound

@@ -338,7 +338,7 @@ module _ (b : Book) (sized : Sized b) (F : List Bytes) (x : Seen) (h : Tells b F
 
   asked-is : (w : Want) → w .demand .section < SECTIONS → isAskedIn x (w .demand) ≡ (asks (w .demand .asked) (modeOf F) (typeOf F) (isDeclared b F ASSAYS) && isPresent b F (w .demand .section))
   unfolding isAskedIn
-  asked-is w l = rw (assays-are, h .facts .mode, h .facts .typed, h .present (w .demand .section) l)
+  asked-is w l = rw (assays-are, h .mode, h .typed, h .present (w .demand .section) l)
 
   for-is : (w : Want) → (w .index ≡ 0) ⊎ ((isEach (w .demand) ≡ true) × (1 ≤ w .index) × (w .index ≤ MOST)) → isForIn x w ≡ isFor b F w
   for-is w ways =

@@ -66,6 +66,7 @@ returns c =
       asked = at 3 ∙ d .asked k l;
       section = s .wide3 .ensures ∙ at 4 ∙ d .sections k l;
       each = f .wide4 .ensures ∙ at 5 ∙ d .families k l;
+      fits = omega (arith, n .narrow .ensures, n .before .shared-slice-known3 .given (place w), h .narrow2 .ensures, h .before .shared-slice-known4 .given (place w + 1));
     }
 
 pub nth-demand-spec : {M : Type 1} → statement M

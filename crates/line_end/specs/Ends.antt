@@ -1,0 +1,30 @@
+-- What is wanted at the end, as the code goes through it. No public contract cites this file. Assumes nothing.
+use Prim.Native.Nat.{ℕ, _+_, _-_, _≤_, _<_}
+use mathlib.Core.Path.{_≡_}
+use mathlib.Core.Bool.{Bool, false, not, _&&_}
+use mathlib.Core.List.{List, [], _∷_}
+use lib.ListN.{length, getD}
+use Rattle.value_references.specs.Index.{MOST}
+use Rattle.book.specs.Book.{SECTIONS, SLOTS}
+use Rattle.book_ids.specs.Ids.{ASSAYS, Flags}
+use Rattle.rules.specs.Breaks.{Break, breakAt, when}
+use Rattle.scan.specs.Machine.{Seen, isMarked}
+use Rattle.line_end.specs.declared.Told.{Told}
+
+-- what was found of the file, of which the facts are told
+abbrev pub seen : List Bool → List (List Bool) → Told → Seen
+seen slots flags told = record { slots = slots; flags = flags; mode = told .mode; typed = told .typed; present = told .present }
+
+-- the parts have their sizes, and the told say whether an assay is declared
+pub record Whole (slots : List Bool) (flags : List (List Bool)) (told : Told) : Type 0 where
+  pub long : length slots ≡ SLOTS
+  pub shape : Flags flags
+  pub assay : told .assay ≡ isMarked (getD flags ASSAYS []) 0 MOST
+
+-- what is wanted for the ids of a family, of which these flags are declared: the keys' slots begin at `from`
+abbrev pub idBreak : Bool → List Bool → List Bool → ℕ → ℕ → ℕ → ℕ → List Break → List Break
+idBreak asked slots ids from cell n i rest = when ((asked && getD ids (i - 1) false) && not (getD slots (from + (i - 1)) false)) (breakAt n (cell + i) 21) rest
+
+unfoldable pub idBreaks : Bool → List Bool → List Bool → ℕ → ℕ → ℕ → List ℕ → List Break → List Break
+idBreaks asked slots ids from cell n [] rest = rest
+idBreaks asked slots ids from cell n (i ∷ is) rest = idBreak asked slots ids from cell n i (idBreaks asked slots ids from cell n is rest)
