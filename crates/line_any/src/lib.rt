@@ -10,11 +10,11 @@ use scan::state::after_header;
 use scan::state::after_row;
 use text::cells::count_cells;
 ghost use mathlib.Core.Path.{_≡_};
-ghost use Prim.Native.Nat.{_≤_};
+ghost use Prim.Native.Nat.{_+_, _≤_};
 ghost use lib.ListN.{length};
 ghost use Rattle.text.specs.Lines.{LIMIT};
 ghost use Rattle.rules.specs.Sorts.{controlCell};
-ghost use Rattle.scan.specs.Places.{lent, Puts};
+ghost use Rattle.scan.specs.Places.{CEILING, LINE-MOST, lent, Puts};
 ghost use Rattle.book.specs.Text.{bookIn, IsBook};
 ghost use Rattle.book_ids.specs.Ids.{Flags};
 ghost use Rattle.line_head_stamps.specs.Stamps.{ROOM};
@@ -32,7 +32,7 @@ fn control_of(line: &[u8]) -> u32
 
 // Rule 2: an unknown line code.
 fn judge_unknown(places: &mut [u32], count: u32, line_no: u32, control: u32) -> u32
-    requires { ⌜ count ≤ 4294967000 ⌝ }
+    requires { ⌜ count + 3 ≤ CEILING ⌝ }
     ensures { λ r. ⌜ Puts (unknownBreaks control «line_no») 3 (lent (now (places .entry)) count) (lent (now (places .exit)) r) ⌝ }
 {
     let k1 = put_if(places, count, control == 1, 1, line_no, 1);
@@ -60,14 +60,14 @@ pub fn judge_line(
     slots: &mut [bool],
     stamps: &mut [u32],
 ) -> Step
-    requires { ⌜ count ≤ 3999998000 ⌝ }
+    requires { ⌜ count + LINE-MOST ≤ CEILING ⌝ }
     requires { ⌜ IsBook (now book) ⌝ }
     requires { ⌜ length (now line) ≤ LIMIT ⌝ }
     requires { ⌜ Flags (now flags) ⌝ }
     requires { ⌜ length (now kinds) ≡ 256 ⌝ }
     requires { ⌜ length (now slots) ≡ SLOTS ⌝ }
     requires { ⌜ length (now stamps) ≡ ROOM ⌝ }
-    ensures { λ r. ⌜ Puts (lineBreaks (bookIn (now (book .entry))) (idsOf (now (flags .entry))) state (now (kinds .entry)) (now (slots .entry)) «line_no» (now (line .entry))) 1300 (lent (now (places .entry)) count) (lent (now (places .exit)) (r .count)) ⌝ }
+    ensures { λ r. ⌜ Puts (lineBreaks (bookIn (now (book .entry))) (idsOf (now (flags .entry))) state (now (kinds .entry)) (now (slots .entry)) «line_no» (now (line .entry))) LINE-MOST (lent (now (places .entry)) count) (lent (now (places .exit)) (r .count)) ⌝ }
     ensures { λ r. ⌜ Follows (bookIn (now (book .entry))) state (now (kinds .entry)) (now (slots .entry)) (now (line .entry)) (r .state) (now (kinds .exit)) (now (slots .exit)) ⌝ }
     ensures { λ r. ⌜ length (now (stamps .exit)) ≡ ROOM ⌝ }
 {

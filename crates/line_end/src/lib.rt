@@ -5,11 +5,11 @@ use book::slots::start_of;
 use scan::places::both;
 use scan::places::put_if;
 ghost use mathlib.Core.Path.{_≡_};
-ghost use Prim.Native.Nat.{_≤_, _<_};
+ghost use Prim.Native.Nat.{_+_, _≤_, _<_};
 ghost use lib.ListN.{length, getD};
 ghost use Rattle.book.specs.Book.{SLOTS, noDemand};
 ghost use Rattle.book.specs.Text.{bookIn, IsBook};
-ghost use Rattle.scan.specs.Places.{lent, Puts};
+ghost use Rattle.scan.specs.Places.{CEILING, END-MOST, lent, Puts};
 ghost use Rattle.scan.specs.Machine.{isMarked, demandBreak, endBreaks};
 
 // The rule that a demand breaks.
@@ -42,7 +42,7 @@ fn judge_demand(
     requires { ⌜ IsBook (now book) ⌝ }
     requires { ⌜ k < length ((bookIn (now book)) .demands) ⌝ }
     requires { ⌜ length (now slots) ≡ SLOTS ⌝ }
-    requires { ⌜ count ≤ 4294967000 ⌝ }
+    requires { ⌜ count + 1 ≤ CEILING ⌝ }
     ensures { λ r. ⌜ Puts (demandBreak (bookIn (now (book .entry))) (now (slots .entry)) «line_no» (getD ((bookIn (now (book .entry))) .demands) k noDemand)) 1 (lent (now (places .entry)) count) (lent (now (places .exit)) r) ⌝ }
 {
     let d = nth_demand(book, k);
@@ -57,8 +57,8 @@ fn judge_demand(
 pub fn judge_end(places: &mut [u32], count: u32, book: &[u8], line_no: u32, slots: &[bool]) -> u32
     requires { ⌜ IsBook (now book) ⌝ }
     requires { ⌜ length (now slots) ≡ SLOTS ⌝ }
-    requires { ⌜ count ≤ 4294966000 ⌝ }
-    ensures { λ r. ⌜ Puts (endBreaks (bookIn (now (book .entry))) (now (slots .entry)) «line_no») 5 (lent (now (places .entry)) count) (lent (now (places .exit)) r) ⌝ }
+    requires { ⌜ count + END-MOST ≤ CEILING ⌝ }
+    ensures { λ r. ⌜ Puts (endBreaks (bookIn (now (book .entry))) (now (slots .entry)) «line_no») END-MOST (lent (now (places .entry)) count) (lent (now (places .exit)) r) ⌝ }
 {
     let n = count_demands(book);
     let mut k = 0;

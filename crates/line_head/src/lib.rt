@@ -6,12 +6,12 @@ use text::cells::cell_end;
 use text::cells::count_cells;
 ghost use mathlib.Core.Path.{_≡_};
 ghost use mathlib.Core.Bool.{true};
-ghost use Prim.Native.Nat.{_≤_};
+ghost use Prim.Native.Nat.{_+_, _≤_};
 ghost use lib.ListN.{length, drop};
 ghost use Rattle.text.specs.Lines.{LIMIT, cells};
 ghost use Rattle.book.specs.Book.{isSection};
 ghost use Rattle.book.specs.Text.{bookIn, IsBook};
-ghost use Rattle.scan.specs.Places.{lent, Puts};
+ghost use Rattle.scan.specs.Places.{CEILING, HEADED-MOST, LINE-MOST, lent, Puts};
 ghost use Rattle.scan.specs.Machine.{idsOf, headBreaks, headFirst, nameBreaks};
 ghost use Rattle.line_head_stamps.specs.Stamps.{ROOM as room};
 ghost use Rattle.line_head.specs.Heads.{Kept, Keeps};
@@ -28,7 +28,7 @@ fn head_code(
     later: bool,
     wide: bool,
 ) -> u32
-    requires { ⌜ count ≤ 4294967000 ⌝ }
+    requires { ⌜ count + 4 ≤ CEILING ⌝ }
     ensures { λ r. ⌜ Puts (headFirst again later wide control «line_no») 4 (lent (now (places .entry)) count) (lent (now (places .exit)) r) ⌝ }
 {
     let k1 = put_if(places, count, control == 1, 1, line_no, 1);
@@ -51,14 +51,14 @@ fn head_names(
     kinds: &mut [u8; 256],
     stamps: &mut [u32],
 ) -> u32
-    requires { ⌜ count ≤ 3999999000 ⌝ }
+    requires { ⌜ count + HEADED-MOST ≤ CEILING ⌝ }
     requires { ⌜ IsBook (now book) ⌝ }
     requires { ⌜ isSection (bookIn (now book)) section ≡ true ⌝ }
     requires { ⌜ (from ≤ length (now line)) × (length (now line) ≤ LIMIT) ⌝ }
     requires { ⌜ length (cells (drop from (now line))) ≤ 255 ⌝ }
     requires { ⌜ length (now kinds) ≡ 256 ⌝ }
     requires { ⌜ length (now stamps) ≡ room ⌝ }
-    ensures { λ r. ⌜ Puts (nameBreaks (bookIn (now (book .entry))) section (idsOf (now (flags .entry))) control «line_no» (cells (drop from (now (line .entry))))) 1276 (lent (now (places .entry)) count) (lent (now (places .exit)) r) ⌝ }
+    ensures { λ r. ⌜ Puts (nameBreaks (bookIn (now (book .entry))) section (idsOf (now (flags .entry))) control «line_no» (cells (drop from (now (line .entry))))) HEADED-MOST (lent (now (places .entry)) count) (lent (now (places .exit)) r) ⌝ }
     ensures { λ r. ⌜ Kept (bookIn (now (book .entry))) section (cells (drop from (now (line .entry)))) (now (kinds .exit)) (now (stamps .exit)) ⌝ }
 {
     let k = put_if(
@@ -101,13 +101,13 @@ pub fn judge_head(
     kinds: &mut [u8; 256],
     stamps: &mut [u32],
 ) -> u32
-    requires { ⌜ count ≤ 3999998000 ⌝ }
+    requires { ⌜ count + LINE-MOST ≤ CEILING ⌝ }
     requires { ⌜ IsBook (now book) ⌝ }
     requires { ⌜ isSection (bookIn (now book)) section ≡ true ⌝ }
     requires { ⌜ length (now kinds) ≡ 256 ⌝ }
     requires { ⌜ length (now stamps) ≡ room ⌝ }
     requires { ⌜ length (now line) ≤ LIMIT ⌝ }
-    ensures { λ r. ⌜ Puts (headBreaks (bookIn (now (book .entry))) section again later (idsOf (now (flags .entry))) control «line_no» (cells (now (line .entry)))) 1300 (lent (now (places .entry)) count) (lent (now (places .exit)) r) ⌝ }
+    ensures { λ r. ⌜ Puts (headBreaks (bookIn (now (book .entry))) section again later (idsOf (now (flags .entry))) control «line_no» (cells (now (line .entry)))) LINE-MOST (lent (now (places .entry)) count) (lent (now (places .exit)) r) ⌝ }
     ensures { λ r. ⌜ Keeps (bookIn (now (book .entry))) section (now (line .entry)) (now (kinds .exit)) (now (stamps .exit)) ⌝ }
 {
     let wide = MOST_CELLS < count_cells(line);

@@ -15,7 +15,7 @@ ghost use Rattle.text.specs.Lines.{LIMIT, cells};
 ghost use Rattle.book.specs.Text.{bookIn, IsBook};
 ghost use Rattle.book_names.specs.Names.{isKnown};
 ghost use Rattle.book.specs.Book.{columnOf};
-ghost use Rattle.scan.specs.Places.{lent, Puts};
+ghost use Rattle.scan.specs.Places.{CEILING, NAME-MOST, NAMES-MOST, lent, Puts};
 ghost use Rattle.rules.specs.Rules.{lastIndex, kindIn};
 ghost use Rattle.scan.specs.Machine.{idsOf, columnIn, eachCell, nameCell, headCell, KindsOf, Within, knownBreaks};
 ghost use Rattle.line_head_stamps.specs.Stamps.{ROOM as room};
@@ -99,7 +99,7 @@ fn name_known(
     found: Found,
     again: bool,
 ) -> u32
-    requires { ⌜ count ≤ 4294967000 ⌝ }
+    requires { ⌜ count + 3 ≤ CEILING ⌝ }
     ensures { λ r. ⌜ Puts (knownBreaks again found control «line_no» c) 3 (lent (now (places .entry)) count) (lent (now (places .exit)) r) ⌝ }
 {
     let known = is_known(found);
@@ -121,9 +121,9 @@ fn name_cell(
     opt: bool,
     flags: &[[bool; 64]; 4],
 ) -> u32
-    requires { ⌜ count ≤ 4294966000 ⌝ }
+    requires { ⌜ count + NAME-MOST ≤ CEILING ⌝ }
     requires { ⌜ Within found ⌝ }
-    ensures { λ r. ⌜ Puts (nameCell again opt (idsOf (now (flags .entry))) found control «line_no» c (now (name .entry))) 5 (lent (now (places .entry)) count) (lent (now (places .exit)) r) ⌝ }
+    ensures { λ r. ⌜ Puts (nameCell again opt (idsOf (now (flags .entry))) found control «line_no» c (now (name .entry))) NAME-MOST (lent (now (places .entry)) count) (lent (now (places .exit)) r) ⌝ }
 {
     let late = both(!is_opt(name), opt);
     let named = undeclared(flags, found);
@@ -147,11 +147,11 @@ fn head_cell(
     flags: &[[bool; 64]; 4],
     kinds: &mut [u8; 256],
 ) -> u32
-    requires { ⌜ count ≤ 4294966000 ⌝ }
+    requires { ⌜ count + NAME-MOST ≤ CEILING ⌝ }
     requires { ⌜ IsBook (now book) ⌝ }
     requires { ⌜ (0 < c) × (c ≤ 256) ⌝ }
     requires { ⌜ length (now kinds) ≡ 256 ⌝ }
-    ensures { λ r. ⌜ Puts (nameCell again opt (idsOf (now (flags .entry))) (columnOf (bookIn (now (book .entry))) section (now (name .entry))) control «line_no» c (now (name .entry))) 5 (lent (now (places .entry)) count) (lent (now (places .exit)) r) ⌝ }
+    ensures { λ r. ⌜ Puts (nameCell again opt (idsOf (now (flags .entry))) (columnOf (bookIn (now (book .entry))) section (now (name .entry))) control «line_no» c (now (name .entry))) NAME-MOST (lent (now (places .entry)) count) (lent (now (places .exit)) r) ⌝ }
     ensures { λ r. ⌜ now (kinds .exit) ≡ set (now (kinds .entry)) (c - 1) (kindIn (columnOf (bookIn (now (book .entry))) section (now (name .entry)))) ⌝ }
 {
     let found = column(book, section as usize, name);
@@ -184,13 +184,13 @@ pub fn head_cells(
     kinds: &mut [u8; 256],
     stamps: &mut [u32],
 ) -> u32
-    requires { ⌜ count ≤ 4000000000 ⌝ }
+    requires { ⌜ count + NAMES-MOST ≤ CEILING ⌝ }
     requires { ⌜ IsBook (now book) ⌝ }
     requires { ⌜ (from ≤ length (now line)) × (length (now line) ≤ LIMIT) ⌝ }
     requires { ⌜ length (cells (drop from (now line))) ≤ 255 ⌝ }
     requires { ⌜ length (now kinds) ≡ 256 ⌝ }
     requires { ⌜ length (now stamps) ≡ room ⌝ }
-    ensures { λ r. ⌜ Puts (eachCell (headCell (bookIn (now (book .entry))) section (cells (drop from (now (line .entry)))) (idsOf (now (flags .entry))) control «line_no») 2 (cells (drop from (now (line .entry))))) 1275 (lent (now (places .entry)) count) (lent (now (places .exit)) r) ⌝ }
+    ensures { λ r. ⌜ Puts (eachCell (headCell (bookIn (now (book .entry))) section (cells (drop from (now (line .entry)))) (idsOf (now (flags .entry))) control «line_no») 2 (cells (drop from (now (line .entry))))) NAMES-MOST (lent (now (places .entry)) count) (lent (now (places .exit)) r) ⌝ }
     ensures { λ r. ⌜ KindsOf (bookIn (now (book .entry))) section (cells (drop from (now (line .entry)))) (now (kinds .exit)) ⌝ }
     ensures { λ r. ⌜ length (now (kinds .exit)) ≡ 256 ⌝ }
     ensures { λ r. ⌜ length (now (stamps .exit)) ≡ room ⌝ }

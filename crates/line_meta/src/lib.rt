@@ -8,14 +8,14 @@ use text::cells::count_cells;
 ghost use mathlib.Core.Path.{_≡_};
 ghost use mathlib.Core.Bool.{true, not};
 ghost use mathlib.Core.List.{[]};
-ghost use Prim.Native.Nat.{_≤_};
+ghost use Prim.Native.Nat.{_+_, _≤_};
 ghost use lib.ListN.{length, getD, drop};
 ghost use Rattle.text.specs.Lines.{cells, isMeta};
 ghost use Rattle.book.specs.Book.{SLOTS, keyOf};
 ghost use Rattle.book_ids.specs.Ids.{Flags};
 ghost use Rattle.book.specs.Text.{bookIn, IsBook};
 ghost use Rattle.rules.specs.Breaks.{breakAt, when};
-ghost use Rattle.scan.specs.Places.{lent, Puts};
+ghost use Rattle.scan.specs.Places.{CEILING, LINE-MOST, lent, Puts};
 ghost use Rattle.scan.specs.Machine.{controlAt, eachCell, metaCell, metaBreaks, idsOf};
 ghost use Rattle.line_meta_keys.specs.Keys.{marked};
 ghost use Rattle.line_meta.specs.Metas.{Keeps};
@@ -32,7 +32,7 @@ fn put_key(
     known: bool,
     again: bool,
 ) -> u32
-    requires { ⌜ count ≤ 4294967000 ⌝ }
+    requires { ⌜ count + 3 ≤ CEILING ⌝ }
     ensures { λ r. ⌜ Puts (λ rest. controlAt control «line_no» 2 (when (not known) (breakAt «line_no» 2 5) (when again (breakAt «line_no» 2 6) rest))) 3 (lent (now (places .entry)) count) (lent (now (places .exit)) r) ⌝ }
 {
     let k1 = put_if(places, count, control == 2, 1, line_no, 2);
@@ -49,7 +49,7 @@ fn put_value(
     wrong: bool,
     undeclared: bool,
 ) -> u32
-    requires { ⌜ count ≤ 4294967000 ⌝ }
+    requires { ⌜ count + 3 ≤ CEILING ⌝ }
     ensures { λ r. ⌜ Puts (λ rest. controlAt control «line_no» 3 (when wrong (breakAt «line_no» 3 7) (when undeclared (breakAt «line_no» 3 8) rest))) 3 (lent (now (places .entry)) count) (lent (now (places .exit)) r) ⌝ }
 {
     let k1 = put_if(places, count, control == 3, 1, line_no, 3);
@@ -72,7 +72,7 @@ fn judge_three(
     requires { ⌜ Flags (now flags) ⌝ }
     requires { ⌜ length (now slots) ≡ SLOTS ⌝ }
     requires { ⌜ length (cells (now line)) ≡ 3 ⌝ }
-    requires { ⌜ count ≤ 4000000000 ⌝ }
+    requires { ⌜ count + 6 ≤ CEILING ⌝ }
     ensures { λ r. ⌜ Puts (eachCell (metaCell (bookIn (now (book .entry))) (now (slots .entry)) (idsOf (now (flags .entry))) (getD (cells (now (line .entry))) 1 []) (getD (cells (now (line .entry))) 2 []) control «line_no») 2 (drop 1 (cells (now (line .entry))))) 6 (lent (now (places .entry)) count) (lent (now (places .exit)) r) ⌝ }
     ensures { λ r. ⌜ now (slots .exit) ≡ marked (bookIn (now (book .entry))) (now (slots .entry)) (keyOf (bookIn (now (book .entry))) (getD (cells (now (line .entry))) 1 [])) ⌝ }
 {
@@ -112,8 +112,8 @@ pub fn judge_meta(
     requires { ⌜ Flags (now flags) ⌝ }
     requires { ⌜ length (now slots) ≡ SLOTS ⌝ }
     requires { ⌜ isMeta (now line) ≡ true ⌝ }
-    requires { ⌜ count ≤ 3999998000 ⌝ }
-    ensures { λ r. ⌜ Puts (metaBreaks (bookIn (now (book .entry))) table (now (slots .entry)) (idsOf (now (flags .entry))) control «line_no» (cells (now (line .entry)))) 1300 (lent (now (places .entry)) count) (lent (now (places .exit)) r) ⌝ }
+    requires { ⌜ count + LINE-MOST ≤ CEILING ⌝ }
+    ensures { λ r. ⌜ Puts (metaBreaks (bookIn (now (book .entry))) table (now (slots .entry)) (idsOf (now (flags .entry))) control «line_no» (cells (now (line .entry)))) LINE-MOST (lent (now (places .entry)) count) (lent (now (places .exit)) r) ⌝ }
     ensures { λ r. ⌜ Keeps (bookIn (now (book .entry))) (now (line .entry)) (now (slots .entry)) (now (slots .exit)) ⌝ }
 {
     let n = count_cells(line);

@@ -8,7 +8,7 @@ use text::cells::count_cells;
 ghost use Prim.Native.Nat.{_+_, _≤_};
 ghost use lib.ListN.{length, drop};
 ghost use Rattle.text.specs.Lines.{cells};
-ghost use Rattle.scan.specs.Places.{lent, Puts};
+ghost use Rattle.scan.specs.Places.{CEILING, CELLS-MOST, LINE-MOST, lent, Puts};
 ghost use Rattle.scan.specs.Machine.{eachCell, kindCell, rowCell, rowBreaks, rowFirst};
 
 // A header of more cells has no kinds for its columns.
@@ -24,7 +24,7 @@ fn row_cell(
     control: u32,
     kind: u8,
 ) -> u32
-    requires { ⌜ count ≤ 4294967000 ⌝ }
+    requires { ⌜ count + 3 ≤ CEILING ⌝ }
     ensures { λ r. ⌜ Puts (kindCell kind control «line_no» c (now (cell .entry))) 3 (lent (now (places .entry)) count) (lent (now (places .exit)) r) ⌝ }
 {
     let good = cell_of_kind(kind, cell);
@@ -50,8 +50,8 @@ fn row_cells(
 ) -> u32
     requires { ⌜ from ≤ length (now line) ⌝ }
     requires { ⌜ length (cells (drop from (now line))) ≤ 255 ⌝ }
-    requires { ⌜ count ≤ 4000000000 ⌝ }
-    ensures { λ r. ⌜ Puts (eachCell (rowCell (now (kinds .entry)) control «line_no») 2 (cells (drop from (now (line .entry))))) 765 (lent (now (places .entry)) count) (lent (now (places .exit)) r) ⌝ }
+    requires { ⌜ count + CELLS-MOST ≤ CEILING ⌝ }
+    ensures { λ r. ⌜ Puts (eachCell (rowCell (now (kinds .entry)) control «line_no») 2 (cells (drop from (now (line .entry))))) CELLS-MOST (lent (now (places .entry)) count) (lent (now (places .exit)) r) ⌝ }
 {
     let mut at = from;
     let mut c: u32 = 2;
@@ -77,7 +77,7 @@ fn row_code(
     headed: bool,
     uneven: bool,
 ) -> u32
-    requires { ⌜ count ≤ 4294967000 ⌝ }
+    requires { ⌜ count + 3 ≤ CEILING ⌝ }
     ensures { λ r. ⌜ Puts (rowFirst headed uneven control «line_no») 3 (lent (now (places .entry)) count) (lent (now (places .exit)) r) ⌝ }
 {
     let k1 = put_if(places, count, control == 1, 1, line_no, 1);
@@ -98,8 +98,8 @@ pub fn judge_row(
     width: usize,
     kinds: &[u8; 256],
 ) -> u32
-    requires { ⌜ count ≤ 3999998000 ⌝ }
-    ensures { λ r. ⌜ Puts (rowBreaks header width (now (kinds .entry)) section control «line_no» (cells (now (line .entry)))) 1300 (lent (now (places .entry)) count) (lent (now (places .exit)) r) ⌝ }
+    requires { ⌜ count + LINE-MOST ≤ CEILING ⌝ }
+    ensures { λ r. ⌜ Puts (rowBreaks header width (now (kinds .entry)) section control «line_no» (cells (now (line .entry)))) LINE-MOST (lent (now (places .entry)) count) (lent (now (places .exit)) r) ⌝ }
 {
     let headed = header == section;
     let under = both(headed, width <= MOST_CELLS);

@@ -1,10 +1,11 @@
 -- `line_meta::judge_meta` meets its contract: cell 1's puts, and then by the number of cells. Assumes nothing.
 use mathlib.Core.Path.{_≡_, sym, _∙_}
-use Prim.Native.Nat.{_≤_}
+use Prim.Native.Nat.{_+_, _≤_}
 use lib.ListN.{length}
 use native.Mathlib.Omega.{arith}
 use borrow.Author.Needs.{needs}
 use Rattle.text.specs.Lines.{cells}
+use Rattle.scan.specs.Places.{CEILING}
 use Rattle.scan.specs.Machine.{idsOf}
 use Rattle.line_meta.proofs.Laws.Keeping.{keeps-three, keeps-other}
 use Rattle.line_meta.proofs.Laws.Lining.{meta-three, meta-other}
@@ -20,7 +21,7 @@ judge-three-requires c κs =
     let at-count = p1 .before .before in
     let start = at-count .before .before .before .before .before in
     let three = sym (at-count .count-cells .ensures) ∙ branch .if1 .taken in
-    let most : p3 .put-if3 .result ≤ 4000000000 = omega (arith, start .pre .1 .1 .1 .1, p1 .put-if .ensures .most, p2 .put-if2 .ensures .most, p3 .put-if3 .ensures .most) in
+    let most : p3 .put-if3 .result + 6 ≤ CEILING = omega (arith, start .pre .1 .1 .1 .1, p1 .put-if .ensures .most, p2 .put-if2 .ensures .most, p3 .put-if3 .ensures .most) in
     (start .pre .0, (start .pre .1 .0, (start .pre .1 .1 .0, (three, most))))
 
 returns : tie.Need-returns

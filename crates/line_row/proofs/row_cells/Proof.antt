@@ -29,6 +29,10 @@ loop-holds c = (search needs, search needs, search needs, search needs, search n
 element-copy-out-kind : tie.Need-element-copy-out-kind Inv-loop μ-loop
 element-copy-out-kind c = omega (arith, ap length (cell-here (c .cell-end .ensures)))
 
+-- the cell is one of those left
+row-cell-requires : tie.Need-row-cell-requires Inv-loop μ-loop
+row-cell-requires c κs = omega (arith, ap length (cell-here (c .before .before .before .cell-end .ensures)))
+
 returns : tie.Need-returns Inv-loop μ-loop
 returns c =
     let at-cell = c .before .before .before in
@@ -69,7 +73,7 @@ row-cells-spec =
     (λ c. search needs)
     (λ c. search needs)
     (λ c. search needs)
-    (λ c κs. search needs)
+    row-cell-requires
     (λ c. search needs)
     returns
     (λ c. search needs)

@@ -8,6 +8,7 @@ use Rattle.rules.specs.Rules.{breaksBy}
 use Rattle.scan.specs.Places.{Lent}
 use Rattle.scan.proofs.Laws.Placing.{placed-length}
 use Rattle.scan.proofs.Laws.Scanning.{breaks-bound}
+use Rattle.faults.specs.Steps.{ROOM as PLACES}
 use Rattle.line_head_stamps.specs.Stamps.{ROOM}
 use Rattle.judging.specs.Parts.{total}
 use Rattle.faults.proofs.Laws.Stepping.{found-all, step-moves, step-less}
@@ -50,7 +51,7 @@ returns c =
     let from = c .before .before .before .least .ensures in
     let fit = c .least2 .ensures in
     let room = placed-length (take (at-judge .judge-part .result .held) (drop (total (s .args .s .stand)) (breaksBy (bookOf (lines file)) (lines file)))) (s .args .places .now) 0 in
-    let kept : length (at-judge .judge-part .last .0) ≡ 12288 = ap (λ (o : Lent). length (o .places)) (p .puts) ∙ room ∙ s .pre .1 .1 in (
+    let kept : length (at-judge .judge-part .last .0) ≡ PLACES = ap (λ (o : Lent). length (o .places)) (p .puts) ∙ room ∙ s .pre .1 .1 in (
       record {
         number = good .number;
         going = λ q. record { limit = g .limit; midway = said .1 .0 q; counted = refl; declared = g .declared; columns = said .1 .1 .0; keys = said .1 .1 .1 };
