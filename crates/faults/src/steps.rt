@@ -107,7 +107,6 @@ pub fn next(
     let d = s.runs;
     let flags = [a, b, c, d];
     let mut kinds = s.kinds;
-    let mut stamps = [0u32; line_head_stamps::ROOM];
     let stand = judge_part(
         places,
         FULL,
@@ -117,7 +116,6 @@ pub fn next(
         &flags,
         &mut kinds,
         slots,
-        &mut stamps,
     );
     let count = stand.before + stand.held;
     let from = least(stand.before as usize, s.cap);
