@@ -2,6 +2,7 @@
 mod steps;
 
 use book::slots::SLOTS;
+use steps::PLACES;
 use steps::begin;
 use steps::next;
 ghost use mathlib.Core.Path.{_≡_};
@@ -52,7 +53,7 @@ pub fn judge(file: &[u8], faults: &mut [Fault], number: &mut u32) -> u32
     ensures { λ r. ⌜ outcome (now (number .exit)) r (now (faults .exit)) ≡ judged (now (file .entry)) (now (faults .entry)) ⌝ }
 {
     let mut slots = [false; SLOTS];
-    let mut places = [0u32; 12288];
+    let mut places = [0u32; PLACES];
     let mut s = begin(file, faults.len());
     while s.more {
         s = next(file, s, &mut slots, &mut places);

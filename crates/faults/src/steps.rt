@@ -14,6 +14,9 @@ ghost use lib.ListN.{length, replicate};
 ghost use Rattle.book.specs.Book.{SLOTS as all-slots};
 ghost use Rattle.faults.specs.Steps.{ROOM, Good, Moves};
 
+// The places of a part: three for each of 4,096 breaks.
+pub const PLACES: usize = 12288;
+
 // The breaks that a part holds before its last line: with that line's and those at the end they are at most 4,096.
 const FULL: u32 = 2791;
 
@@ -88,7 +91,7 @@ pub fn next(
     file: &[u8],
     s: Progress,
     slots: &mut [bool; SLOTS],
-    places: &mut [u32; 12288],
+    places: &mut [u32; PLACES],
 ) -> Progress
     requires { ⌜ Good (now file) s (now slots) ⌝ }
     requires { ⌜ s .more ≡ true ⌝ }
@@ -104,7 +107,6 @@ pub fn next(
     let d = s.runs;
     let flags = [a, b, c, d];
     let mut kinds = s.kinds;
-    let mut stamps = [0u32; line_head_stamps::ROOM];
     let stand = judge_part(
         places,
         FULL,
@@ -114,7 +116,6 @@ pub fn next(
         &flags,
         &mut kinds,
         slots,
-        &mut stamps,
     );
     let count = stand.before + stand.held;
     let from = least(stand.before as usize, s.cap);

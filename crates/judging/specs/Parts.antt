@@ -6,7 +6,7 @@ use mathlib.Core.List.{List, _++_}
 use lib.ListN.{length, take, drop}
 use Rattle.text_bytes.specs.Bytes.{Bytes}
 use Rattle.text.specs.Lines.{lines}
-use Rattle.scan.specs.Places.{lent, putAll}
+use Rattle.scan.specs.Places.{LINE-MOST, END-MOST, lent, putAll}
 use Rattle.rules.specs.Rules.{breaksBy}
 use Rattle.scan.specs.Carried.{initial, Scan, from, last}
 use Rattle.judging.specs.declared.parts.Stand.{Stand}
@@ -32,7 +32,7 @@ pub record Parts (b : Book) (file : Bytes) (room : ℕ) (s r : Stand) (places pl
   pub before : r .before ≡ total s
   pub most : total r ≤ length (breaksBy b (lines file))
   pub puts : lent places' (r .held) ≡ putAll (lent places 0) (take (r .held) (drop (total s) (breaksBy b (lines file))))
-  pub fits : r .held ≤ room + 1305
+  pub fits : r .held ≤ room + (LINE-MOST + END-MOST)
   pub full : r .more ≡ true → room ≤ r .held
   pub further : r .more ≡ true → s .at < r .at
   pub all : r .more ≡ false → total r ≡ length (breaksBy b (lines file))

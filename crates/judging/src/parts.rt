@@ -1,6 +1,8 @@
 // Judging a file in parts, each of as many breaks as a lent list has room for, or in one.
+use line_any::Step;
 use line_any::judge_line;
 use line_end::judge_end;
+use line_head_stamps::ROOM;
 use scan::state::State;
 use scan::state::start;
 use text::lines::line_at;
@@ -12,7 +14,6 @@ ghost use Rattle.text.specs.Lines.{LIMIT};
 ghost use Rattle.book.specs.Text.{bookIn, IsBook};
 ghost use Rattle.book_ids.specs.Ids.{Declared};
 ghost use Rattle.book.specs.Book.{SLOTS};
-ghost use Rattle.line_head_stamps.specs.Stamps.{ROOM};
 ghost use Rattle.judging.specs.Parts.{beginning as first, Midway, Parts};
 
 // Where the judging of a file stands: whether there is more to judge, the place of the next line and how many lines are passed, the breaks of the parts
@@ -41,7 +42,7 @@ pub fn beginning() -> Stand
 }
 
 // The next part: judges line after line until `room` breaks are put, and else what is required at the end. The list is written from its first place on; the
-// lists lent besides are what is carried, and room to work in.
+// lists lent besides are what is carried.
 pub fn judge_part(
     places: &mut [u32],
     room: u32,
@@ -51,7 +52,6 @@ pub fn judge_part(
     flags: &[[bool; 64]; 4],
     kinds: &mut [u8; 256],
     slots: &mut [bool],
-    stamps: &mut [u32],
 ) -> Stand
     requires { ⌜ 1 ≤ room ⌝ }
     requires { ⌜ IsBook (now book) ⌝ }
@@ -60,11 +60,11 @@ pub fn judge_part(
     requires { ⌜ Declared (bookIn (now book)) (now flags) (now file) ⌝ }
     requires { ⌜ length (now kinds) ≡ 256 ⌝ }
     requires { ⌜ length (now slots) ≡ SLOTS ⌝ }
-    requires { ⌜ length (now stamps) ≡ ROOM ⌝ }
     ensures { λ r. ⌜ Parts (bookIn (now (book .entry))) (now (file .entry)) room stand r (now (places .entry)) (now (places .exit)) ⌝ }
     ensures { λ r. ⌜ (r .more ≡ true → Midway (bookIn (now (book .entry))) (now (file .entry)) r (now (kinds .exit)) (now (slots .exit))) ⌝ }
     ensures { λ r. ⌜ (length (now (kinds .exit)) ≡ 256) × (length (now (slots .exit)) ≡ SLOTS) ⌝ }
 {
+    let mut stamps = [0u32; ROOM];
     let before = stand.before + stand.held;
     let mut state = stand.state;
     let mut at = stand.at;
@@ -84,17 +84,20 @@ pub fn judge_part(
         let line = line_at(file, at);
         let end = line.end;
         n += 1;
+        let here = Step {
+            line: n,
+            count: k,
+            state,
+        };
         let step = judge_line(
             places,
-            k,
+            here,
             book,
             &file[at..end],
-            n,
-            state,
             flags,
             kinds,
             slots,
-            stamps,
+            &mut stamps,
         );
         k = step.count;
         state = step.state;

@@ -13,11 +13,11 @@ ghost use mathlib.Core.Path.{_≡_};
 ghost use mathlib.Core.List.{[]};
 ghost use Prim.Native.Nat.{_+_, _≤_, _<_};
 ghost use lib.ListN.{length, getD};
-ghost use Rattle.book.specs.Book.{WANTS, noDemand, wantsOf, upFrom};
+ghost use Rattle.book.specs.Book.{noDemand, wantsOf, upFrom};
 ghost use Rattle.book.specs.Text.{bookIn, IsBook};
 ghost use Rattle.book_ids.specs.Ids.{Flags};
 ghost use Rattle.rules.specs.Rules.{asks};
-ghost use Rattle.scan.specs.Places.{lent, Puts};
+ghost use Rattle.scan.specs.Places.{CEILING, END-MOST, lent, Puts};
 ghost use Rattle.scan.specs.Machine.{isMarked, wantBreaks, endBreaks};
 ghost use Rattle.line_end.specs.Ends.{seen, Whole, idBreaks};
 
@@ -89,7 +89,7 @@ fn judge_ids(
     requires { ⌜ from + 64 ≤ length (now slots) ⌝ }
     requires { ⌜ Flags (now flags) ⌝ }
     requires { ⌜ d .cell < 65536 ⌝ }
-    requires { ⌜ count ≤ 4294967000 ⌝ }
+    requires { ⌜ count + 64 ≤ CEILING ⌝ }
     ensures { λ r. ⌜ Puts (idBreaks asked (now (slots .entry)) (getD (now (flags .entry)) (d .each) []) from (d .cell) «line_no» (upFrom 64 1)) 64 (lent (now (places .entry)) count) (lent (now (places .exit)) r) ⌝ }
 {
     let f = d.each;
@@ -120,7 +120,7 @@ fn judge_demand(
     requires { ⌜ IsBook (now book) ⌝ }
     requires { ⌜ k < length ((bookIn (now book)) .demands) ⌝ }
     requires { ⌜ Whole (now slots) (now flags) told ⌝ }
-    requires { ⌜ count ≤ 4294967000 ⌝ }
+    requires { ⌜ count + length (wantsOf (getD ((bookIn (now book)) .demands) k noDemand)) ≤ CEILING ⌝ }
     ensures { λ r. ⌜ Puts (wantBreaks (bookIn (now (book .entry))) (seen (now (slots .entry)) (now (flags .entry)) told) «line_no» (wantsOf (getD ((bookIn (now (book .entry))) .demands) k noDemand))) (length (wantsOf (getD ((bookIn (now (book .entry))) .demands) k noDemand))) (lent (now (places .entry)) count) (lent (now (places .exit)) r) ⌝ }
 {
     let d = nth_demand(book, k);
@@ -152,8 +152,8 @@ pub fn judge_end(
 ) -> u32
     requires { ⌜ IsBook (now book) ⌝ }
     requires { ⌜ Whole (now slots) (now flags) told ⌝ }
-    requires { ⌜ count ≤ 4294966000 ⌝ }
-    ensures { λ r. ⌜ Puts (endBreaks (bookIn (now (book .entry))) (seen (now (slots .entry)) (now (flags .entry)) told) «line_no») WANTS (lent (now (places .entry)) count) (lent (now (places .exit)) r) ⌝ }
+    requires { ⌜ count + END-MOST ≤ CEILING ⌝ }
+    ensures { λ r. ⌜ Puts (endBreaks (bookIn (now (book .entry))) (seen (now (slots .entry)) (now (flags .entry)) told) «line_no») END-MOST (lent (now (places .entry)) count) (lent (now (places .exit)) r) ⌝ }
 {
     let n = count_demands(book);
     let mut k = 0;

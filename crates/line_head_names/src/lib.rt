@@ -4,6 +4,7 @@ use book::is_opt;
 use book_kinds::family_number;
 use book_names::Found;
 use line_head_stamps::came_before;
+use scan::places::Tag;
 use scan::places::both;
 use scan::places::either;
 use scan::places::put_if;
@@ -15,13 +16,28 @@ ghost use Rattle.text.specs.Lines.{LIMIT, cells};
 ghost use Rattle.book.specs.Text.{bookIn, IsBook};
 ghost use Rattle.book_names.specs.Names.{isKnown};
 ghost use Rattle.book.specs.Book.{columnOf};
-ghost use Rattle.scan.specs.Places.{lent, Puts};
+ghost use Rattle.scan.specs.Places.{CEILING, NAME-MOST, NAMES-MOST, lent, Puts};
 ghost use Rattle.rules.specs.Rules.{lastIndex, kindIn};
 ghost use Rattle.scan.specs.Machine.{idsOf, columnIn, eachCell, nameCell, headCell, KindsOf, Within, knownBreaks};
 ghost use Rattle.line_head_stamps.specs.Stamps.{ROOM as room};
 
 // The letter of a column that names no id.
 const NO_FAMILY: u8 = b'-';
+
+// The names of a header: its line, its section, and where the first of them begins.
+pub struct Names {
+    pub tag: Tag,
+    pub section: u32,
+    pub from: usize,
+}
+
+// A name among them: its cell, and whether it, and any `opt_` name, came before.
+struct Naming {
+    tag: Tag,
+    cell: u32,
+    again: bool,
+    opt: bool,
+}
 
 // Whether the book has the name (12).
 fn is_known(found: Found) -> bool
@@ -89,130 +105,105 @@ fn undeclared(flags: &[[bool; 64]; 4], found: Found) -> bool
     }
 }
 
-// The name in cell c: it is unknown (12), or came before (13).
-fn name_known(
-    places: &mut [u32],
-    count: u32,
-    c: u32,
-    line_no: u32,
-    control: u32,
-    found: Found,
-    again: bool,
-) -> u32
-    requires { ⌜ count ≤ 4294967000 ⌝ }
-    ensures { λ r. ⌜ Puts (knownBreaks again found control «line_no» c) 3 (lent (now (places .entry)) count) (lent (now (places .exit)) r) ⌝ }
+// A name: it is unknown (12), or came before (13).
+fn name_known(places: &mut [u32], count: u32, found: Found, at: Naming) -> u32
+    requires { ⌜ count + 3 ≤ CEILING ⌝ }
+    ensures { λ r. ⌜ Puts (knownBreaks (at .again) found (at .tag .control) (at .tag .line) (at .cell)) 3 (lent (now (places .entry)) count) (lent (now (places .exit)) r) ⌝ }
 {
     let known = is_known(found);
-    let k1 = put_if(places, count, control == c, 1, line_no, c);
-    let k2 = put_if(places, k1, !known, 12, line_no, c);
-    put_if(places, k2, again, 13, line_no, c)
+    let c = at.cell;
+    let k1 = put_if(places, count, at.tag.control == c, 1, at.tag.line, c);
+    let k2 = put_if(places, k1, !known, 12, at.tag.line, c);
+    put_if(places, k2, at.again, 13, at.tag.line, c)
 }
 
-// The same, or it is no `opt_` name after one (14), or names an undeclared id (15). `again` and `opt` say whether it, and any `opt_` name, came before.
+// The same, or it is no `opt_` name after one (14), or names an undeclared id (15).
 fn name_cell(
     places: &mut [u32],
     count: u32,
     name: &[u8],
-    c: u32,
-    line_no: u32,
-    control: u32,
     found: Found,
-    again: bool,
-    opt: bool,
+    at: Naming,
     flags: &[[bool; 64]; 4],
 ) -> u32
-    requires { ⌜ count ≤ 4294966000 ⌝ }
+    requires { ⌜ count + NAME-MOST ≤ CEILING ⌝ }
     requires { ⌜ Within found ⌝ }
-    ensures { λ r. ⌜ Puts (nameCell again opt (idsOf (now (flags .entry))) found control «line_no» c (now (name .entry))) 5 (lent (now (places .entry)) count) (lent (now (places .exit)) r) ⌝ }
+    ensures { λ r. ⌜ Puts (nameCell (at .again) (at .opt) (idsOf (now (flags .entry))) found (at .tag .control) (at .tag .line) (at .cell) (now (name .entry))) NAME-MOST (lent (now (places .entry)) count) (lent (now (places .exit)) r) ⌝ }
 {
-    let late = both(!is_opt(name), opt);
+    let late = both(!is_opt(name), at.opt);
     let named = undeclared(flags, found);
-    let k1 = name_known(places, count, c, line_no, control, found, again);
-    let k2 = put_if(places, k1, late, 14, line_no, c);
-    put_if(places, k2, named, 15, line_no, c)
+    let k1 = name_known(places, count, found, at);
+    let k2 = put_if(places, k1, late, 14, at.tag.line, at.cell);
+    put_if(places, k2, named, 15, at.tag.line, at.cell)
 }
 
-// The name in cell c, looked up once: its breaks are put, and its kind is kept at place c - 1.
+// A name of the section, looked up once: its breaks are put, and its kind is kept at the place before its cell's number.
 fn head_cell(
     places: &mut [u32],
     count: u32,
     book: &[u8],
     name: &[u8],
-    c: u32,
     section: u32,
-    line_no: u32,
-    control: u32,
-    again: bool,
-    opt: bool,
+    at: Naming,
     flags: &[[bool; 64]; 4],
     kinds: &mut [u8; 256],
 ) -> u32
-    requires { ⌜ count ≤ 4294966000 ⌝ }
+    requires { ⌜ count + NAME-MOST ≤ CEILING ⌝ }
     requires { ⌜ IsBook (now book) ⌝ }
-    requires { ⌜ (0 < c) × (c ≤ 256) ⌝ }
+    requires { ⌜ (0 < at .cell) × (at .cell ≤ 256) ⌝ }
     requires { ⌜ length (now kinds) ≡ 256 ⌝ }
-    ensures { λ r. ⌜ Puts (nameCell again opt (idsOf (now (flags .entry))) (columnOf (bookIn (now (book .entry))) section (now (name .entry))) control «line_no» c (now (name .entry))) 5 (lent (now (places .entry)) count) (lent (now (places .exit)) r) ⌝ }
-    ensures { λ r. ⌜ now (kinds .exit) ≡ set (now (kinds .entry)) (c - 1) (kindIn (columnOf (bookIn (now (book .entry))) section (now (name .entry)))) ⌝ }
+    ensures { λ r. ⌜ Puts (nameCell (at .again) (at .opt) (idsOf (now (flags .entry))) (columnOf (bookIn (now (book .entry))) section (now (name .entry))) (at .tag .control) (at .tag .line) (at .cell) (now (name .entry))) NAME-MOST (lent (now (places .entry)) count) (lent (now (places .exit)) r) ⌝ }
+    ensures { λ r. ⌜ now (kinds .exit) ≡ set (now (kinds .entry)) (at .cell - 1) (kindIn (columnOf (bookIn (now (book .entry))) section (now (name .entry)))) ⌝ }
 {
     let found = column(book, section as usize, name);
+    let c = at.cell;
     kinds[(c - 1) as usize] = kind_in(found);
-    name_cell(
-        places,
-        count,
-        name,
-        c,
-        line_no,
-        control,
-        found,
-        again,
-        opt,
-        flags,
-    )
+    name_cell(places, count, name, found, at, flags)
 }
 
-// The column names from cell 2 on, which begins at `from`: their breaks are put, and their kinds kept for the rows.
+// The column names, from cell 2 on: their breaks are put, and their kinds kept for the rows, cell c's at place c - 1.
 pub fn head_cells(
     places: &mut [u32],
     count: u32,
     book: &[u8],
     line: &[u8],
-    from: usize,
-    section: u32,
-    line_no: u32,
-    control: u32,
+    names: Names,
     flags: &[[bool; 64]; 4],
     kinds: &mut [u8; 256],
     stamps: &mut [u32],
 ) -> u32
-    requires { ⌜ count ≤ 4000000000 ⌝ }
+    requires { ⌜ count + NAMES-MOST ≤ CEILING ⌝ }
     requires { ⌜ IsBook (now book) ⌝ }
-    requires { ⌜ (from ≤ length (now line)) × (length (now line) ≤ LIMIT) ⌝ }
-    requires { ⌜ length (cells (drop from (now line))) ≤ 255 ⌝ }
+    requires { ⌜ (names .from ≤ length (now line)) × (length (now line) ≤ LIMIT) ⌝ }
+    requires { ⌜ length (cells (drop (names .from) (now line))) ≤ 255 ⌝ }
     requires { ⌜ length (now kinds) ≡ 256 ⌝ }
     requires { ⌜ length (now stamps) ≡ room ⌝ }
-    ensures { λ r. ⌜ Puts (eachCell (headCell (bookIn (now (book .entry))) section (cells (drop from (now (line .entry)))) (idsOf (now (flags .entry))) control «line_no») 2 (cells (drop from (now (line .entry))))) 1275 (lent (now (places .entry)) count) (lent (now (places .exit)) r) ⌝ }
-    ensures { λ r. ⌜ KindsOf (bookIn (now (book .entry))) section (cells (drop from (now (line .entry)))) (now (kinds .exit)) ⌝ }
+    ensures { λ r. ⌜ Puts (eachCell (headCell (bookIn (now (book .entry))) (names .section) (cells (drop (names .from) (now (line .entry)))) (idsOf (now (flags .entry))) (names .tag .control) (names .tag .line)) 2 (cells (drop (names .from) (now (line .entry))))) NAMES-MOST (lent (now (places .entry)) count) (lent (now (places .exit)) r) ⌝ }
+    ensures { λ r. ⌜ KindsOf (bookIn (now (book .entry))) (names .section) (cells (drop (names .from) (now (line .entry)))) (now (kinds .exit)) ⌝ }
     ensures { λ r. ⌜ length (now (kinds .exit)) ≡ 256 ⌝ }
     ensures { λ r. ⌜ length (now (stamps .exit)) ≡ room ⌝ }
 {
-    let mut at = from;
+    let tag = names.tag;
+    let mut at = names.from;
     let mut c: u32 = 2;
     let mut k = count;
     let mut opt = false;
     loop {
         let e = cell_end(line, at);
-        let again = came_before(stamps, line_no, line, (c - 2) as usize, at, e);
+        let again = came_before(stamps, tag.line, line, (c - 2) as usize, at, e);
+        let naming = Naming {
+            tag,
+            cell: c,
+            again,
+            opt,
+        };
         k = head_cell(
             places,
             k,
             book,
             &line[at..e],
-            c,
-            section,
-            line_no,
-            control,
-            again,
-            opt,
+            names.section,
+            naming,
             flags,
             kinds,
         );

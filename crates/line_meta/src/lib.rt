@@ -2,20 +2,21 @@
 use book::key;
 use line_meta_keys::judge_key;
 use line_meta_keys::mark;
+use scan::places::Tag;
 use scan::places::put_if;
 use text::cells::cell_end;
 use text::cells::count_cells;
 ghost use mathlib.Core.Path.{_≡_};
 ghost use mathlib.Core.Bool.{true, not};
 ghost use mathlib.Core.List.{[]};
-ghost use Prim.Native.Nat.{_≤_};
+ghost use Prim.Native.Nat.{_+_, _≤_};
 ghost use lib.ListN.{length, getD, drop};
 ghost use Rattle.text.specs.Lines.{cells, isMeta};
 ghost use Rattle.book.specs.Book.{SLOTS, keyOf};
 ghost use Rattle.book_ids.specs.Ids.{Flags};
 ghost use Rattle.book.specs.Text.{bookIn, IsBook};
 ghost use Rattle.rules.specs.Breaks.{breakAt, when};
-ghost use Rattle.scan.specs.Places.{lent, Puts};
+ghost use Rattle.scan.specs.Places.{CEILING, LINE-MOST, lent, Puts};
 ghost use Rattle.scan.specs.Machine.{controlAt, eachCell, metaCell, metaBreaks, idsOf};
 ghost use Rattle.line_meta_keys.specs.Keys.{marked};
 ghost use Rattle.line_meta.specs.Metas.{Keeps};
@@ -24,37 +25,23 @@ ghost use Rattle.line_meta.specs.Metas.{Keeps};
 const CELLS: usize = 3;
 
 // The key, cell 2: unknown (5), or it came before (6).
-fn put_key(
-    places: &mut [u32],
-    count: u32,
-    line_no: u32,
-    control: u32,
-    known: bool,
-    again: bool,
-) -> u32
-    requires { ⌜ count ≤ 4294967000 ⌝ }
-    ensures { λ r. ⌜ Puts (λ rest. controlAt control «line_no» 2 (when (not known) (breakAt «line_no» 2 5) (when again (breakAt «line_no» 2 6) rest))) 3 (lent (now (places .entry)) count) (lent (now (places .exit)) r) ⌝ }
+fn put_key(places: &mut [u32], count: u32, tag: Tag, known: bool, again: bool) -> u32
+    requires { ⌜ count + 3 ≤ CEILING ⌝ }
+    ensures { λ r. ⌜ Puts (λ rest. controlAt (tag .control) (tag .line) 2 (when (not known) (breakAt (tag .line) 2 5) (when again (breakAt (tag .line) 2 6) rest))) 3 (lent (now (places .entry)) count) (lent (now (places .exit)) r) ⌝ }
 {
-    let k1 = put_if(places, count, control == 2, 1, line_no, 2);
-    let k2 = put_if(places, k1, !known, 5, line_no, 2);
-    put_if(places, k2, again, 6, line_no, 2)
+    let k1 = put_if(places, count, tag.control == 2, 1, tag.line, 2);
+    let k2 = put_if(places, k1, !known, 5, tag.line, 2);
+    put_if(places, k2, again, 6, tag.line, 2)
 }
 
 // The value, cell 3: not of its kind (7), or it names an undeclared id (8).
-fn put_value(
-    places: &mut [u32],
-    count: u32,
-    line_no: u32,
-    control: u32,
-    wrong: bool,
-    undeclared: bool,
-) -> u32
-    requires { ⌜ count ≤ 4294967000 ⌝ }
-    ensures { λ r. ⌜ Puts (λ rest. controlAt control «line_no» 3 (when wrong (breakAt «line_no» 3 7) (when undeclared (breakAt «line_no» 3 8) rest))) 3 (lent (now (places .entry)) count) (lent (now (places .exit)) r) ⌝ }
+fn put_value(places: &mut [u32], count: u32, tag: Tag, wrong: bool, undeclared: bool) -> u32
+    requires { ⌜ count + 3 ≤ CEILING ⌝ }
+    ensures { λ r. ⌜ Puts (λ rest. controlAt (tag .control) (tag .line) 3 (when wrong (breakAt (tag .line) 3 7) (when undeclared (breakAt (tag .line) 3 8) rest))) 3 (lent (now (places .entry)) count) (lent (now (places .exit)) r) ⌝ }
 {
-    let k1 = put_if(places, count, control == 3, 1, line_no, 3);
-    let k2 = put_if(places, k1, wrong, 7, line_no, 3);
-    put_if(places, k2, undeclared, 8, line_no, 3)
+    let k1 = put_if(places, count, tag.control == 3, 1, tag.line, 3);
+    let k2 = put_if(places, k1, wrong, 7, tag.line, 3);
+    put_if(places, k2, undeclared, 8, tag.line, 3)
 }
 
 // The key and the value of a metadata line of three cells.
@@ -63,8 +50,7 @@ fn judge_three(
     count: u32,
     book: &[u8],
     line: &[u8],
-    line_no: u32,
-    control: u32,
+    tag: Tag,
     flags: &[[bool; 64]; 4],
     slots: &mut [bool],
 ) -> u32
@@ -72,8 +58,8 @@ fn judge_three(
     requires { ⌜ Flags (now flags) ⌝ }
     requires { ⌜ length (now slots) ≡ SLOTS ⌝ }
     requires { ⌜ length (cells (now line)) ≡ 3 ⌝ }
-    requires { ⌜ count ≤ 4000000000 ⌝ }
-    ensures { λ r. ⌜ Puts (eachCell (metaCell (bookIn (now (book .entry))) (now (slots .entry)) (idsOf (now (flags .entry))) (getD (cells (now (line .entry))) 1 []) (getD (cells (now (line .entry))) 2 []) control «line_no») 2 (drop 1 (cells (now (line .entry))))) 6 (lent (now (places .entry)) count) (lent (now (places .exit)) r) ⌝ }
+    requires { ⌜ count + 6 ≤ CEILING ⌝ }
+    ensures { λ r. ⌜ Puts (eachCell (metaCell (bookIn (now (book .entry))) (now (slots .entry)) (idsOf (now (flags .entry))) (getD (cells (now (line .entry))) 1 []) (getD (cells (now (line .entry))) 2 []) (tag .control) (tag .line)) 2 (drop 1 (cells (now (line .entry))))) 6 (lent (now (places .entry)) count) (lent (now (places .exit)) r) ⌝ }
     ensures { λ r. ⌜ now (slots .exit) ≡ marked (bookIn (now (book .entry))) (now (slots .entry)) (keyOf (bookIn (now (book .entry))) (getD (cells (now (line .entry))) 1 [])) ⌝ }
 {
     let e = cell_end(line, 0);
@@ -83,27 +69,18 @@ fn judge_three(
     let found = key(book, &line[a..f]);
     let judged = judge_key(book, found, &line[a..f], &line[b..], flags, slots);
     mark(slots, book, found);
-    let k1 = put_key(places, count, line_no, control, judged.known, judged.again);
-    put_value(
-        places,
-        k1,
-        line_no,
-        control,
-        judged.wrong,
-        judged.undeclared,
-    )
+    let k1 = put_key(places, count, tag, judged.known, judged.again);
+    put_value(places, k1, tag, judged.wrong, judged.undeclared)
 }
 
-// The breaks of a metadata line, put after the first `count`; the answer is how many there are then. `control` is the cell of the first control byte, 0 for
-// none; `table` says whether a header or row stands above; `flags` are the ids that the file declares; `slots` are those of the keys that came before, and of
-// the line's own afterwards.
+// The breaks of a metadata line, put after the first `count`; the answer is how many there are then. `table` says whether a header or row stands above;
+// `flags` are the ids that the file declares; `slots` are those of the keys that came before, and of the line's own afterwards.
 pub fn judge_meta(
     places: &mut [u32],
     count: u32,
     book: &[u8],
     line: &[u8],
-    line_no: u32,
-    control: u32,
+    tag: Tag,
     table: bool,
     flags: &[[bool; 64]; 4],
     slots: &mut [bool],
@@ -112,16 +89,16 @@ pub fn judge_meta(
     requires { ⌜ Flags (now flags) ⌝ }
     requires { ⌜ length (now slots) ≡ SLOTS ⌝ }
     requires { ⌜ isMeta (now line) ≡ true ⌝ }
-    requires { ⌜ count ≤ 3999998000 ⌝ }
-    ensures { λ r. ⌜ Puts (metaBreaks (bookIn (now (book .entry))) table (now (slots .entry)) (idsOf (now (flags .entry))) control «line_no» (cells (now (line .entry)))) 1300 (lent (now (places .entry)) count) (lent (now (places .exit)) r) ⌝ }
+    requires { ⌜ count + LINE-MOST ≤ CEILING ⌝ }
+    ensures { λ r. ⌜ Puts (metaBreaks (bookIn (now (book .entry))) table (now (slots .entry)) (idsOf (now (flags .entry))) (tag .control) (tag .line) (cells (now (line .entry)))) LINE-MOST (lent (now (places .entry)) count) (lent (now (places .exit)) r) ⌝ }
     ensures { λ r. ⌜ Keeps (bookIn (now (book .entry))) (now (line .entry)) (now (slots .entry)) (now (slots .exit)) ⌝ }
 {
     let n = count_cells(line);
-    let k1 = put_if(places, count, control == 1, 1, line_no, 1);
-    let k2 = put_if(places, k1, n != CELLS, 3, line_no, 1);
-    let k3 = put_if(places, k2, table, 4, line_no, 1);
+    let k1 = put_if(places, count, tag.control == 1, 1, tag.line, 1);
+    let k2 = put_if(places, k1, n != CELLS, 3, tag.line, 1);
+    let k3 = put_if(places, k2, table, 4, tag.line, 1);
     if n == CELLS {
-        return judge_three(places, k3, book, line, line_no, control, flags, slots);
+        return judge_three(places, k3, book, line, tag, flags, slots);
     }
-    put_if(places, k3, 1 < control, 1, line_no, control)
+    put_if(places, k3, 1 < tag.control, 1, tag.line, tag.control)
 }

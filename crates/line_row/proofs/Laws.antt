@@ -11,7 +11,7 @@ use Rattle.text_bytes.specs.Bytes.{Bytes, isEmpty}
 use Rattle.text_bytes.proofs.Laws.Tests.{and-left, and-right}
 use Rattle.book_kinds.specs.Kinds.{cellOfKind}
 use Rattle.rules.specs.Breaks.{breakAt, when}
-use Rattle.scan.specs.Places.{Lent, Puts}
+use Rattle.scan.specs.Places.{CELLS-MOST, LINE-MOST, Lent, Puts}
 use Rattle.scan.specs.Machine.{eachCell, plainRest, kindCell, rowCell, rowBreaks, rowFirst}
 use Rattle.scan.proofs.Laws.Putting.{puts2}
 
@@ -35,11 +35,11 @@ row-narrow t w v h =
 -- cell 1, and the cells after it
 module _ (h w : ℕ) (kinds : List ℕ) (section first n : ℕ) (xs : List Bytes) {o o₁ o₂ : Lent}
     (p : Puts (rowFirst (eqb h section) ((eqb h section && leb w 256) && not (eqb (length xs) w)) first n) 3 o o₁) where
-  pub row-under : {m : ℕ} → not ((eqb h section && leb w 256) && eqb (length xs) w) ≡ false → Puts (eachCell (rowCell kinds first n) 2 (drop 1 xs)) m o₁ o₂ → m ≤ 765
-      → Puts (rowBreaks h w kinds section first n xs) 1300 o o₂
+  pub row-under : {m : ℕ} → not ((eqb h section && leb w 256) && eqb (length xs) w) ≡ false → Puts (eachCell (rowCell kinds first n) 2 (drop 1 xs)) m o₁ o₂ → m ≤ CELLS-MOST
+      → Puts (rowBreaks h w kinds section first n xs) LINE-MOST o o₂
   unfolding rowBreaks
   row-under t q l = record { does = λ rest. rw (not-false ((eqb h section && leb w 256) && eqb (length xs) w) t) (puts2 p q .does rest); most = omega arith }
 
-  pub row-other : not ((eqb h section && leb w 256) && eqb (length xs) w) ≡ true → Puts (plainRest first n) 1 o₁ o₂ → Puts (rowBreaks h w kinds section first n xs) 1300 o o₂
+  pub row-other : not ((eqb h section && leb w 256) && eqb (length xs) w) ≡ true → Puts (plainRest first n) 1 o₁ o₂ → Puts (rowBreaks h w kinds section first n xs) LINE-MOST o o₂
   unfolding rowBreaks
   row-other t q = record { does = λ rest. rw (not-true ((eqb h section && leb w 256) && eqb (length xs) w) t) (puts2 p q .does rest); most = omega arith }

@@ -1,5 +1,6 @@
 // Judging a row: rules 1 and 17 to 20, put into the lent places.
 use book_kinds::cell_of_kind;
+use scan::places::Tag;
 use scan::places::both;
 use scan::places::either;
 use scan::places::put_if;
@@ -8,34 +9,26 @@ use text::cells::count_cells;
 ghost use Prim.Native.Nat.{_+_, _≤_};
 ghost use lib.ListN.{length, drop};
 ghost use Rattle.text.specs.Lines.{cells};
-ghost use Rattle.scan.specs.Places.{lent, Puts};
+ghost use Rattle.scan.specs.Places.{CEILING, CELLS-MOST, LINE-MOST, lent, Puts};
 ghost use Rattle.scan.specs.Machine.{eachCell, kindCell, rowCell, rowBreaks, rowFirst};
 
 // A header of more cells has no kinds for its columns.
 const MOST_CELLS: usize = 256;
 
 // Cell c of a row, whose column has the kind: it is empty (19), or not of the kind (20).
-fn row_cell(
-    places: &mut [u32],
-    count: u32,
-    cell: &[u8],
-    c: u32,
-    line_no: u32,
-    control: u32,
-    kind: u8,
-) -> u32
-    requires { ⌜ count ≤ 4294967000 ⌝ }
-    ensures { λ r. ⌜ Puts (kindCell kind control «line_no» c (now (cell .entry))) 3 (lent (now (places .entry)) count) (lent (now (places .exit)) r) ⌝ }
+fn row_cell(places: &mut [u32], count: u32, cell: &[u8], c: u32, tag: Tag, kind: u8) -> u32
+    requires { ⌜ count + 3 ≤ CEILING ⌝ }
+    ensures { λ r. ⌜ Puts (kindCell kind (tag .control) (tag .line) c (now (cell .entry))) 3 (lent (now (places .entry)) count) (lent (now (places .exit)) r) ⌝ }
 {
     let good = cell_of_kind(kind, cell);
     let empty = cell.len() == 0;
-    let hit = control == c;
+    let hit = tag.control == c;
     if !either(hit, either(empty, !good)) {
         return count;
     }
-    let k1 = put_if(places, count, hit, 1, line_no, c);
-    let k2 = put_if(places, k1, empty, 19, line_no, c);
-    put_if(places, k2, both(!empty, !good), 20, line_no, c)
+    let k1 = put_if(places, count, hit, 1, tag.line, c);
+    let k2 = put_if(places, k1, empty, 19, tag.line, c);
+    put_if(places, k2, both(!empty, !good), 20, tag.line, c)
 }
 
 // The cells of a row from cell 2 on, which begins at `from`.
@@ -44,14 +37,13 @@ fn row_cells(
     count: u32,
     line: &[u8],
     from: usize,
-    line_no: u32,
-    control: u32,
+    tag: Tag,
     kinds: &[u8; 256],
 ) -> u32
     requires { ⌜ from ≤ length (now line) ⌝ }
     requires { ⌜ length (cells (drop from (now line))) ≤ 255 ⌝ }
-    requires { ⌜ count ≤ 4000000000 ⌝ }
-    ensures { λ r. ⌜ Puts (eachCell (rowCell (now (kinds .entry)) control «line_no») 2 (cells (drop from (now (line .entry))))) 765 (lent (now (places .entry)) count) (lent (now (places .exit)) r) ⌝ }
+    requires { ⌜ count + CELLS-MOST ≤ CEILING ⌝ }
+    ensures { λ r. ⌜ Puts (eachCell (rowCell (now (kinds .entry)) (tag .control) (tag .line)) 2 (cells (drop from (now (line .entry))))) CELLS-MOST (lent (now (places .entry)) count) (lent (now (places .exit)) r) ⌝ }
 {
     let mut at = from;
     let mut c: u32 = 2;
@@ -59,7 +51,7 @@ fn row_cells(
     loop {
         let e = cell_end(line, at);
         let kind = kinds[(c - 1) as usize];
-        k = row_cell(places, k, &line[at..e], c, line_no, control, kind);
+        k = row_cell(places, k, &line[at..e], c, tag, kind);
         if e == line.len() {
             return k;
         }
@@ -69,48 +61,40 @@ fn row_cells(
 }
 
 // Cell 1 of a row: it is not under a header of its section (17), or is and has another number of cells (18).
-fn row_code(
-    places: &mut [u32],
-    count: u32,
-    line_no: u32,
-    control: u32,
-    headed: bool,
-    uneven: bool,
-) -> u32
-    requires { ⌜ count ≤ 4294967000 ⌝ }
-    ensures { λ r. ⌜ Puts (rowFirst headed uneven control «line_no») 3 (lent (now (places .entry)) count) (lent (now (places .exit)) r) ⌝ }
+fn row_code(places: &mut [u32], count: u32, tag: Tag, headed: bool, uneven: bool) -> u32
+    requires { ⌜ count + 3 ≤ CEILING ⌝ }
+    ensures { λ r. ⌜ Puts (rowFirst headed uneven (tag .control) (tag .line)) 3 (lent (now (places .entry)) count) (lent (now (places .exit)) r) ⌝ }
 {
-    let k1 = put_if(places, count, control == 1, 1, line_no, 1);
-    let k2 = put_if(places, k1, !headed, 17, line_no, 1);
-    put_if(places, k2, uneven, 18, line_no, 1)
+    let k1 = put_if(places, count, tag.control == 1, 1, tag.line, 1);
+    let k2 = put_if(places, k1, !headed, 17, tag.line, 1);
+    put_if(places, k2, uneven, 18, tag.line, 1)
 }
 
 // The breaks of a row of the section, put after the first `count`; the answer is how many there are then. The nearest header above is of the section
-// `header`, 0 for none, and has `width` cells of these kinds. `control` is the cell of the first control byte, 0 for none.
+// `header`, 0 for none, and has `width` cells of these kinds.
 pub fn judge_row(
     places: &mut [u32],
     count: u32,
     line: &[u8],
     section: u32,
-    line_no: u32,
-    control: u32,
+    tag: Tag,
     header: u32,
     width: usize,
     kinds: &[u8; 256],
 ) -> u32
-    requires { ⌜ count ≤ 3999998000 ⌝ }
-    ensures { λ r. ⌜ Puts (rowBreaks header width (now (kinds .entry)) section control «line_no» (cells (now (line .entry)))) 1300 (lent (now (places .entry)) count) (lent (now (places .exit)) r) ⌝ }
+    requires { ⌜ count + LINE-MOST ≤ CEILING ⌝ }
+    ensures { λ r. ⌜ Puts (rowBreaks header width (now (kinds .entry)) section (tag .control) (tag .line) (cells (now (line .entry)))) LINE-MOST (lent (now (places .entry)) count) (lent (now (places .exit)) r) ⌝ }
 {
     let headed = header == section;
     let under = both(headed, width <= MOST_CELLS);
     let even = count_cells(line) == width;
-    let k = row_code(places, count, line_no, control, headed, both(under, !even));
+    let k = row_code(places, count, tag, headed, both(under, !even));
     if !both(under, even) {
-        return put_if(places, k, 1 < control, 1, line_no, control);
+        return put_if(places, k, 1 < tag.control, 1, tag.line, tag.control);
     }
     let e = cell_end(line, 0);
     if e == line.len() {
         return k;
     }
-    row_cells(places, k, line, e + 1, line_no, control, kinds)
+    row_cells(places, k, line, e + 1, tag, kinds)
 }

@@ -26,7 +26,6 @@ pub fn judge_places(file: &[u8], places: &mut [u32], number: &mut u32) -> u32
     let flags = declared_ids(&rows, file);
     let mut kinds = [0u8; 256];
     let mut slots = [false; SLOTS];
-    let mut stamps = [0u32; line_head_stamps::ROOM];
     let whole = judge_part(
         places,
         ALL,
@@ -36,7 +35,6 @@ pub fn judge_places(file: &[u8], places: &mut [u32], number: &mut u32) -> u32
         &flags,
         &mut kinds,
         &mut slots,
-        &mut stamps,
     );
     whole.held
 }

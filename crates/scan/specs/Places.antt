@@ -5,6 +5,7 @@ use mathlib.Core.Bool.{cond}
 use mathlib.Core.List.{List, [], _∷_}
 use lib.ListN.{length, set}
 use lib.Dec.{leb}
+use Rattle.book.specs.Book.{WANTS}
 use Rattle.rules.specs.Breaks.{Break}
 
 -- the places, and how many breaks were put
@@ -26,6 +27,38 @@ put o b =
 unfoldable pub putAll : Lent → List Break → Lent
 putAll o [] = o
 putAll o (b ∷ bs) = putAll (put o b) bs
+
+-- HOW MANY AT MOST
+
+-- what a count may reach: whoever puts at most m breaks asks that the count and m stay below it
+abbrev pub CEILING : ℕ
+CEILING = 4294967295
+
+-- of a column name, and of a header's names, at most 255; with what is put of them at cell 1
+abbrev pub NAME-MOST : ℕ
+NAME-MOST = 5
+
+abbrev pub NAMES-MOST : ℕ
+NAMES-MOST = 1275
+
+abbrev pub HEADED-MOST : ℕ
+HEADED-MOST = 1276
+
+-- of a row's cells after the first, at most 255
+abbrev pub CELLS-MOST : ℕ
+CELLS-MOST = 765
+
+-- of a line: a header has the most, 1,280
+abbrev pub LINE-MOST : ℕ
+LINE-MOST = 1300
+
+-- at the end
+abbrev pub END-MOST : ℕ
+END-MOST = WANTS
+
+-- of a file: one of each of 20 rules at a cell, at most two cells a byte, and those at the end
+abbrev pub FILE-MOST : ℕ
+FILE-MOST = 671088645
 
 -- what every judging function does: it puts the breaks that f sets in front of what is put after it, and at most m of them
 pub record Puts (f : List Break → List Break) (m : ℕ) (o o' : Lent) : Type 0 where

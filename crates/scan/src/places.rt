@@ -1,9 +1,15 @@
 // The lent places that breaks are put into, three for each: rule, line, cell.
 ghost use mathlib.Core.Path.{_≡_};
 ghost use mathlib.Core.Bool.{_&&_, _||_};
-ghost use Prim.Native.Nat.{_<_};
+ghost use Prim.Native.Nat.{_+_, _≤_};
 ghost use Rattle.rules.specs.Breaks.{breakAt, when};
-ghost use Rattle.scan.specs.Places.{lent, Puts};
+ghost use Rattle.scan.specs.Places.{CEILING, lent, Puts};
+
+// What a judging function is told of a line beside its bytes: its number, and the cell of its first control byte, 0 for none.
+pub struct Tag {
+    pub line: u32,
+    pub control: u32,
+}
 
 // Tests are computed and not branched on, so that a judgement is a row of puts.
 pub fn both(a: bool, b: bool) -> bool
@@ -20,7 +26,7 @@ pub fn either(a: bool, b: bool) -> bool
 
 // One break more, where `yes` says so: counted in any case, and written where its three places are there.
 pub fn put_if(places: &mut [u32], count: u32, yes: bool, rule: u32, line: u32, cell: u32) -> u32
-    requires { ⌜ count < 4294967295 ⌝ }
+    requires { ⌜ count + 1 ≤ CEILING ⌝ }
     ensures { λ r. ⌜ Puts (when yes (breakAt line cell rule)) 1 (lent (now (places .entry)) count) (lent (now (places .exit)) r) ⌝ }
 {
     if !yes {

@@ -90,7 +90,7 @@ abbrev Slots : RattleType
 Slots = Array bool SLOTS
 
 abbrev Places : RattleType
-Places = Array u32 12288
+Places = Array u32 ROOM
 
 -- ---- the contracts that the proof cites
 module _ {M : Type 1} (𝓤 : URA M) (H : Heap 𝓤) (A : Atoms 𝓤) (mem′ : Memory → SProp 𝓤) (run : Routine → Fun 𝓤) where
@@ -315,7 +315,7 @@ module _ {M : Type 1} (𝓤 : URA M) (H : Heap 𝓤) (A : Atoms 𝓤) (W : Given
           -- [number's obs; its borrow; its token; what faults owns; its token; the token; what file owns; slots; places; _15; …]
           assigns ! (of-opd ! (load ! (from ! (fld ! refl (stop !))) (look-in ! 27 (sub ! 2 refl (whole !))))) (from ! (stop !)) (init ! 37 refl (tt, record { fits = count-fits })) $
           returns ! (look ! 37 refl) $
-          move ! (7 ∷ []) $ use1 W (‵ (froom (tyArray tyBool SLOTS) l₄ 0)) (array-room 𝓤 H A W bool SLOTS l₄ (z .slots)) $ move ! (8 ∷ []) $ use1 W (‵ (froom (tyArray (tyInt w32) 12288) l₅ 0)) (array-room 𝓤 H A W u32 12288 l₅ (z .places)) $
+          move ! (7 ∷ []) $ use1 W (‵ (froom (tyArray tyBool SLOTS) l₄ 0)) (array-room 𝓤 H A W bool SLOTS l₄ (z .slots)) $ move ! (8 ∷ []) $ use1 W (‵ (froom (tyArray (tyInt w32) ROOM) l₅ 0)) (array-room 𝓤 H A W u32 ROOM l₅ (z .places)) $
           -- [room for places; room for slots; number's obs; …; _15; …]
           forget ! 23 refl $ forget ! 25 refl $ forget ! 27 refl $ forget ! 31 refl $ forget ! 33 refl $ forget ! 35 refl $ forget ! 37 refl $
           move ! (37 ∷ 38 ∷ []) $ free1 ! $ move ! (35 ∷ 36 ∷ []) $ free1 ! $ move ! (33 ∷ 34 ∷ []) $ free1 ! $ move ! (31 ∷ 32 ∷ []) $ free1 ! $ move ! (1 ∷ 30 ∷ []) $ free1 ! $ move ! (0 ∷ 28 ∷ []) $ free1 ! $
@@ -374,7 +374,7 @@ module _ {M : Type 1} (𝓤 : URA M) (H : Heap 𝓤) (A : Atoms 𝓤) (W : Given
           rewrite ! 8 (λ (n : ℕ). ‵ (fat fullShare (sliceTy (tyRef erased mut (pointee (T.the-row .written)))) l₁₅ 0 (sliceVal (b, o) n))) (sym (z .long)) refl $
           -- the places are lent, and the list is lent again
           move ! (1 ∷ []) $ lft-new ! tt (λ α. move ! (1 ∷ []) $
-          use1 W (later (some (λ (ε : GName). ‵ (PlacesSlice l₅ α α ε ε (ws .1 .1 .1 .0) (z .cur) r) ⊛ ‵ (flent (α ∷ []) (arr-parts (shares u32) (length (ws .1 .1 .1 .0)) .part fullShare (ws .1 .1 .1 .0) l₅ 0))))) (lends-all 𝓤 H A W u32 12288 l₅ tt (named 0) (α ∷ []) (ws .1 .1 .1 .0) (place-room (ws .1 .1 .1 .0) len)) $ await ! tt $ pick ! (λ ε. split ! $
+          use1 W (later (some (λ (ε : GName). ‵ (PlacesSlice l₅ α α ε ε (ws .1 .1 .1 .0) (z .cur) r) ⊛ ‵ (flent (α ∷ []) (arr-parts (shares u32) (length (ws .1 .1 .1 .0)) .part fullShare (ws .1 .1 .1 .0) l₅ 0))))) (lends-all 𝓤 H A W u32 ROOM l₅ tt (named 0) (α ∷ []) (ws .1 .1 .1 .0) (place-room (ws .1 .1 .1 .0) len)) $ await ! tt $ pick ! (λ ε. split ! $
           lft-new ! tt (λ β. move ! (7 ∷ 8 ∷ []) $
           use2 W (later (some (λ (ζ : GName). ‵ (FaultsSlice l₅ α β ε ζ (ws .1 .1 .1 .0) (z .cur) r) ⊛ ‵ (LentAgain T.the-row κ′ (β ∷ []) q′ γ b o ζ (z .cur))))) (lends-again T.the-row κ′ (β ∷ []) q′ γ b o 𝓤 H A W (named 1) (named 1) (z .cur)) $ await ! tt $ pick ! (λ ζ. split ! $
           -- [the list; what is kept of it; its token; the places; their lender's part; their token; slots; the token; what file owns; number's token; number; _15; …]
@@ -391,7 +391,7 @@ module _ {M : Type 1} (𝓤 : URA M) (H : Heap 𝓤) (A : Atoms 𝓤) (W : Given
           use3 W (later (‵ (MutSlice (named 1) κ′ T.the-row .own (x γ (zs .1 .0)) (sliceVal (b, o) (length (z .cur)) ∷ [])) ⊛ ‵ (flft κ′ q′))) (comes-back T.the-row κ′ (β ∷ []) q′ γ b o 𝓤 H A W (named 1) (named 1) (z .cur) ζ (zs .1 .0) rooms l) $ await ! tt $ split ! $
           rewrite ! 0 (λ (n : ℕ). ‵ (MutSlice (named 1) κ′ T.the-row .own (x γ (zs .1 .0)) (sliceVal (b, o) n ∷ []))) (sym l) refl $
           move ! (2 ∷ []) $ drop ! $ move ! (3 ∷ []) $ drop ! $ move ! (2 ∷ []) $ lft-end ! tt $ move ! (0 ∷ 3 ∷ []) $
-          use2 W (later (‵ (partAt Places fullShare (ws .1 .1 .1 .0) l₅ 0))) (all-back 𝓤 H A W u32 12288 l₅ (α ∷ []) (ws .1 .1 .1 .0) len) $ await ! tt $
+          use2 W (later (‵ (partAt Places fullShare (ws .1 .1 .1 .0) l₅ 0))) (all-back 𝓤 H A W u32 ROOM l₅ (α ∷ []) (ws .1 .1 .1 .0) len) $ await ! tt $
           -- [places; what faults owns; its token; slots; the token; what file owns; number's token; number; _15; …]
           move ! (1 ∷ 2 ∷ 4 ∷ 5 ∷ 6 ∷ 7 ∷ 3 ∷ 0 ∷ []) $
           land-last ! (from ! (stop !)) (init ! 16 refl (subst (λ (k : Val). Holds (hasTy tyUnit k) × WT k) (sym (ap only e₀)) (tt, tt))) $
@@ -428,10 +428,10 @@ module _ {M : Type 1} (𝓤 : URA M) (H : Heap 𝓤) (A : Atoms 𝓤) (W : Given
         pass1 ! (init ! 28 refl (shr-slice-lawful 𝓤 H A W (named 0) κ u8 .typed p (v ∷ []) (F .is-p) .0)) $ pass1 ! (init ! 26 refl (tt, (tt, (record { fits = F .rooms .0 }, tt)))) $ pass1 ! (init ! 24 refl (tt, tt)) $ pass0 ! $
         -- [_15; …; room for _0; …; the tokens; what the parameters own]: the arrays are filled
         assigns ! (rep ! SLOTS (false-lit !)) (from ! (stop !)) (init-times ! 22 bool (bool-lawful 𝓤 H A W) SLOTS false (vbool false) refl refl) $
-        assigns ! (rep ! 12288 (lit ! tt)) (from ! (stop !)) (init-times ! 20 u32 (uint-lawful 𝓤 H A W w32) 12288 0 (vint w32 0) (refl, lit< tt) refl) $
+        assigns ! (rep ! ROOM (lit ! tt)) (from ! (stop !)) (init-times ! 20 u32 (uint-lawful 𝓤 H A W w32) ROOM 0 (vint w32 0) (refl, lit< tt) refl) $
         assigns ! (of-opd ! (load ! (from ! (fld ! refl (stop !))) (look-in ! 26 (sub ! 1 refl (whole !))))) (from ! (stop !)) (init ! 16 refl (tt, record { fits = F .rooms .0 })) $
         move ! (22 ∷ []) $ use1 W (‵ (partAt Slots fullShare (replicate SLOTS false) l₄ 0)) (times-in 𝓤 H A W bool SLOTS l₄ (bool-makes 𝓤 H A W) (bool-copy 𝓤 H A W) false (vbool false) refl) $
-        move ! (21 ∷ []) $ use1 W (‵ (partAt Places fullShare (replicate 12288 0) l₅ 0)) (times-in 𝓤 H A W u32 12288 l₅ (uint-makes 𝓤 H A W w32) (uint-copy 𝓤 H A W w32) 0 (vint w32 0) (refl, lit< tt)) $
+        move ! (21 ∷ []) $ use1 W (‵ (partAt Places fullShare (replicate ROOM 0) l₅ 0)) (times-in 𝓤 H A W u32 ROOM l₅ (uint-makes 𝓤 H A W w32) (uint-copy 𝓤 H A W w32) 0 (vint w32 0) (refl, lit< tt)) $
         -- [places; slots; _15; …; the tokens; what the parameters own]
         move ! (33 ∷ []) $ fsplit ! $ move ! (1 ∷ []) $ fsplit ! $ move ! (1 ∷ []) $ fsplit ! $ move ! (1 ∷ []) $ drop ! $
         -- [number; what faults owns; what file owns; places; slots; _15; …; the tokens]
@@ -450,11 +450,11 @@ module _ {M : Type 1} (𝓤 : URA M) (H : Heap 𝓤) (A : Atoms 𝓤) (W : Given
         by ! (looped l₀ l₁ l₂ l₃ l₄ l₅ l₆ l₇ l₈ l₉ l₁₀ l₁₁ l₁₂ l₁₃ l₁₄ l₁₅ (record {
           st = r;
           slots = replicate SLOTS false;
-          places = replicate 12288 0;
+          places = replicate ROOM 0;
           cur = ys;
           is = subst (Is S.the-row r) (S′.lowers .val-is r _ is) is;
           good = g;
-          room-is = length-replicate {A = ℕ} 12288 0;
+          room-is = length-replicate {A = ℕ} ROOM 0;
           cap-is = h .0;
           long = refl;
           ahead = ahead-first (p .now) r ys (h .1);

@@ -10,7 +10,7 @@ use Rattle.text_bytes.specs.Bytes.{Bytes}
 use Rattle.text.specs.Lines.{LIMIT, lines}
 use Rattle.rules.specs.Breaks.{Break}
 use Rattle.rules.specs.Rules.{breaksBy}
-use Rattle.scan.specs.Places.{Lent, lent, putAll, Puts}
+use Rattle.scan.specs.Places.{FILE-MOST, Lent, lent, putAll, Puts}
 use Rattle.scan.proofs.Laws.Putting.{put-append, put-count}
 use Rattle.scan.proofs.Laws.Following.{stands-start}
 use Rattle.scan.proofs.Laws.Scanning.{scan-start, breaks-left, breaks-bound}
@@ -67,7 +67,7 @@ pub midway-start : (b : Book) {s : Stand} {file : Bytes} {kinds : List ℕ} {slo
 midway-start b {file = file} {kinds = kinds} {slots = slots} e h = rw e (record { scan = scan-start b file (stands-start b kinds slots h); most = omega arith; left = breaks-left b file })
 
 -- a part with room for more breaks than a file can have is the whole
-pub part-whole : {b : Book} → Sized b → {file : Bytes} {room : ℕ} {s r : Stand} {ys ys' : List ℕ} → s ≡ beginning → Parts b file room s r ys ys' → length file ≤ LIMIT → 671088645 < room
+pub part-whole : {b : Book} → Sized b → {file : Bytes} {room : ℕ} {s r : Stand} {ys ys' : List ℕ} → s ≡ beginning → Parts b file room s r ys ys' → length file ≤ LIMIT → FILE-MOST < room
     → lent ys' (r .held) ≡ putAll (lent ys 0) (breaksBy b (lines file))
 part-whole {b} sized {file} {s = s} {r = r} {ys = ys} e p limit far =
     let bs = breaksBy b (lines file) in

@@ -9,7 +9,7 @@ use borrow.Author.Tests.{lt-ltb}
 use Rattle.text_bytes.specs.Bytes.{Bytes}
 use Rattle.text.specs.Lines.{cells, width, isField}
 use Rattle.rules.specs.Sorts.{sortOf, headerIn, controlCell}
-use Rattle.scan.specs.Places.{Lent, Puts}
+use Rattle.scan.specs.Places.{LINE-MOST, Lent, Puts}
 use Rattle.rules.specs.Rules.{names}
 use Rattle.scan.specs.Machine.{Ids, hasSlot, KindsOf}
 use Rattle.scan.specs.Carried.{sortState, sortBreaks, lineBreaks, Follows}
@@ -21,7 +21,7 @@ use Rattle.book.specs.Book.{SLOTS, Book}
 use Rattle.book.proofs.Laws.Sized.{Sized}
 
 module _ (book : Book) (ids : Ids) (s : State) (kinds : List ℕ) (slots : List Bool) (n : ℕ) (l : Bytes) (σ : Sort) (e : sortOf book l ≡ σ) where
-  pub line-puts : {m : ℕ} {o o' : Lent} → Puts (sortBreaks book σ ids s kinds slots (controlCell l) n (cells l)) m o o' → m ≤ 1300 → Puts (lineBreaks book ids s kinds slots n l) 1300 o o'
+  pub line-puts : {m : ℕ} {o o' : Lent} → Puts (sortBreaks book σ ids s kinds slots (controlCell l) n (cells l)) m o o' → m ≤ LINE-MOST → Puts (lineBreaks book ids s kinds slots n l) LINE-MOST o o'
   line-puts h k = record { does = λ rest. rw e (h .does rest); most = omega (arith, h .most) }
 
 -- a line that is no metadata line has no slot

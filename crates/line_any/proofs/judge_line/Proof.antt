@@ -29,26 +29,26 @@ of-sort w e = sym (w .before .sort-of .ensures) ∙ e
 
 returns : tie.Need-returns
 returns c =
-    let w = c .before .before in
+    let w = c .before .before .before in
     let a = start w .args in
     let pre = start w .pre in
     let e = of-sort w (c .enum-told .given .1) in
-    (line-puts (book w) (idsOf (a .flags .now)) (a .state) (a .kinds .now) (a .slots .now) (a .line-no) (a .line .now) Silent e (puts-none _) (omega arith), (follows-kept e (pre .1 .1 .1 .1 .0) (pre .1 .1 .1 .1 .1 .0) refl refl, pre .1 .1 .1 .1 .1 .1))
+    (line-puts (book w) (idsOf (a .flags .now)) (a .step .state) (a .kinds .now) (a .slots .now) (a .step .line) (a .line .now) Silent e (puts-none _) (omega arith), (follows-kept e (pre .1 .1 .1 .1 .0) (pre .1 .1 .1 .1 .1 .0) refl refl, pre .1 .1 .1 .1 .1 .1))
 
 returns-2 : tie.Need-returns-2
 returns-2 c =
     let at-judge = c .before .before in
     let told = at-judge .before .before in
-    let w = told .before .before in
+    let w = told .before .before .before in
     let a = start w .args in
     let pre = start w .pre in
     let e = of-sort w (told .enum-told2 .given .1) in
-    (line-puts (book w) (idsOf (a .flags .now)) (a .state) (a .kinds .now) (a .slots .now) (a .line-no) (a .line .now) Unknown e (rw (w .control-of .ensures) at (at-judge .judge-unknown .ensures)) (omega arith), (follows-kept e (pre .1 .1 .1 .1 .0) (pre .1 .1 .1 .1 .1 .0) refl refl, pre .1 .1 .1 .1 .1 .1))
+    (line-puts (book w) (idsOf (a .flags .now)) (a .step .state) (a .kinds .now) (a .slots .now) (a .step .line) (a .line .now) Unknown e (rw (w .control-of .ensures) at (at-judge .judge-unknown .ensures)) (omega arith), (follows-kept e (pre .1 .1 .1 .1 .0) (pre .1 .1 .1 .1 .1 .0) refl refl, pre .1 .1 .1 .1 .1 .1))
 
 judge-meta-requires : tie.Need-judge-meta-requires
 judge-meta-requires c κs =
     let told = c .before .before in
-    let w = told .before .before in
+    let w = told .before .before .before in
     let pre = start w .pre in
     (pre .1 .0, (pre .1 .1 .1 .0, (pre .1 .1 .1 .1 .1 .0, (meta-sort (book w) _ ∙ ap metaIn (of-sort w (told .enum-told3 .given .1)), pre .0))))
 
@@ -56,19 +56,19 @@ returns-3 : tie.Need-returns-3
 returns-3 c =
     let at-judge = c .before .before .before .before in
     let told = at-judge .before .before .before in
-    let w = told .before .before in
+    let w = told .before .before .before in
     let a = start w .args in
     let pre = start w .pre in
     let e = of-sort w (told .enum-told3 .given .1) in
     let keeps = at-judge .judge-meta .ensures .1 in
-    (line-puts (book w) (idsOf (a .flags .now)) (a .state) (a .kinds .now) (a .slots .now) (a .line-no) (a .line .now) Meta e (rw (w .control-of .ensures) at (at-judge .judge-meta .ensures .0)) (omega arith), (follows-meta e (pre .1 .1 .1 .1 .0) (keeps .keys) (keeps .places), pre .1 .1 .1 .1 .1 .1))
+    (line-puts (book w) (idsOf (a .flags .now)) (a .step .state) (a .kinds .now) (a .slots .now) (a .step .line) (a .line .now) Meta e (rw (w .control-of .ensures) at (at-judge .judge-meta .ensures .0)) (omega arith), (follows-meta e (pre .1 .1 .1 .1 .0) (keeps .keys) (keeps .places), pre .1 .1 .1 .1 .1 .1))
 
 -- a header's section is one of the book's
-section-of : (c : tie.After-sort) → isSection (book (c .before .before)) (c .sort .given .0 .0) ≡ true
-section-of c = let w = c .before .before in header-is (book w) (start w .args .line .now) (c .sort .given .0 .0) (of-sort w (c .sort .given .1))
+section-of : (c : tie.After-sort) → isSection (book (c .before .before .before)) (c .sort .given .0 .0) ≡ true
+section-of c = let w = c .before .before .before in header-is (book w) (start w .args .line .now) (c .sort .given .0 .0) (of-sort w (c .sort .given .1))
 
 section-low : (c : tie.After-sort) → c .sort .given .0 .0 < 5
-section-low c = let w = c .before .before in section-in (book w) (book-sized _) _ (section-of c) .1
+section-low c = let w = c .before .before .before in section-in (book w) (book-sized _) _ (section-of c) .1
 
 array-read-again : tie.Need-array-read-again
 array-read-again c = section-low (c .before .before)
@@ -76,7 +76,7 @@ array-read-again c = section-low (c .before .before)
 judge-head-requires : tie.Need-judge-head-requires
 judge-head-requires c κs =
     let told = c .before .before .before .before .before .before .before in
-    let w = told .before .before in
+    let w = told .before .before .before in
     let pre = start w .pre in
     (pre .0, (pre .1 .0, (section-of told, (pre .1 .1 .1 .1 .0, (pre .1 .1 .1 .1 .1 .1, pre .1 .1 .0)))))
 
@@ -88,24 +88,24 @@ returns-4 c =
     let at-judge = c .before .before .before .before .before in
     let at-count = at-judge .before .before .before .before in
     let told = at-count .before .before .before .before in
-    let w = told .before .before in
+    let w = told .before .before .before in
     let a = start w .args in
     let pre = start w .pre in
     let h = told .sort .given .0 .0 in
     let e = of-sort w (told .sort .given .1) in
     let keeps = at-judge .judge-head .ensures .1 in
-    (line-puts (book w) (idsOf (a .flags .now)) (a .state) (a .kinds .now) (a .slots .now) (a .line-no) (a .line .now) (Header h) e (rw (w .control-of .ensures) at (at-judge .judge-head .ensures .0)) (omega arith), (rw (c .after-header .ensures, at-count .count-cells .ensures) (follows-header (book-sized _) h e (pre .1 .1 .1 .1 .1 .0) (keeps .columns) (keeps .kind-places)), keeps .stamp-places))
+    (line-puts (book w) (idsOf (a .flags .now)) (a .step .state) (a .kinds .now) (a .slots .now) (a .step .line) (a .line .now) (Header h) e (rw (w .control-of .ensures) at (at-judge .judge-head .ensures .0)) (omega arith), (rw (c .after-header .ensures, at-count .count-cells .ensures) (follows-header (book-sized _) h e (pre .1 .1 .1 .1 .1 .0) (keeps .columns) (keeps .kind-places)), keeps .stamp-places))
 
 returns-5 : tie.Need-returns-5
 returns-5 c =
     let at-judge = c .before .before .before in
     let told = at-judge .before .before .before .before in
-    let w = told .before .before in
+    let w = told .before .before .before in
     let a = start w .args in
     let pre = start w .pre in
     let r = told .sort2 .given .0 .0 in
     let e = of-sort w (told .sort2 .given .1) in
-    (line-puts (book w) (idsOf (a .flags .now)) (a .state) (a .kinds .now) (a .slots .now) (a .line-no) (a .line .now) (Row r) e (rw (w .control-of .ensures) at (at-judge .judge-row .ensures)) (omega arith), (rw (c .after-row .ensures) (follows-kept e (pre .1 .1 .1 .1 .0) (pre .1 .1 .1 .1 .1 .0) refl refl), pre .1 .1 .1 .1 .1 .1))
+    (line-puts (book w) (idsOf (a .flags .now)) (a .step .state) (a .kinds .now) (a .slots .now) (a .step .line) (a .line .now) (Row r) e (rw (w .control-of .ensures) at (at-judge .judge-row .ensures)) (omega arith), (rw (c .after-row .ensures) (follows-kept e (pre .1 .1 .1 .1 .0) (pre .1 .1 .1 .1 .1 .0) refl refl), pre .1 .1 .1 .1 .1 .1))
 
 pub judge-line-spec : {M : Type 1} → statement M
 judge-line-spec =

@@ -9,7 +9,7 @@ returns : tie.Need-returns
 unfolding unknownBreaks
 returns c =
     let p3 = c .before .before in
-    let p2 = p3 .before .before .before .before in
+    let p2 = p3 .before .before .before .before .before in
     let p1 = p2 .before .before .before .before in
     puts3 (p1 .put-if .ensures) (p2 .put-if2 .ensures) (p3 .put-if3 .ensures)
 

@@ -93,6 +93,9 @@ module _ (b : Book) (sized : Sized b) (k : ℕ) (l : k < length (b .demands)) wh
         unfolding wantsOf
         once-wants = rw (eq-eqb (D .each) ONCE (sym (d .each) ∙ once))
 
+        pub once-many : length (wantsOf D) ≡ 1
+        once-many = ap length once-wants
+
         pub once-slots : (startOf (keyEntries b) (r .entry) ≤ startOf (keyEntries b) (r .entry + 1)) × (startOf (keyEntries b) (r .entry + 1) ≤ SLOTS)
         once-slots =
             let s = slots-below b sized (want D 0) sound (inl refl) in
@@ -101,7 +104,7 @@ module _ (b : Book) (sized : Sized b) (k : ℕ) (l : k < length (b .demands)) wh
         pub once-puts : {a m t : Bool} {from to : ℕ} (n : ℕ) {o o' : Lent} → a ≡ isAskedIn x D → m ≡ isMarked slots from to → from ≡ startOf (keyEntries b) (r .entry)
             → to ≡ startOf (keyEntries b) (r .entry + 1) → t ≡ (a && not m) → Puts (when t (breakAt n (r .cell) 21)) 1 o o' → Puts (wantBreaks b x n (wantsOf D)) (length (wantsOf D)) o o'
         unfolding wantBreaks isLacking
-        once-puts {a} {m} {t} {from} {to} n {o} {o'} p q f e s h = alike same (sym (ap length once-wants)) h
+        once-puts {a} {m} {t} {from} {to} n {o} {o'} p q f e s h = alike same (sym once-many) h
           where
             begin : startOf (keyEntries b) (entryFor (b .keys) (D .form)) + (0 - 1) ≡ from
             begin = omega (arith, f, ap (startOf (keyEntries b)) (d .entry))
@@ -132,6 +135,10 @@ module _ (b : Book) (sized : Sized b) (k : ℕ) (l : k < length (b .demands)) wh
         unfolding wantsOf
         ids-wants = rw (ne-eqb (D .each) ONCE (λ e. each (d .each ∙ e)))
 
+        pub ids-many : length (wantsOf D) ≡ 64
+        unfolding upFrom
+        ids-many = ap length ids-wants
+
         -- its break is that of the id
         id-lacks : {a : Bool} {from : ℕ} (i : ℕ) → 1 ≤ i → a ≡ isAskedIn x D → from ≡ startOf (keyEntries b) (r .entry)
             → ((a && getD (getD flags (r .each) []) (i - 1) false) && not (getD slots (from + (i - 1)) false)) ≡ isLacking b x (want D i)
@@ -150,5 +157,4 @@ module _ (b : Book) (sized : Sized b) (k : ℕ) (l : k < length (b .demands)) wh
 
         pub ids-puts : {a : Bool} {from : ℕ} (n : ℕ) {o o' : Lent} → a ≡ isAskedIn x D → from ≡ startOf (keyEntries b) (r .entry)
             → Puts (idBreaks a slots (getD flags (r .each) []) from (r .cell) n (upFrom 64 1)) 64 o o' → Puts (wantBreaks b x n (wantsOf D)) (length (wantsOf D)) o o'
-        unfolding upFrom
-        ids-puts {a} {from} n p f h = alike (λ rest. ids-same n 64 1 (omega arith) p f rest ∙ ap (λ (ws : List Want). wantBreaks b x n ws rest) (sym ids-wants)) (sym (ap length ids-wants)) h
+        ids-puts {a} {from} n p f h = alike (λ rest. ids-same n 64 1 (omega arith) p f rest ∙ ap (λ (ws : List Want). wantBreaks b x n ws rest) (sym ids-wants)) (sym ids-many) h

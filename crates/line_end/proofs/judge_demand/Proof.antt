@@ -10,7 +10,7 @@ use Rattle.book.specs.Text.{bookIn}
 use Rattle.book.proofs.Laws.Sized.{book-sized}
 use Rattle.scan.specs.Machine.{isAskedIn}
 use Rattle.line_end.specs.Ends.{seen}
-use Rattle.line_end.proofs.Laws.Wanting.{entry-in, section-in, asked-is, once-slots, once-puts, family-in, ids-slots, ids-puts}
+use Rattle.line_end.proofs.Laws.Wanting.{entry-in, section-in, asked-is, once-slots, once-many, once-puts, family-in, ids-slots, ids-many, ids-puts}
 use Rattle.line_end.proofs.judge_demand.Statement.{statement}
 use Rattle.line_end.proofs.judge_demand.Tie as tie
 
@@ -46,7 +46,8 @@ judge-ids-requires c κs =
     let from = o .before .before .before .start-of .ensures in
     let f = family-in _ (book-sized (s .args .book .now)) _ (s .pre .1 .0) _ (d .nth-demand .ensures) (s .args .slots .now) (s .args .flags .now) (s .args .told) w (t .if1 .taken) in
     let n = ids-slots _ (book-sized (s .args .book .now)) _ (s .pre .1 .0) _ (d .nth-demand .ensures) (s .args .slots .now) (s .args .flags .now) (s .args .told) w (t .if1 .taken) in
-    (f, (omega (arith, from, n, w .long), (w .shape, (d .nth-demand .ensures .fits, s .pre .1 .1 .1))))
+    let m = ids-many _ (book-sized (s .args .book .now)) _ (s .pre .1 .0) _ (d .nth-demand .ensures) (s .args .slots .now) (s .args .flags .now) (s .args .told) w (t .if1 .taken) in
+    (f, (omega (arith, from, n, w .long), (w .shape, (d .nth-demand .ensures .fits, omega (arith, m, s .pre .1 .1 .1)))))
 
 returns : tie.Need-returns
 returns c =
@@ -68,6 +69,15 @@ any-marked-requires c κs =
     let a = s .args in
     let m = once-slots _ (book-sized (a .book .now)) _ (s .pre .1 .0) _ (d .nth-demand .ensures) (a .slots .now) (a .flags .now) (a .told) (s .pre .1 .1 .0) (e .if1 .left) in
     (omega (arith, o .before .before .before .start-of .ensures, c .start-of2 .ensures, m), omega (arith, c .start-of2 .ensures, m, s .pre .1 .1 .0 .long))
+
+put-if-requires : tie.Need-put-if-requires
+put-if-requires c κs =
+    let e = c .before .before .before .before in
+    let d = demand (e .before .before) in
+    let s = start d in
+    let a = s .args in
+    let m = once-many _ (book-sized (a .book .now)) _ (s .pre .1 .0) _ (d .nth-demand .ensures) (a .slots .now) (a .flags .now) (a .told) (s .pre .1 .1 .0) (e .if1 .left) in
+    omega (arith, m, s .pre .1 .1 .1)
 
 returns-2 : tie.Need-returns-2
 returns-2 c =
@@ -99,6 +109,6 @@ judge-demand-spec =
     (λ c κs. let d = demand (c .before .before) in (start d .pre .0, omega (arith, inside d)))
     any-marked-requires
     (λ c κs. search needs)
-    (λ c κs. search needs)
+    put-if-requires
     (λ c. search needs)
     returns-2)

@@ -22,7 +22,7 @@ abbrev Inv-loop : tie.InvT-loop
 Inv-loop places₀ count book line-no slots flags told n k₀ c₀ places k c =
     (k ≤ n) × (c + length (wantsIn (drop k ((bookIn book) .demands))) ≤ count + length (wants (bookIn book))) × (length places ≡ length places₀)
     × ((rest : List Break) → putAll (lent places c) (wantBreaks (bookIn book) (seen slots flags told) line-no (wantsIn (drop k ((bookIn book) .demands))) rest)
-        ≡ putAll (lent places₀ count) (endBreaks (bookIn book) (seen slots flags told) line-no rest))
+    ≡ putAll (lent places₀ count) (endBreaks (bookIn book) (seen slots flags told) line-no rest))
 
 abbrev μ-loop : tie.MeasureT-loop
 μ-loop places₀ count book line-no slots flags told n k₀ c₀ places k c = n - k
@@ -34,19 +34,31 @@ start l = l .before .before .before .before .before
 many : (l : tie.At-loop Inv-loop μ-loop) → l .before .count-demands .result ≡ length ((bookIn (start l .args .book .now)) .demands)
 many l = l .before .count-demands .ensures
 
-judge-demand-requires : tie.Need-judge-demand-requires Inv-loop μ-loop
-judge-demand-requires c κs =
-    let i = c .before in
-    let l = i .before in
-    let s = start l in
-    (s .pre .0, (omega (arith, many l, i .loop-test .taken), (s .pre .1 .0, omega (arith, l .loop .inv .1, book-sized (s .args .book .now) .many, s .pre .1 .1))))
-
 -- the next demand, and those after it
 cut : (l : tie.At-loop Inv-loop μ-loop) → suc (l .loop .k) ≤ l .before .count-demands .result
     → let ds = (bookIn (start l .args .book .now)) .demands in drop (l .loop .k) ds ≡ getD ds (l .loop .k) noDemand ∷ drop (l .loop .k + 1) ds
 cut l h =
     let ds = (bookIn (start l .args .book .now)) .demands in
     drop-cons ds (l .loop .k) noDemand (omega (arith, many l)) ∙ rw (add-one (l .loop .k))
+
+sizes : (l : tie.At-loop Inv-loop μ-loop) → suc (l .loop .k) ≤ l .before .count-demands .result
+    → let ds = (bookIn (start l .args .book .now)) .demands in length (wantsIn (drop (l .loop .k) ds)) ≡ length (wantsOf (getD ds (l .loop .k) noDemand)) + length (wantsIn (drop (l .loop .k + 1) ds))
+unfolding wantsIn
+sizes l h =
+    let ds = (bookIn (start l .args .book .now)) .demands in
+    ap (λ (es : List Demand). length (wantsIn es)) (cut l h) ∙ length-append (wantsOf (getD ds (l .loop .k) noDemand)) (wantsIn (drop (l .loop .k + 1) ds))
+
+judge-demand-requires : tie.Need-judge-demand-requires Inv-loop μ-loop
+judge-demand-requires c κs =
+    let i = c .before in
+    let l = i .before in
+    let s = start l in (
+      s .pre .0,
+      (
+        omega (arith, many l, i .loop-test .taken),
+        (s .pre .1 .0, omega (arith, l .loop .inv .1, sizes l (i .loop-test .taken), book-sized (s .args .book .now) .many, s .pre .1 .1)),
+      ),
+    )
 
 loop-again : tie.Need-loop-again Inv-loop μ-loop
 unfolding wantsIn
@@ -60,10 +72,9 @@ loop-again c =
     let k = l .loop .k in
     let D = getD (b .demands) k noDemand in
     let p = j .judge-demand .ensures in
-    let e = cut l (i .loop-test .taken) in
-    let sizes : length (wantsIn (drop k (b .demands))) ≡ length (wantsOf D) + length (wantsIn (drop (k + 1) (b .demands))) = ap (λ (ds : List Demand). length (wantsIn ds)) e ∙ length-append (wantsOf D) (wantsIn (drop (k + 1) (b .demands))) in (
+    let e = cut l (i .loop-test .taken) in (
       omega (arith, i .loop-test .taken),
-      omega (arith, p .most, l .loop .inv .1, sizes),
+      omega (arith, p .most, l .loop .inv .1, sizes l (i .loop-test .taken)),
       search needs,
       λ rest. p .does (wantBreaks b x (a .line-no) (wantsIn (drop (k + 1) (b .demands))) rest)
           ∙ ap (putAll (lent (l .loop .places) (l .loop .c)))

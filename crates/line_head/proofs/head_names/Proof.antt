@@ -17,7 +17,7 @@ returns c =
     let names = c .before .before .before .before in
     let p = names .before .before .before .before .before .before in
     let ens = names .head-cells .ensures in
-    (puts2 (rw (p .before .lacks .ensures) at (p .put-if .ensures)) (ens .0), record { columns = ens .1 .0; kind-places = ens .1 .1 .0; stamp-places = ens .1 .1 .1 })
+    (puts2 (rw (p .before .before .lacks .ensures) at (p .put-if .ensures)) (ens .0), record { columns = ens .1 .0; kind-places = ens .1 .1 .0; stamp-places = ens .1 .1 .1 })
 
 pub head-names-spec : {M : Type 1} → statement M
 head-names-spec =

@@ -23,21 +23,21 @@ use Rattle.line_head_names.proofs.head_cells.Tie as tie
 use Rattle.book.specs.Text.{bookIn}
 
 abbrev Inv-loop : tie.InvT-loop
-Inv-loop places₀ count book line from section line-no control flags kinds₀ stamps₀ at₀ c₀ k₀ opt₀ places kinds stamps at c k opt =
+Inv-loop places₀ count book line names flags kinds₀ stamps₀ tag at₀ c₀ k₀ opt₀ places kinds stamps at c k opt =
     (at ≤ length line) × (2 ≤ c) × (c + length (cells (drop at line)) ≤ 257) × (k + 10 ≤ count + 5 * c) × (length places ≡ length places₀)
-    × ((rest : List Break) → putAll (lent places k) (eachCell (headCell (bookIn book) section (cells (drop from line)) (idsOf flags) control line-no) c (cells (drop at line)) rest)
-    ≡ putAll (lent places₀ count) (eachCell (headCell (bookIn book) section (cells (drop from line)) (idsOf flags) control line-no) 2 (cells (drop from line)) rest))
-    × (drop (c - 2) (cells (drop from line)) ≡ cells (drop at line)) × KindsTo (bookIn book) section c (cells (drop from line)) kinds × (length kinds ≡ 256)
-    × (opt ≡ any isOpt (take (c - 2) (cells (drop from line)))) × Noted stamps line-no line (c - 2) × ((z : Bytes) → isNamed stamps line z (c - 2) ≡ any (same z) (take (c - 2) (cells (drop from line))))
+    × ((rest : List Break) → putAll (lent places k) (eachCell (headCell (bookIn book) (names .section) (cells (drop (names .from) line)) (idsOf flags) (names .tag .control) (names .tag .line)) c (cells (drop at line)) rest)
+    ≡ putAll (lent places₀ count) (eachCell (headCell (bookIn book) (names .section) (cells (drop (names .from) line)) (idsOf flags) (names .tag .control) (names .tag .line)) 2 (cells (drop (names .from) line)) rest))
+    × (drop (c - 2) (cells (drop (names .from) line)) ≡ cells (drop at line)) × KindsTo (bookIn book) (names .section) c (cells (drop (names .from) line)) kinds × (length kinds ≡ 256)
+    × (opt ≡ any isOpt (take (c - 2) (cells (drop (names .from) line)))) × Noted stamps (names .tag .line) line (c - 2) × ((z : Bytes) → isNamed stamps line z (c - 2) ≡ any (same z) (take (c - 2) (cells (drop (names .from) line))))
 
 abbrev μ-loop : tie.MeasureT-loop
-μ-loop places₀ count book line from section line-no control flags kinds₀ stamps₀ at₀ c₀ k₀ opt₀ places kinds stamps at c k opt = length line - at
+μ-loop places₀ count book line names flags kinds₀ stamps₀ tag at₀ c₀ k₀ opt₀ places kinds stamps at c k opt = length line - at
 
 loop-holds : tie.Need-loop-holds Inv-loop μ-loop
 unfolding any isNamed
 loop-holds c =
-    let s = c .before .before .before .before in
-    (search needs, search needs, search needs, search needs, search needs, (λ rest. refl), refl, (λ i l. absurd (omega arith)), search needs, refl, noted-none (s .args .stamps .now) (s .args .line-no) (s .args .line .now) (s .pre .1 .1 .1 .1 .1), (λ z. refl))
+    let s = c .before .before .before .before .before in
+    (search needs, search needs, search needs, search needs, search needs, (λ rest. refl), refl, (λ i l. absurd (omega arith)), search needs, refl, noted-none (s .args .stamps .now) (s .args .names .tag .line) (s .args .line .now) (s .pre .1 .1 .1 .1 .1), (λ z. refl))
 
 came-before-requires : tie.Need-came-before-requires Inv-loop μ-loop
 came-before-requires c κs =
@@ -45,7 +45,7 @@ came-before-requires c κs =
     let at-loop = at-end .before in
     let inv = at-loop .loop .inv in
     let ends = at-end .cell-end .ensures in
-    (inv .10, (at-loop .before .before .before .before .before .pre .1 .1 .0 .1, (omega (arith, inv .2, ap length (cell-here ends)), ends .starts, ends .within)))
+    (inv .10, (at-loop .before .before .before .before .before .before .pre .1 .1 .0 .1, (omega (arith, inv .2, ap length (cell-here ends)), ends .starts, ends .within)))
 
 head-cell-requires : tie.Need-head-cell-requires Inv-loop μ-loop
 head-cell-requires c κs =
@@ -53,7 +53,7 @@ head-cell-requires c κs =
     let at-end = at-again .before .before in
     let at-loop = at-end .before in
     let inv = at-loop .loop .inv in
-    let pre = at-loop .before .before .before .before .before .pre in
+    let pre = at-loop .before .before .before .before .before .before .pre in
     let some = ap length (cell-here (at-end .cell-end .ensures)) in
     (omega (arith, pre .0, inv .2, inv .3), (pre .1 .0, ((omega (arith, inv .1), omega (arith, inv .2, some)), inv .8)))
 
@@ -61,7 +61,7 @@ same-length-2 : tie.Need-same-length-2 Inv-loop μ-loop
 same-length-2 c =
     let at-again = c .before .before .before .before .before .before .before .before .before .before .before .before in
     let at-loop = at-again .before .before .before in
-    omega (arith, at-again .came-before .ensures .noted .places, at-loop .before .before .before .before .before .pre .1 .1 .1 .1 .1)
+    omega (arith, at-again .came-before .ensures .noted .places, at-loop .before .before .before .before .before .before .pre .1 .1 .1 .1 .1)
 
 returns : tie.Need-returns Inv-loop μ-loop
 returns c =
@@ -72,17 +72,17 @@ returns c =
     let at-end = at-again .before .before in
     let at-loop = at-end .before in
     let loop = at-loop .loop in
-    let args = at-loop .before .before .before .before .before .args in
-    let xs = cells (drop (args .from) (args .line .now)) in
+    let args = at-loop .before .before .before .before .before .before .args in
+    let xs = cells (drop (args .names .from) (args .line .now)) in
     let inv = loop .inv in
     let ends = at-end .cell-end .ensures in
     let here = inv .6 ∙ cell-here ends in
     let name = take (at-end .cell-end .result - loop .at) (drop (loop .at) (args .line .now)) in
     let judged = rw (at-again .came-before .ensures .answer ∙ inv .11 name, inv .9) at (at-cell .head-cell .ensures .0) in
-    let F = headCell (bookIn (args .book .now)) (args .section) xs (idsOf (args .flags .now)) (args .control) (args .line-no) in
+    let F = headCell (bookIn (args .book .now)) (args .names .section) xs (idsOf (args .flags .now)) (args .names .tag .control) (args .names .tag .line) in
     let in-kinds : loop .c - 1 < length (loop .kinds) = omega (arith, inv .2, inv .8, ap length (cell-here ends)) in
-    let kinds = kinds-step _ xs (loop .c) (inv .1) here (args .section) (loop .kinds) in-kinds (inv .7) in
-    let kept = length-set (loop .kinds) (loop .c - 1) (kindIn (columnOf (bookIn (args .book .now)) (args .section) name)) ∙ inv .8 in
+    let kinds = kinds-step _ xs (loop .c) (inv .1) here (args .names .section) (loop .kinds) in-kinds (inv .7) in
+    let kept = length-set (loop .kinds) (loop .c - 1) (kindIn (columnOf (bookIn (args .book .now)) (args .names .section) name)) ∙ inv .8 in
     let all : length xs ≡ loop .c - 1 = column-count xs (loop .c) (inv .1) here ∙ rw (cells-last ends (c .if1 .taken)) (omega arith) in (
       record {
         does = λ rest. turn-last ends F (loop .c) judged rest (c .if1 .taken) ∙ inv .5 rest;
@@ -96,7 +96,7 @@ add-at c =
     let at-end = c .before .before .before .before .before .before .before .before .before .before .before .before .before .before in
     let at-loop = at-end .before in
     let inv = at-loop .loop .inv in
-    omega (arith, c .if1 .left, at-end .cell-end .ensures .within, at-loop .before .before .before .before .before .good .1 .1 .1 .0 .0)
+    omega (arith, c .if1 .left, at-end .cell-end .ensures .within, at-loop .before .before .before .before .before .before .good .1 .1 .1 .0 .0)
 
 add-c : tie.Need-add-c Inv-loop μ-loop
 add-c c =
@@ -121,17 +121,17 @@ loop-again c =
     let at-end = at-again .before .before in
     let at-loop = at-end .before in
     let loop = at-loop .loop in
-    let args = at-loop .before .before .before .before .before .args in
-    let xs = cells (drop (args .from) (args .line .now)) in
+    let args = at-loop .before .before .before .before .before .before .args in
+    let xs = cells (drop (args .names .from) (args .line .now)) in
     let inv = loop .inv in
     let ends = at-end .cell-end .ensures in
     let here = inv .6 ∙ cell-here ends in
     let name = take (at-end .cell-end .result - loop .at) (drop (loop .at) (args .line .now)) in
     let judged = rw (at-again .came-before .ensures .answer ∙ inv .11 name, inv .9) at (at-cell .head-cell .ensures .0) in
-    let F = headCell (bookIn (args .book .now)) (args .section) xs (idsOf (args .flags .now)) (args .control) (args .line-no) in
+    let F = headCell (bookIn (args .book .now)) (args .names .section) xs (idsOf (args .flags .now)) (args .names .tag .control) (args .names .tag .line) in
     let in-kinds : loop .c - 1 < length (loop .kinds) = omega (arith, inv .2, inv .8, ap length (cell-here ends)) in
-    let kinds = kinds-step _ xs (loop .c) (inv .1) here (args .section) (loop .kinds) in-kinds (inv .7) in
-    let kept = length-set (loop .kinds) (loop .c - 1) (kindIn (columnOf (bookIn (args .book .now)) (args .section) name)) ∙ inv .8 in
+    let kinds = kinds-step _ xs (loop .c) (inv .1) here (args .names .section) (loop .kinds) in-kinds (inv .7) in
+    let kept = length-set (loop .kinds) (loop .c - 1) (kindIn (columnOf (bookIn (args .book .now)) (args .names .section) name)) ∙ inv .8 in
     let one : loop .c + 1 - 2 ≡ loop .c - 2 + 1 = omega (arith, inv .1) in
     let lt : at-end .cell-end .result < length (args .line .now) = omega (arith, c .if1 .left, ends .within) in (
       omega (arith, lt),

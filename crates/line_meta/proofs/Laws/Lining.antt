@@ -14,7 +14,7 @@ use Rattle.text_bytes.specs.Places.{Ends}
 use Rattle.text.specs.Lines.{cells}
 use Rattle.book.specs.Book.{Book, keyOf}
 use Rattle.rules.specs.Breaks.{breakAt, when}
-use Rattle.scan.specs.Places.{Lent, Puts}
+use Rattle.scan.specs.Places.{LINE-MOST, Lent, Puts}
 use Rattle.scan.specs.Machine.{Ids, eachCell, controlAt, plainRest, metaCell, metaBreaks}
 use Rattle.scan.proofs.Laws.Putting.{puts2, puts3}
 use Rattle.scan.proofs.Laws.Celling.{cell-here, cells-last}
@@ -38,10 +38,10 @@ module _ (b : Book) (cc n : ℕ) {slots : List Bool} {ids : Ids} {key value : By
 -- THE WHOLE LINE
 module _ (b : Book) (table : Bool) (slots : List Bool) (ids : Ids) (cc n : ℕ) (xs : List Bytes) {o o₁ o₂ o₃ o₄ : Lent}
     (h₁ : Puts (controlAt cc n 1) 1 o o₁) (h₂ : Puts (when (not (eqb (length xs) 3)) (breakAt n 1 3)) 1 o₁ o₂) (h₃ : Puts (when table (breakAt n 1 4)) 1 o₂ o₃) where
-  pub meta-three : length xs ≡ 3 → Puts (eachCell (metaCell b slots ids (getD xs 1 []) (getD xs 2 []) cc n) 2 (drop 1 xs)) 6 o₃ o₄ → Puts (metaBreaks b table slots ids cc n xs) 1300 o o₄
+  pub meta-three : length xs ≡ 3 → Puts (eachCell (metaCell b slots ids (getD xs 1 []) (getD xs 2 []) cc n) 2 (drop 1 xs)) 6 o₃ o₄ → Puts (metaBreaks b table slots ids cc n xs) LINE-MOST o o₄
   unfolding metaBreaks
   meta-three t h = record { does = λ rest. rw (eq-eqb (length xs) 3 t) (puts2 (puts3 h₁ (rw (eq-eqb (length xs) 3 t) at h₂) h₃) h .does rest); most = omega arith }
 
-  pub meta-other : (length xs ≡ 3 → ⊥) → Puts (plainRest cc n) 1 o₃ o₄ → Puts (metaBreaks b table slots ids cc n xs) 1300 o o₄
+  pub meta-other : (length xs ≡ 3 → ⊥) → Puts (plainRest cc n) 1 o₃ o₄ → Puts (metaBreaks b table slots ids cc n xs) LINE-MOST o o₄
   unfolding metaBreaks
   meta-other t h = record { does = λ rest. rw (ne-eqb (length xs) 3 t) (puts2 (puts3 h₁ (rw (ne-eqb (length xs) 3 t) at h₂) h₃) h .does rest); most = omega arith }

@@ -65,7 +65,7 @@ returns c =
     let judged = rw found at (at-judge .judge-key .ensures) in
     let cut = three-cells (at-end .cell-end .ensures) (at-end2 .cell-end2 .ensures) n in
     let key = three-key (at-end .cell-end .ensures) (at-end2 .cell-end2 .ensures) n in (
-      three-puts _ (a .control) (a .line-no) judged (p1 .put-key .ensures) (p2 .put-value .ensures) (cells (a .line .now)) cut,
+      three-puts _ (a .tag .control) (a .tag .line) judged (p1 .put-key .ensures) (p2 .put-value .ensures) (cells (a .line .now)) cut,
       at-mark .mark .ensures ∙ rw (found, key),
     )
 

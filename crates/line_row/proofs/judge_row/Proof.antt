@@ -14,16 +14,16 @@ use Rattle.line_row.proofs.judge_row.Tie as tie
 
 returns : tie.Need-returns
 returns c =
-    let at-both3 = c .before .before .before .before .before in
+    let at-both3 = c .before .before .before .before .before .before in
     let first = at-both3 .before .before .before in
     let at-both2 = first .before in
     let at-count = at-both2 .before .before in
     let at-both = at-count .before in
     let args = at-both .before .before .before .args in
     let line = args .line .now in
-    row-other (args .header) (args .width) (args .kinds .now) (args .section) (args .control) (args .line-no) (cells line)
+    row-other (args .header) (args .width) (args .kinds .now) (args .section) (args .tag .control) (args .tag .line) (cells line)
     (rw (at-both2 .both2 .ensures, at-both .both .ensures, at-count .count-cells .ensures) at (first .row-code .ensures))
-    (rw (at-both3 .both3 .ensures, at-both .both .ensures, at-count .count-cells .ensures) at (c .before .before .before .before .if1 .taken))
+    (rw (at-both3 .both3 .ensures, at-both .both .ensures, at-count .count-cells .ensures) at (c .before .before .before .before .before .if1 .taken))
     (c .before .before .put-if .ensures)
 
 returns-2 : tie.Need-returns-2
@@ -35,10 +35,10 @@ returns-2 c =
     let at-both = at-count .before in
     let args = at-both .before .before .before .args in
     let line = args .line .now in
-    row-under (args .header) (args .width) (args .kinds .now) (args .section) (args .control) (args .line-no) (cells line)
+    row-under (args .header) (args .width) (args .kinds .now) (args .section) (args .tag .control) (args .tag .line) (cells line)
     (rw (at-both2 .both2 .ensures, at-both .both .ensures, at-count .count-cells .ensures) at (first .row-code .ensures))
     (rw (at-both3 .both3 .ensures, at-both .both .ensures, at-count .count-cells .ensures) at (c .before .before .if1 .left))
-    (each-none (rowCell (args .kinds .now) (args .control) (args .line-no)) 2 (drop 1 (cells line)) _ (cells-last (c .before .cell-end .ensures) (c .if2 .taken))) (omega arith)
+    (each-none (rowCell (args .kinds .now) (args .tag .control) (args .tag .line)) 2 (drop 1 (cells line)) _ (cells-last (c .before .cell-end .ensures) (c .if2 .taken))) (omega arith)
 
 row-cells-requires : tie.Need-row-cells-requires
 row-cells-requires c κs =
@@ -66,7 +66,7 @@ returns-3 c =
     let line = args .line .now in
     let at-end = c .before .before .before .before .before in
     let lt : at-end .cell-end .result < length line = omega (arith, c .before .before .before .before .if2 .left, at-end .cell-end .ensures .within) in
-    row-under (args .header) (args .width) (args .kinds .now) (args .section) (args .control) (args .line-no) (cells line)
+    row-under (args .header) (args .width) (args .kinds .now) (args .section) (args .tag .control) (args .tag .line) (cells line)
     (rw (at-both2 .both2 .ensures, at-both .both .ensures, at-count .count-cells .ensures) at (first .row-code .ensures))
     (rw (at-both3 .both3 .ensures, at-both .both .ensures, at-count .count-cells .ensures) at (at-end .before .if1 .left))
     (rw (← cells-next (at-end .cell-end .ensures) lt) at (c .before .before .row-cells .ensures)) (omega arith)

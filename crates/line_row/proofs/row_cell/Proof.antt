@@ -9,9 +9,9 @@ use Rattle.line_row.proofs.row_cell.Tie as tie
 returns : tie.Need-returns
 returns c =
     let at-either = c .before in
-    let at-kind = at-either .before .before in
+    let at-kind = at-either .before .before .before in
     let args = at-kind .before .before .before .args in
-    cell-good (args .kind) (args .control) (args .line-no) (args .c) (args .cell .now) _
+    cell-good (args .kind) (args .tag .control) (args .tag .line) (args .c) (args .cell .now) _
     (rw (at-either .either2 .ensures, at-either .before .either .ensures, at-kind .cell-of-kind .ensures, empty-test (args .cell .now)) at (c .if1 .taken))
 
 returns-2 : tie.Need-returns-2
@@ -20,7 +20,7 @@ returns-2 c =
     let at-both = p3 .before in
     let p2 = at-both .before .before .before .before in
     let p1 = p2 .before .before .before .before in
-    let at-kind = p1 .before .before .before .before .before in
+    let at-kind = p1 .before .before .before .before .before .before in
     let args = at-kind .before .before .before .args in
     rw (at-both .both .ensures, at-kind .cell-of-kind .ensures, empty-test (args .cell .now)) at (puts3 (p1 .put-if .ensures) (p2 .put-if2 .ensures) (p3 .put-if3 .ensures))
 

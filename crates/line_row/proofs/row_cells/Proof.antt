@@ -15,19 +15,23 @@ use Rattle.line_row.proofs.row_cells.Statement.{statement}
 use Rattle.line_row.proofs.row_cells.Tie as tie
 
 abbrev Inv-loop : tie.InvT-loop
-Inv-loop places₀ count line from line-no control kinds at₀ c₀ k₀ places at c k =
+Inv-loop places₀ count line from tag kinds at₀ c₀ k₀ places at c k =
     (at ≤ length line) × (2 ≤ c) × (c + length (cells (drop at line)) ≤ 257) × (k + 6 ≤ count + 3 * c) × (length places ≡ length places₀)
-    × ((rest : List Break) → putAll (lent places k) (eachCell (rowCell kinds control line-no) c (cells (drop at line)) rest)
-    ≡ putAll (lent places₀ count) (eachCell (rowCell kinds control line-no) 2 (cells (drop from line)) rest))
+    × ((rest : List Break) → putAll (lent places k) (eachCell (rowCell kinds (tag .control) (tag .line)) c (cells (drop at line)) rest)
+    ≡ putAll (lent places₀ count) (eachCell (rowCell kinds (tag .control) (tag .line)) 2 (cells (drop from line)) rest))
 
 abbrev μ-loop : tie.MeasureT-loop
-μ-loop places₀ count line from line-no control kinds at₀ c₀ k₀ places at c k = length line - at
+μ-loop places₀ count line from tag kinds at₀ c₀ k₀ places at c k = length line - at
 
 loop-holds : tie.Need-loop-holds Inv-loop μ-loop
 loop-holds c = (search needs, search needs, search needs, search needs, search needs, λ rest. refl)
 
 element-copy-out-kind : tie.Need-element-copy-out-kind Inv-loop μ-loop
 element-copy-out-kind c = omega (arith, ap length (cell-here (c .cell-end .ensures)))
+
+-- the cell is one of those left
+row-cell-requires : tie.Need-row-cell-requires Inv-loop μ-loop
+row-cell-requires c κs = omega (arith, ap length (cell-here (c .before .before .before .cell-end .ensures)))
 
 returns : tie.Need-returns Inv-loop μ-loop
 returns c =
@@ -36,7 +40,7 @@ returns c =
     let at-loop = at-end .before in
     let args = at-loop .before .before .before .args in
     record {
-      does = λ rest. turn-last (at-end .cell-end .ensures) (rowCell (args .kinds .now) (args .control) (args .line-no)) (at-loop .loop .c) (at-cell .row-cell .ensures) rest (c .if1 .taken) ∙ at-loop .loop .inv .5 rest;
+      does = λ rest. turn-last (at-end .cell-end .ensures) (rowCell (args .kinds .now) (args .tag .control) (args .tag .line)) (at-loop .loop .c) (at-cell .row-cell .ensures) rest (c .if1 .taken) ∙ at-loop .loop .inv .5 rest;
       most = omega (arith, ap length (cell-here (at-end .cell-end .ensures)));
     }
 
@@ -52,7 +56,7 @@ loop-again c =
       omega (arith, ap length (cell-here (at-end .cell-end .ensures)), ap length (cells-next (at-end .cell-end .ensures) lt)),
       omega arith,
       search needs,
-      λ rest. turn-next (at-end .cell-end .ensures) (rowCell (args .kinds .now) (args .control) (args .line-no)) (at-loop .loop .c) (at-cell .row-cell .ensures) rest lt ∙ at-loop .loop .inv .5 rest,
+      λ rest. turn-next (at-end .cell-end .ensures) (rowCell (args .kinds .now) (args .tag .control) (args .tag .line)) (at-loop .loop .c) (at-cell .row-cell .ensures) rest lt ∙ at-loop .loop .inv .5 rest,
     )
 
 pub row-cells-spec : {M : Type 1} → statement M
@@ -69,7 +73,7 @@ row-cells-spec =
     (λ c. search needs)
     (λ c. search needs)
     (λ c. search needs)
-    (λ c κs. search needs)
+    row-cell-requires
     (λ c. search needs)
     returns
     (λ c. search needs)

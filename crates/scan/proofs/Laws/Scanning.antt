@@ -17,6 +17,7 @@ use Rattle.text_bytes.proofs.Laws.Pieces.{onFirst-length}
 use Rattle.text.proofs.Laws.Lines.{lines-done}
 use Rattle.rules.specs.Sorts.{isSilent}
 use Rattle.rules.specs.Breaks.{Break, breakAt, when, Spot, spot, spotAt, Rule, each, atCell, atLine, inLines, atEnd}
+use Rattle.scan.specs.Places.{FILE-MOST}
 use Rattle.scan.specs.Machine.{Ids}
 use Rattle.scan.specs.Carried.{lineBreaks, Stands, Follows, from, last, Scan}
 use Rattle.scan.specs.declared.state.State.{State}
@@ -118,7 +119,7 @@ from-bound book F (l ∷ ls) n e =
     (omega (arith, length-append (atLine (rules book) (spot (take n F) l F) (suc n)) (from book F (suc n)), line-bound book (spot (take n F) l F) (suc n), from-bound book F ls (suc n) (lines-left book F n e)))
 
 -- so their count fits 32 bits with room
-pub breaks-bound : (book : Book) → Sized book → (b : Bytes) → length b ≤ LIMIT → length (breaksBy book (lines b)) ≤ 671088645
+pub breaks-bound : (book : Book) → Sized book → (b : Bytes) → length b ≤ LIMIT → length (breaksBy book (lines b)) ≤ FILE-MOST
 unfolding breaksBy inLines atEnd endRules
 breaks-bound book sized b h =
     let F = lines b in

@@ -2,14 +2,15 @@
 -- come next, up to those of the lines left. Assumes nothing.
 use mathlib.Core.Path.{_≡_, refl, sym}
 use mathlib.Core.List.{[], _++_}
-use Prim.Native.Nat.{_+_, _-_, _≤_, _<_}
+use Prim.Native.Nat.{ℕ, _+_, _-_, _≤_, _<_}
 use native.Mathlib.Omega.{arith}
 use borrow.Author.Needs.{needs}
-use lib.ListN.{length, drop, length-take, length-drop}
+use lib.ListN.{length, drop, length-replicate, length-take, length-drop}
 use Rattle.text.specs.Lines.{lines}
 use Rattle.text_bytes.proofs.Laws.Tests.{absurd-bool}
 use Rattle.book.specs.Book.{SLOTS}
 use Rattle.rules.specs.Rules.{breaksBy}
+use Rattle.scan.specs.Places.{FILE-MOST, LINE-MOST}
 use Rattle.scan.specs.Carried.{Scan, from, last}
 use Rattle.scan.proofs.Laws.Scanning.{scan-step, scan-left, breaks-bound}
 use Rattle.line_head_stamps.specs.Stamps.{ROOM}
@@ -22,31 +23,31 @@ use Rattle.book.proofs.Laws.Sized.{book-sized}
 
 abbrev Inv-loop : tie.InvT-loop
 Inv-loop places₀ room book file flags kinds₀ slots₀ stamps₀ before state₀ at₀ n₀ k₀ places kinds slots stamps state at n k =
-    Scan (bookIn book) file at n state kinds slots × Parted (breaksBy (bookIn book) (lines file)) before places₀ places k (from (bookIn book) (lines file) n ++ last (bookIn book) (lines file)) × (k ≤ room + 1300) × (at₀ ≤ at) × (0 < k → at₀ < at) × (length places ≡ length places₀) × (length kinds ≡ 256) × (length slots ≡ SLOTS) × (length stamps ≡ ROOM)
+    Scan (bookIn book) file at n state kinds slots × Parted (breaksBy (bookIn book) (lines file)) before places₀ places k (from (bookIn book) (lines file) n ++ last (bookIn book) (lines file)) × (k ≤ room + LINE-MOST) × (at₀ ≤ at) × (0 < k → at₀ < at) × (length places ≡ length places₀) × (length kinds ≡ 256) × (length slots ≡ SLOTS) × (length stamps ≡ ROOM)
 
 abbrev μ-loop : tie.MeasureT-loop
 μ-loop places₀ room book file flags kinds₀ slots₀ stamps₀ before state₀ at₀ n₀ k₀ places kinds slots stamps state at n k = length file - at
 
 abbrev start : tie.At-loop Inv-loop μ-loop → tie.Start Inv-loop μ-loop
-start l = l .before .before .before .before .before .before .before .before
+start l = l .before .before .before .before .before .before .before
 
 -- the count of what was put stays far below 32 bits
-counts : (l : tie.At-loop Inv-loop μ-loop) → l .loop .k ≤ 671088645
+counts : (l : tie.At-loop Inv-loop μ-loop) → l .loop .k ≤ FILE-MOST
 counts l = omega (arith, l .loop .inv .1 .most, breaks-bound _ (book-sized (start l .args .book .now)) (start l .args .file .now) (start l .pre .1 .1 .0))
 
 add-before : tie.Need-add-before Inv-loop μ-loop
 add-before c =
-    let s = c .before .before .before .before .before .before in
+    let s = c .before .before .before .before .before in
     let stand = s .args .stand in
-    let b : stand .before + stand .held ≤ 671088645 = omega (arith, s .pre .1 .1 .1 .0 .most, breaks-bound _ (book-sized (s .args .book .now)) (s .args .file .now) (s .pre .1 .1 .0)) in
+    let b : stand .before + stand .held ≤ FILE-MOST = omega (arith, s .pre .1 .1 .1 .0 .most, breaks-bound _ (book-sized (s .args .book .now)) (s .args .file .now) (s .pre .1 .1 .0)) in
     omega (arith, b)
 
 loop-holds : tie.Need-loop-holds Inv-loop μ-loop
 loop-holds c =
-    let s = c .before .before .before .before .before .before .before in
+    let s = c .before .before .before .before .before .before in
     let pre = s .pre in
     let midway = pre .1 .1 .1 .0 in
-    (midway .scan, parted-start (s .args .places .now) (midway .most) (midway .left), omega arith, omega arith, (λ h. omega arith), refl, pre .1 .1 .1 .1 .1 .0, pre .1 .1 .1 .1 .1 .1 .0, pre .1 .1 .1 .1 .1 .1 .1)
+    (midway .scan, parted-start (s .args .places .now) (midway .most) (midway .left), omega arith, omega arith, (λ h. omega arith), refl, pre .1 .1 .1 .1 .1 .0, pre .1 .1 .1 .1 .1 .1, length-replicate {A = ℕ} ROOM 0)
 
 returns : tie.Need-returns Inv-loop μ-loop
 returns c =
@@ -74,7 +75,7 @@ judge-line-requires c κs =
 
 loop-again : tie.Need-loop-again Inv-loop μ-loop
 loop-again c =
-    let at-judge = c .before .before .before .before .before .before .before in
+    let at-judge = c .before .before .before .before .before .before in
     let at-line = at-judge .before .before .before .before .before .before in
     let l = at-line .before .before .before in
     let a = start l .args in
@@ -118,10 +119,10 @@ judge-part-spec =
     loop-holds
     (λ c. search needs)
     (λ c. search needs)
-    (λ c. search needs)
     returns
     (λ c κs. search needs)
     add-n
+    (λ c. search needs)
     (λ c. search needs)
     (λ c. search needs)
     (λ c. search needs)
@@ -130,7 +131,6 @@ judge-part-spec =
     loop-again
     add-judge-end
     judge-end-requires
-    (λ c. search needs)
     (λ c. search needs)
     (λ c. search needs)
     returns-2)
