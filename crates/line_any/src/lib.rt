@@ -125,7 +125,7 @@ pub fn judge_line(
                 state.width,
                 kinds,
             );
-            let next = after_row(state);
+            let next = after_row(state, r);
             Step {
                 line: tag.line,
                 count: k,

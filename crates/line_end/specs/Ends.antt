@@ -9,9 +9,15 @@ use Rattle.book.specs.Book.{SECTIONS, SLOTS}
 use Rattle.book_ids.specs.Ids.{ASSAYS, Flags}
 use Rattle.rules.specs.Breaks.{Break, breakAt, when}
 use Rattle.scan.specs.Machine.{Seen, isMarked}
+use Rattle.scan.specs.declared.state.State.{State}
+use Rattle.book_facts.specs.declared.Facts.{Facts}
 use Rattle.line_end.specs.declared.Told.{Told}
 
--- what was found of the file, of which the facts are told
+-- what was found of the file
+abbrev pub found : List Bool → List (List Bool) → Facts → State → Seen
+found slots flags facts state = record { slots = slots; flags = flags; mode = facts .mode; typed = facts .typed; present = state .present }
+
+-- the same, of which the last three are told
 abbrev pub seen : List Bool → List (List Bool) → Told → Seen
 seen slots flags told = record { slots = slots; flags = flags; mode = told .mode; typed = told .typed; present = told .present }
 

@@ -5,28 +5,33 @@ use book::demands::ONCE;
 use book::demands::count_demands;
 use book::demands::nth_demand;
 use book::slots::start_of;
+use book_facts::Facts;
 use scan::places::both;
 use scan::places::either;
 use scan::places::put_if;
+use scan::state::State;
 use value_references::INDICES;
 ghost use mathlib.Core.Path.{_≡_};
 ghost use mathlib.Core.List.{[]};
 ghost use Prim.Native.Nat.{_+_, _≤_, _<_};
 ghost use lib.ListN.{length, getD};
-ghost use Rattle.book.specs.Book.{noDemand, wantsOf, upFrom};
+ghost use Rattle.book.specs.Book.{SLOTS, noDemand, wantsOf, upFrom};
 ghost use Rattle.book.specs.Text.{bookIn, IsBook};
 ghost use Rattle.book_ids.specs.Ids.{Flags};
 ghost use Rattle.rules.specs.Rules.{asks};
 ghost use Rattle.scan.specs.Places.{CEILING, END-MOST, lent, Puts};
 ghost use Rattle.scan.specs.Machine.{isMarked, wantBreaks, endBreaks};
-ghost use Rattle.line_end.specs.Ends.{seen, Whole, idBreaks};
+ghost use Rattle.line_end.specs.Ends.{seen, Whole, found, idBreaks};
+
+// The family of assays.
+const ASSAYS: usize = 1;
 
 // The rule that a demand breaks.
 const RULE: u32 = 21;
 
 // What decides whether a demand is asked of a file: the letters of its mode and type, 0 for none, whether it declares an assay, and the sections that are
 // present, with 0 among them.
-pub struct Told {
+struct Told {
     pub mode: u8,
     pub typed: u8,
     pub assay: bool,
@@ -34,7 +39,7 @@ pub struct Told {
 }
 
 // Whether any flag or slot is marked, from one up to another.
-pub fn any_marked(slots: &[bool], from: usize, to: usize) -> bool
+fn any_marked(slots: &[bool], from: usize, to: usize) -> bool
     requires { ⌜ (from ≤ to) × (to ≤ length (now slots)) ⌝ }
     ensures { λ r. ⌜ r ≡ isMarked (now (slots .entry)) from to ⌝ }
 {
@@ -140,8 +145,8 @@ fn judge_demand(
     put_if(places, count, lacking, RULE, line_no, d.cell)
 }
 
-// What of the demanded metadata is absent, at the line after the last.
-pub fn judge_end(
+// What of the demanded metadata is absent, demand by demand.
+fn judge_demands(
     places: &mut [u32],
     count: u32,
     book: &[u8],
@@ -163,4 +168,34 @@ pub fn judge_end(
         k += 1;
     }
     c
+}
+
+// What of the demanded metadata is absent, at the line after the last: by the slots of the keys that came, the ids that are declared, the file's facts and the
+// sections that are present.
+pub fn judge_end(
+    places: &mut [u32],
+    count: u32,
+    book: &[u8],
+    line_no: u32,
+    slots: &[bool],
+    flags: &[[bool; 64]; 4],
+    facts: Facts,
+    state: State,
+) -> u32
+    requires { ⌜ IsBook (now book) ⌝ }
+    requires { ⌜ length (now slots) ≡ SLOTS ⌝ }
+    requires { ⌜ Flags (now flags) ⌝ }
+    requires { ⌜ count + END-MOST ≤ CEILING ⌝ }
+    ensures { λ r. ⌜ Puts (endBreaks (bookIn (now (book .entry))) (found (now (slots .entry)) (now (flags .entry)) facts state) «line_no») END-MOST (lent (now (places .entry)) count) (lent (now (places .exit)) r) ⌝ }
+{
+    let assays = flags[ASSAYS];
+    let assay = any_marked(&assays, 0, INDICES);
+    let present = state.present;
+    let told = Told {
+        mode: facts.mode,
+        typed: facts.typed,
+        assay,
+        present,
+    };
+    judge_demands(places, count, book, line_no, slots, flags, told)
 }

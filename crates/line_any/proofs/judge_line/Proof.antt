@@ -12,7 +12,7 @@ use Rattle.scan.proofs.Laws.Putting.{puts-none}
 use Rattle.line_any.proofs.Laws.Steps.{line-puts, follows-kept, follows-meta, follows-header}
 use Rattle.line_any.proofs.judge_line.Statement.{statement}
 use Rattle.line_any.proofs.judge_line.Tie as tie
-use Rattle.rules.proofs.Laws.Sorting.{metaIn, meta-sort, header-is, section-in}
+use Rattle.rules.proofs.Laws.Sorting.{metaIn, meta-sort, header-is, section-in, row-section}
 use Rattle.book.specs.Book.{Book, isSection}
 use Rattle.book.specs.Text.{bookIn}
 use Rattle.book.proofs.Laws.Sized.{book-sized}
@@ -96,6 +96,12 @@ returns-4 c =
     let keeps = at-judge .judge-head .ensures .1 in
     (line-puts (book w) (idsOf (a .flags .now)) (a .step .state) (a .kinds .now) (a .slots .now) (a .step .line) (a .line .now) (Header h) e (rw (w .control-of .ensures) at (at-judge .judge-head .ensures .0)) (omega arith), (rw (c .after-header .ensures, at-count .count-cells .ensures) (follows-header (book-sized _) h e (pre .1 .1 .1 .1 .1 .0) (keeps .columns) (keeps .kind-places)), keeps .stamp-places))
 
+after-row-requires : tie.Need-after-row-requires
+after-row-requires c κs =
+    let told = c .before .before .before .before .before .before in
+    let w = told .before .before .before in
+    row-section (book w) (book-sized _) (start w .args .line .now) (told .sort2 .given .0 .0) (of-sort w (told .sort2 .given .1)) .1
+
 returns-5 : tie.Need-returns-5
 returns-5 c =
     let at-judge = c .before .before .before in
@@ -126,7 +132,7 @@ judge-line-spec =
     after-header-requires
     (λ c. search needs)
     (λ c κs. search needs)
-    (λ c κs. search needs)
+    after-row-requires
     returns
     (λ c. search needs)
     returns-2
