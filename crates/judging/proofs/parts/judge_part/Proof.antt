@@ -22,14 +22,14 @@ use Rattle.book.specs.Text.{bookIn}
 use Rattle.book.proofs.Laws.Sized.{book-sized}
 
 abbrev Inv-loop : tie.InvT-loop
-Inv-loop places₀ room book file flags kinds₀ slots₀ stamps₀ before state₀ at₀ n₀ k₀ places kinds slots stamps state at n k =
+Inv-loop places₀ room book file flags kinds₀ slots₀ stamps₀ before facts state₀ at₀ n₀ k₀ places kinds slots stamps state at n k =
     Scan (bookIn book) file at n state kinds slots × Parted (breaksBy (bookIn book) (lines file)) before places₀ places k (from (bookIn book) (lines file) n ++ last (bookIn book) (lines file)) × (k ≤ room + LINE-MOST) × (at₀ ≤ at) × (0 < k → at₀ < at) × (length places ≡ length places₀) × (length kinds ≡ 256) × (length slots ≡ SLOTS) × (length stamps ≡ ROOM)
 
 abbrev μ-loop : tie.MeasureT-loop
-μ-loop places₀ room book file flags kinds₀ slots₀ stamps₀ before state₀ at₀ n₀ k₀ places kinds slots stamps state at n k = length file - at
+μ-loop places₀ room book file flags kinds₀ slots₀ stamps₀ before facts state₀ at₀ n₀ k₀ places kinds slots stamps state at n k = length file - at
 
 abbrev start : tie.At-loop Inv-loop μ-loop → tie.Start Inv-loop μ-loop
-start l = l .before .before .before .before .before .before .before
+start l = l .before .before .before .before .before .before .before .before
 
 -- the count of what was put stays far below 32 bits
 counts : (l : tie.At-loop Inv-loop μ-loop) → l .loop .k ≤ FILE-MOST
@@ -44,7 +44,7 @@ add-before c =
 
 loop-holds : tie.Need-loop-holds Inv-loop μ-loop
 loop-holds c =
-    let s = c .before .before .before .before .before .before in
+    let s = c .before .before .before .before .before .before .before in
     let pre = s .pre in
     let midway = pre .1 .1 .1 .0 in
     (midway .scan, parted-start (s .args .places .now) (midway .most) (midway .left), omega arith, omega arith, (λ h. omega arith), refl, pre .1 .1 .1 .1 .1 .0, pre .1 .1 .1 .1 .1 .1, length-replicate {A = ℕ} ROOM 0)
@@ -55,7 +55,7 @@ returns c =
     let inv = l .loop .inv in
     let room = start l .pre .0 in
     let p = inv .1 in
-    (record { before = refl; most = p .most; puts = p .puts; fits = omega arith; full = λ h. c .if1 .taken; further = λ h. inv .4 (omega (arith, room, c .if1 .taken)); all = λ h. absurd-bool (sym h) }, ((λ h. record { scan = inv .0; most = p .most; left = p .left }), (inv .6, inv .7)))
+    (record { before = refl; most = p .most; puts = p .puts; fits = omega arith; full = λ h. c .if1 .taken; further = λ h. inv .4 (omega (arith, room, c .if1 .taken)); all = λ h. absurd-bool (sym h) }, ((λ h. record { scan = inv .0; facts = start l .pre .1 .1 .1 .0 .facts; most = p .most; left = p .left }), (inv .6, inv .7)))
 
 add-n : tie.Need-add-n Inv-loop μ-loop
 add-n c =
@@ -96,7 +96,7 @@ add-judge-end c =
 judge-end-requires : tie.Need-judge-end-requires Inv-loop μ-loop
 judge-end-requires c κs =
     let l = c .before .before .before in
-    (start l .pre .1 .0, (l .loop .inv .7, omega (arith, counts l)))
+    (start l .pre .1 .0, (l .loop .inv .7, (start l .pre .1 .1 .1 .1 .0 .shape, omega (arith, counts l))))
 
 returns-2 : tie.Need-returns-2 Inv-loop μ-loop
 returns-2 c =
@@ -105,7 +105,8 @@ returns-2 c =
     let l = after .before in
     let inv = l .loop .inv in
     let puts = at-end .judge-end .ensures in
-    let e = end-left _ (inv .0) (after .loop-test .left) in
+    let pre = start l .pre in
+    let e = end-left _ (inv .0) (pre .1 .1 .1 .1 .0) (pre .1 .1 .1 .0 .facts) (after .loop-test .left) in
     let p = parted-next [] (inv .1) puts e in
     (record { before = refl; most = p .most; puts = p .puts; fits = omega (arith, puts .most, inv .2); full = λ h. absurd-bool h; further = λ h. absurd-bool h; all = λ h. parted-all [] (inv .1) puts e refl }, ((λ h. absurd-bool h), (inv .6, inv .7)))
 
