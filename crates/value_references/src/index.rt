@@ -3,7 +3,7 @@ use text_bytes::wide;
 ghost use mathlib.Core.Path.{_≡_};
 ghost use Prim.Native.Nat.{_+_, _≤_};
 ghost use lib.ListN.{length, getD, drop};
-ghost use Rattle.value_references.specs.Index.{digits, number, indexAt, capped};
+ghost use Rattle.value_references.specs.Index.{isDigit, digits, number, indexAt, capped};
 
 // The highest index.
 const MOST: usize = 64;
@@ -33,6 +33,16 @@ pub fn byte_at(s: &[u8], i: usize) -> usize
     ensures { λ r. ⌜ r ≡ getD (now (s .entry)) i 0 ⌝ }
 {
     if i < s.len() { wide(s[i]) } else { 0 }
+}
+
+// Whether a byte is `0` to `9`.
+pub fn is_digit(b: u8) -> bool
+    ensures { λ r. ⌜ r ≡ isDigit b ⌝ }
+{
+    if b < b'0' {
+        return false;
+    }
+    b <= b'9'
 }
 
 // The number, 65 for any that is over 64: so the digits of an index may go on as long as they like.

@@ -53,8 +53,11 @@ written-two v h = rw (le-ltb v 10 h)
 digit-yes : (x : ℕ) → 48 ≤ x → x ≤ 57 → isDigit x ≡ true
 digit-yes x h k = rw (le-leb 48 x h, le-leb x 57 k)
 
-digit-low : (x : ℕ) → x < 48 → isDigit x ≡ false
+pub digit-low : (x : ℕ) → x < 48 → isDigit x ≡ false
 digit-low x h = rw (lt-leb 48 x h)
+
+pub digit-else : (x : ℕ) → 48 ≤ x → leb x 57 ≡ isDigit x
+digit-else x h = rw (le-leb 48 x h)
 
 digit-high : (x : ℕ) → 57 < x → isDigit x ≡ false
 digit-high x h = rw (le-leb 48 x (omega arith), lt-leb x 57 h)
