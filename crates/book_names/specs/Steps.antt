@@ -1,11 +1,12 @@
 -- What the steps of the look-up answer: the contracts of private functions cite it, and those of public ones do not. Assumes nothing.
 use Prim.Native.Nat.{ℕ, _+_, _-_}
+use mathlib.Core.Path.{_≡_}
 use mathlib.Core.Bool.{Bool, true, false, cond, _&&_, _||_}
 use mathlib.Core.List.{[], _∷_}
-use lib.Dec.{eqb, leb}
+use lib.Dec.{eqb}
 use lib.ListN.{getD}
 use Rattle.text_bytes.specs.Bytes.{Bytes, SPACE}
-use Rattle.value_references.specs.Index.{isDigit}
+use Rattle.value_references.specs.Index.{isDigit, indexAt}
 use Rattle.value_references.specs.declared.index.Index.{Index}
 use Rattle.value_references.specs.declared.index.Index.the-variants.{Not, Bad, Is}
 use Rattle.value_references.specs.declared.index.Flaw.{Flaw}
@@ -29,6 +30,12 @@ abbrev pub flawIn : Index → Flaw
 flawIn Not = Form
 flawIn (Bad z w) = z
 flawIn (Is v w) = Form
+
+-- this was read at the front of s: the index v is taken, w bytes are passed over, and z is its flaw
+pub record Place (s : Bytes) (v w : ℕ) (z : Flaw) : Type 0 where
+  pub width : w ≡ widthIn (indexAt s)
+  pub taken : v ≡ takenIn (indexAt s)
+  pub flaw : z ≡ flawIn (indexAt s)
 
 -- what a name is that has the flaw z, Form for none, in front of a rest that is m
 abbrev pub marked : Flaw → Match → Match
@@ -59,8 +66,8 @@ counts true x = cond (isDigit x) 0 (cond (eqb x CLOSE) 2 1)
 
 -- whether digits that come now stand behind `[`
 abbrev pub opens : Bool → ℕ → Bool
-opens open x = (open && isDigit x) || eqb x OPEN
+opens inside x = eqb x OPEN || (inside && isDigit x)
 
 unfoldable pub extent : Bool → Bytes → ℕ
-extent open [] = 0
-extent open (x ∷ s) = counts open x + extent (opens open x) s
+extent inside [] = 0
+extent inside (x ∷ s) = counts inside x + extent (opens inside x) s

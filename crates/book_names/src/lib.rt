@@ -6,6 +6,7 @@ use text_bytes::SPACE;
 use text_bytes::wide;
 use value_references::index::Flaw;
 use value_references::index::Index;
+use value_references::index::is_digit;
 use value_references::index::read_index;
 ghost use mathlib.Core.Path.{_≡_};
 ghost use mathlib.Core.List.{[]};
@@ -13,9 +14,8 @@ ghost use mathlib.Core.Bool.{true, false};
 ghost use Prim.Native.Nat.{_≤_, _<_};
 ghost use lib.ListN.{length, getD, drop};
 ghost use Rattle.text_bytes.specs.Bytes.{SPACE as space};
-ghost use Rattle.value_references.specs.Index.{indexAt, isDigit};
 ghost use Rattle.book_names.specs.Names.{pieces, fits as fitsIn, lookupIn, sooner as soonerOf};
-ghost use Rattle.book_names.specs.Steps.{widthIn, takenIn, flawIn, marked, flawOf, mayFit, mayEnd, counts as countsOf, opens as opensBy, extent as extentFrom};
+ghost use Rattle.book_names.specs.Steps.{Place, marked, flawOf, mayFit, mayEnd, counts as countsOf, opens as opensBy, extent as extentFrom};
 ghost use Rattle.book_names.specs.Table.{entries};
 ghost use Rattle.book_names.specs.Links.{Linked};
 ghost use Rattle.book_names.specs.declared.Match.the-variants.{Differs};
@@ -58,9 +58,7 @@ struct Bracket {
 // What stands in the name from `b` on, where the pattern has a place.
 fn read_place(s: &[u8], b: usize) -> Bracket
     requires { ⌜ b ≤ length (now s) ⌝ }
-    ensures { λ r. ⌜ r .width ≡ widthIn (indexAt (drop b (now (s .entry)))) ⌝ }
-    ensures { λ r. ⌜ r .taken ≡ takenIn (indexAt (drop b (now (s .entry)))) ⌝ }
-    ensures { λ r. ⌜ r .flaw ≡ flawIn (indexAt (drop b (now (s .entry)))) ⌝ }
+    ensures { λ r. ⌜ Place (drop b (now (s .entry))) (r .taken) (r .width) (r .flaw) ⌝ }
 {
     let found = read_index(&s[b..]);
     match found {
@@ -124,12 +122,13 @@ fn fits(p: &[u8], from: usize, s: &[u8]) -> Match
         if x == b'[' {
             let read = read_place(s, b);
             let width = read.width;
+            let bad = read.flaw;
             if width == 0 {
                 return Match::Differs;
             }
             a += PLACE;
             b += width;
-            flaw = sooner(flaw, read.flaw);
+            flaw = sooner(flaw, bad);
             if i == 0 {
                 i = read.taken;
             } else if j == 0 {
@@ -192,21 +191,11 @@ fn may_end(row: &[u8], end: usize, last: u8) -> bool
     row[end - PLACE] == b'['
 }
 
-// Whether a byte is a digit.
-fn is_digit(x: u8) -> bool
-    ensures { λ r. ⌜ r ≡ isDigit x ⌝ }
+// How many bytes the byte x of a name counts for in the text of its form, `inside` where it stands behind `[` and digits.
+fn counts(inside: bool, x: u8) -> usize
+    ensures { λ r. ⌜ r ≡ countsOf inside x ⌝ }
 {
-    if x < b'0' {
-        return false;
-    }
-    x <= b'9'
-}
-
-// How many bytes the byte x of a name counts for in the text of its form, `open` where it stands behind `[` and digits.
-fn counts(open: bool, x: u8) -> usize
-    ensures { λ r. ⌜ r ≡ countsOf open x ⌝ }
-{
-    if !open {
+    if !inside {
         return 1;
     }
     if is_digit(x) {
@@ -216,13 +205,13 @@ fn counts(open: bool, x: u8) -> usize
 }
 
 // Whether the byte after x stands behind `[` and digits.
-fn opens(open: bool, x: u8) -> bool
-    ensures { λ r. ⌜ r ≡ opensBy open x ⌝ }
+fn opens(inside: bool, x: u8) -> bool
+    ensures { λ r. ⌜ r ≡ opensBy inside x ⌝ }
 {
     if x == b'[' {
         return true;
     }
-    if !open {
+    if !inside {
         return false;
     }
     is_digit(x)
@@ -234,11 +223,11 @@ fn extent(name: &[u8]) -> usize
 {
     let mut k = 0;
     let mut n = 0;
-    let mut open = false;
+    let mut inside = false;
     while k < name.len() {
         let x = name[k];
-        n += counts(open, x);
-        open = opens(open, x);
+        n += counts(inside, x);
+        inside = opens(inside, x);
         k += 1;
     }
     n

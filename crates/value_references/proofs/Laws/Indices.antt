@@ -264,7 +264,7 @@ module _ (s : List ℕ) where
           index-is n is h = rw (brackets, ne-eqb (getD s 1 0) 48 first, ← is, ← ends, le-ltb 64 n h)
 
 -- WHAT IS READ is a bracket of digits, and an index as it is written or bad for a reason
-pub Holds : List ℕ → Index → Type 0
+unfoldable pub Holds : List ℕ → Index → Type 0
 Holds s Not = Unit
 Holds s (Bad z w) = Bracket s w × (z ≡ Form → ⊥)
 Holds s (Is v w) = Bracket s w × Read s v w
