@@ -31,7 +31,7 @@ sameKey l m = isField m && same (cell 2 l) (cell 2 m)
 
 -- the value is not of its key's kind
 abbrev pub isWrong : Found → Bytes → Bool
-isWrong Unknown v = false
+isWrong (Unknown w) v = false
 isWrong (Known e k f i j) v = not (ofKind k f v)
 
 -- the indices of the ids that a value names: only references name any
@@ -44,7 +44,7 @@ isUndeclared b file f i = not (any (declares b f i) file)
 
 -- the value is of its kind, and names an undeclared id
 abbrev pub namesUndeclared : Book → List Bytes → Found → Bytes → Bool
-namesUndeclared b file Unknown v = false
+namesUndeclared b file (Unknown w) v = false
 namesUndeclared b file (Known e k f i j) v = ofKind k f v && any (isUndeclared b file (familyNumber f)) (namedIn k f v)
 
 -- HEADERS AND ROWS
@@ -80,7 +80,7 @@ abbrev pub lastIndex : ℕ → ℕ → ℕ
 lastIndex i j = cond (eqb j 0) i j
 
 abbrev pub columnUndeclared : Book → List Bytes → Found → Bool
-columnUndeclared b file Unknown = false
+columnUndeclared b file (Unknown w) = false
 columnUndeclared b file (Known e k f i j) = not (eqb f NONE) && isUndeclared b file (familyNumber f) (lastIndex i j)
 
 -- a required column stands among the names
@@ -113,7 +113,7 @@ isAsWide b p = eqb (width (p .here)) (width (nearest b (p .above)))
 
 -- the kind of a column's cells: those under an unknown column are text
 abbrev pub kindIn : Found → ℕ
-kindIn Unknown = TEXT
+kindIn (Unknown w) = TEXT
 kindIn (Known e k f i j) = k
 
 abbrev pub columnKind : Book → Spot → ℕ → ℕ
@@ -148,7 +148,7 @@ rules b =
 
 -- a key of this form, as the table of keys writes it
 abbrev pub isForm : Book → String → Found → Bool
-isForm b form Unknown = false
+isForm b form (Unknown w) = false
 isForm b form (Known e k f i j) = hasForm form (getD (b .keys) e "")
 
 -- an MTD line of three cells with such a key

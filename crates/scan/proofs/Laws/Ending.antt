@@ -195,7 +195,7 @@ module _ (b : Book) (sized : Sized b) (form : String) (one : howMany (hasForm fo
 
   form-slot : (m : Bytes) (r : Found) → keyFound b m ≡ r → any (λ s. isSlot b s r) (upFrom (many es E inside) (from es E inside)) ≡ isForm b form r
   unfolding keyOf
-  form-slot m Unknown q = any-false (upFrom (many es E inside) (from es E inside))
+  form-slot m (Unknown w) q = any-false (upFrom (many es E inside) (from es E inside))
   form-slot m (Known e k f i j) q =
       let o = known-of es (cell 2 m) e k f i j q in
       entry-range es E inside e i j o ∙ sym (one-entry form (b .keys) e one (omega (arith, o .inside, keys-many)))
