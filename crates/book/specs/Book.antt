@@ -8,6 +8,7 @@ use lib.ListN.{length, getD, drop}
 use lib.Dec.{eqb, leb, ltb}
 use Rattle.text_bytes.specs.Bytes.{Bytes, bytes, same, is, begins}
 use Rattle.book_names.specs.Names.{Entry, entryOf, lookupIn}
+use Rattle.value_references.specs.declared.index.Flaw.the-variants.{Form}
 use Rattle.book_names.specs.declared.Found.{Found}
 use Rattle.book_names.specs.declared.Found.the-variants.{Unknown, Known}
 use Rattle.value_references.specs.Index.{MOST}
@@ -162,7 +163,7 @@ isOpt name = begins (bytes "opt_") name
 
 -- an `opt_` column: text, and names no id; it has a byte more than `opt_`
 unfoldable pub optOf : Bytes → Found
-optOf name = cond (ltb 4 (length name)) (Known OPT TEXT NONE 0 0) Unknown
+optOf name = cond (ltb 4 (length name)) (Known OPT TEXT NONE 0 0) (Unknown Form)
 
 abbrev pub columnEntries : Book → ℕ → List Entry
 columnEntries b s = entriesOf ((sectionOf b s) .columns)

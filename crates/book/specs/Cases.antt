@@ -9,6 +9,7 @@ use Rattle.book_names.specs.Names.{piecesFrom, entryOf, fits, firstOf}
 use Rattle.book.specs.Keys.{keys}
 use Rattle.book.specs.Columns.{proteinColumns, peptideColumns, psmColumns, moleculeColumns, proteinRequired, peptideRequired, psmRequired, moleculeRequired}
 use Rattle.book.specs.Book.{isSection, sectionOf, keyOf, isOpt, optOf, columnOf, mzTab}
+use Rattle.value_references.specs.declared.index.Flaw.the-variants.{Form, Zero, Over}
 use Rattle.book_names.specs.declared.Found.{Found}
 use Rattle.book_names.specs.declared.Found.the-variants.{Unknown, Known}
 
@@ -19,7 +20,7 @@ abbrev column : ℕ → String → Found
 column s name = columnOf mzTab s (bytes name)
 
 abbrev entryNumber : Found → ℕ
-entryNumber Unknown = 999
+entryNumber (Unknown w) = 999
 entryNumber (Known e k f i j) = e
 
 -- a key with no index, one and two; its kind is text, its value names no id (84 is `T`, 45 `-`)
@@ -32,10 +33,32 @@ reference-key : key "assay[2]-sample_ref" ≡ Known 57 114 83 2 0
 unfolding mzTab keyOf keys bytes entryOf piecesFrom firstOf fits indexAt bracketed digits number
 reference-key = refl
 
--- a wrong index, a missing one, no name and a name that goes on are unknown
-keys-unknown : (key "study_variable[65]-sample_refs" ≡ Unknown) × (key "uri[01]" ≡ Unknown) × (key "uri" ≡ Unknown) × (key "" ≡ Unknown) × (key "title " ≡ Unknown)
+-- an index that is missing, no name and a name that goes on are unknown for their form
+keys-unknown : (key "uri" ≡ Unknown Form) × (key "" ≡ Unknown Form) × (key "title " ≡ Unknown Form)
 unfolding mzTab keyOf keys bytes entryOf piecesFrom firstOf fits indexAt bracketed digits number
-keys-unknown = (refl, refl, refl, refl, refl)
+keys-unknown = (refl, refl, refl)
+
+-- an index that is zero or begins with zero
+keys-zero : (key "sample[0]-description" ≡ Unknown Zero) × (key "sample[00]-description" ≡ Unknown Zero) × (key "sample[01]-description" ≡ Unknown Zero) × (key "uri[065]" ≡ Unknown Zero)
+unfolding mzTab keyOf keys bytes entryOf piecesFrom firstOf fits indexAt bracketed digits number
+keys-zero = (refl, refl, refl, refl)
+
+-- an index over 64, however long
+keys-over : (key "sample[65]-description" ≡ Unknown Over) × (key "sample[100000000000000000000]-description" ≡ Unknown Over) × (key "study_variable[65]-sample_refs" ≡ Unknown Over)
+unfolding mzTab keyOf keys bytes entryOf piecesFrom firstOf fits indexAt bracketed digits number
+keys-over = (refl, refl, refl)
+
+-- the leftmost bad index decides
+keys-leftmost : (key "assay[0]-quantification_mod[65]" ≡ Unknown Zero) × (key "assay[65]-quantification_mod[0]" ≡ Unknown Over)
+    × (key "assay[1]-quantification_mod[0]" ≡ Unknown Zero) × (key "assay[65]-quantification_mod[2]" ≡ Unknown Over)
+unfolding mzTab keyOf keys bytes entryOf piecesFrom firstOf fits indexAt bracketed digits number
+keys-leftmost = (refl, refl, refl, refl)
+
+-- brackets that are empty or hold more than digits are no index, and a bad index makes no form known
+keys-no-index : (key "sample[]-description" ≡ Unknown Form) × (key "sample[1a]-description" ≡ Unknown Form) × (key "sample[-1]-description" ≡ Unknown Form)
+    × (key "sample[ 1]-description" ≡ Unknown Form) × (key "sample[01]-descriptio" ≡ Unknown Form)
+unfolding mzTab keyOf keys bytes entryOf piecesFrom firstOf fits indexAt bracketed digits number
+keys-no-index = (refl, refl, refl, refl, refl)
 
 -- a column that names run 7, its last index (68 is `D`, 82 `R`); reliability is text in section 4 (84 is `T`) and not in section 2 (82 is `R`)
 columns-known : (column 1 "search_engine_score[2]_ms_run[7]" ≡ Known 16 68 82 2 7) × (column 4 "reliability" ≡ Known 11 84 45 0 0) × (column 2 "reliability" ≡ Known 8 82 45 0 0)
@@ -43,9 +66,15 @@ unfolding mzTab isSection sectionOf columnOf proteinColumns peptideColumns psmCo
 columns-known = (refl, refl, refl)
 
 -- another section's column is unknown, `opt_` alone too; with a byte more it is known everywhere
-columns-other : (column 3 "taxid" ≡ Unknown) × (column 3 "opt_" ≡ Unknown) × (column 3 "opt_x" ≡ Known 255 84 45 0 0) × (column 5 "charge" ≡ Unknown)
+columns-other : (column 3 "taxid" ≡ Unknown Form) × (column 3 "opt_" ≡ Unknown Form) × (column 3 "opt_x" ≡ Known 255 84 45 0 0) × (column 5 "charge" ≡ Unknown Form)
 unfolding mzTab isSection sectionOf columnOf proteinColumns peptideColumns psmColumns moleculeColumns isOpt optOf begins bytes entryOf piecesFrom firstOf fits indexAt bracketed digits number
 columns-other = (refl, refl, refl, refl)
+
+-- a column with a bad index; `opt_` columns have none
+columns-flawed : (column 1 "num_psms_ms_run[0]" ≡ Unknown Zero) × (column 1 "search_engine_score[65]_ms_run[0]" ≡ Unknown Over) × (column 3 "search_engine_score[01]" ≡ Unknown Zero)
+    × (column 3 "search_engine_score[01]_ms_run[1]" ≡ Unknown Form) × (column 1 "opt_assay[0]" ≡ Known 255 84 45 0 0)
+unfolding mzTab isSection sectionOf columnOf proteinColumns peptideColumns psmColumns moleculeColumns isOpt optOf begins bytes entryOf piecesFrom firstOf fits indexAt bracketed digits number
+columns-flawed = (refl, refl, refl, refl, refl)
 
 -- every required column is known in its section, at these entries
 required-known : (map (λ r. entryNumber (column 1 r)) proteinRequired ≡ 0 ∷ 1 ∷ 3 ∷ 21 ∷ []) × (map (λ r. entryNumber (column 2 r)) peptideRequired ≡ 5 ∷ 0 ∷ 7 ∷ 10 ∷ [])

@@ -10,6 +10,7 @@ use book_names::Found;
 use book_names::lookup;
 use text_bytes::begins_with;
 use text_bytes::wide;
+use value_references::index::Flaw;
 ghost use mathlib.Core.Path.{_≡_};
 ghost use Prim.Native.Nat.{_+_, _*_, _<_};
 ghost use lib.ListN.{length};
@@ -70,11 +71,11 @@ fn find_column(book: &[u8], section: usize, name: &[u8]) -> Found
 {
     let first = wide(book[0]);
     if section < first {
-        return Found::Unknown;
+        return Found::Unknown(Flaw::Form);
     }
     let k = section - first;
     if wide(book[1]) <= k {
-        return Found::Unknown;
+        return Found::Unknown(Flaw::Form);
     }
     search(book, k + 1, name)
 }
@@ -85,11 +86,11 @@ pub fn column(book: &[u8], section: usize, name: &[u8]) -> Found
     ensures { λ r. ⌜ r ≡ columnOf (bookIn (now (book .entry))) section (now (name .entry)) ⌝ }
 {
     if name.len() < SHORTEST {
-        return Found::Unknown;
+        return Found::Unknown(Flaw::Form);
     }
     if is_opt(name) {
         if name.len() <= 4 {
-            return Found::Unknown;
+            return Found::Unknown(Flaw::Form);
         }
         return Found::Known {
             entry: OPT,

@@ -10,7 +10,7 @@ use Rattle.text.specs.Lines.{lines, isField, keyCell}
 use Rattle.value_references.specs.Index.{written, indexAt}
 use Rattle.value_references.specs.References.{families, family}
 use Rattle.value_references.specs.declared.index.Index.{Index}
-use Rattle.value_references.specs.declared.index.Index.the-variants.{Not, Is}
+use Rattle.value_references.specs.declared.index.Index.the-variants.{Not, Bad, Is}
 use Rattle.book_names.specs.Names.{isKnown}
 use Rattle.book.specs.Book.{Book, keyOf}
 use Rattle.book_ids.specs.declared.Id.{Id}
@@ -48,6 +48,7 @@ pub record Declared (b : Book) (t : List (List Bool)) (file : Bytes) : Type 0 wh
 
 abbrev pub valueOf : Index → ℕ
 valueOf Not = 0
+valueOf (Bad z w) = 0
 valueOf (Is v w) = v
 
 -- the index that stands after a word at the front of a name, 0 for none

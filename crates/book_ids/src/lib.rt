@@ -26,6 +26,7 @@ fn index_after(word: &[u8], name: &[u8]) -> usize
         let a = word.len();
         return match read_index(&name[a..]) {
             Index::Not => 0,
+            Index::Bad(_, _) => 0,
             Index::Is(v, _) => v,
         };
     }
@@ -65,7 +66,7 @@ pub fn key_id(book: &[u8], name: &[u8]) -> Id
         return Id::Nothing;
     }
     match key(book, name) {
-        Found::Unknown => Id::Nothing,
+        Found::Unknown(_) => Id::Nothing,
         Found::Known {
             entry: _,
             kind: _,

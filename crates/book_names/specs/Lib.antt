@@ -1,3 +1,4 @@
 pub mod Names
 pub mod Table
 pub mod Links
+pub mod Steps

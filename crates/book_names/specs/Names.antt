@@ -1,15 +1,17 @@
 -- The names that a line of a table stands for, and the look-up of a name in a table. Assumes nothing.
 use Prim.Native.Nat.{ℕ, zero, suc, _+_, _*_, _-_}
-use mathlib.Core.Bool.{Bool, true, false, cond, _&&_, _||_}
+use mathlib.Core.Bool.{Bool, true, false, cond}
 use mathlib.Core.List.{List, [], _∷_, _++_}
 use lib.Dec.{eqb}
 use lib.ListN.{getD, drop}
 use Rattle.text_bytes.specs.Bytes.{Bytes, SPACE}
 use Rattle.value_references.specs.Index.{MOST, written, indexAt}
 use Rattle.value_references.specs.declared.index.Index.{Index}
-use Rattle.value_references.specs.declared.index.Index.the-variants.{Not, Is}
+use Rattle.value_references.specs.declared.index.Index.the-variants.{Not, Bad, Is}
+use Rattle.value_references.specs.declared.index.Flaw.{Flaw}
+use Rattle.value_references.specs.declared.index.Flaw.the-variants.{Form, Zero, Over}
 use Rattle.book_names.specs.declared.Match.{Match}
-use Rattle.book_names.specs.declared.Match.the-variants.{Differs, Fits}
+use Rattle.book_names.specs.declared.Match.the-variants.{Differs, Misses, Fits}
 use Rattle.book_names.specs.declared.Found.{Found}
 use Rattle.book_names.specs.declared.Found.the-variants.{Unknown, Known}
 
@@ -61,8 +63,16 @@ filled [] i j = []
 filled (byte p ∷ ps) i j = p ∷ filled ps i j
 filled (place ∷ ps) i j = written i ++ filled ps j 0
 
+-- what a name with a bad index is that would be m with a good one in its place: m tells of the indices after it, so the leftmost decides
+abbrev pub missing : Flaw → Match → Match
+missing z Differs = Differs
+missing z (Misses w) = Misses z
+missing z (Fits i j) = Misses z
+
+-- a bad index is passed over as if it were 1
 abbrev pub onIndex : Index → (ℕ → ℕ → Match) → Match
 onIndex Not f = Differs
+onIndex (Bad z w) f = missing z (f 1 w)
 onIndex (Is v w) f = f v w
 
 -- the indices that a name gives to the places of a pattern, at most two; i and j are those read before, 0 for none
@@ -79,30 +89,34 @@ fits (place ∷ ps) s i j =
 
 -- whether a table has a name
 abbrev pub isKnown : Found → Bool
-isKnown Unknown = false
+isKnown (Unknown w) = false
 isKnown (Known e k f i j) = true
+
+-- the first of two flaws, Form for none
+abbrev pub sooner : Flaw → Flaw → Flaw
+sooner Form w = w
+sooner Zero w = Zero
+sooner Over w = Over
+
+-- what is said of a name that misses an entry with the flaw z, where those after it say d: known stays known
+abbrev pub misses : Flaw → Found → Found
+misses z (Unknown w) = Unknown (sooner z w)
+misses z (Known e k f i j) = Known e k f i j
 
 abbrev pub onMatch : Match → Found → (ℕ → ℕ → Found) → Found
 onMatch Differs d f = d
+onMatch (Misses z) d f = misses z d
 onMatch (Fits i j) d f = f i j
 
--- the first entry whose pattern the name fits; e numbers the entries
+-- the first entry whose pattern the name fits, e numbers the entries; where there is none, the flaw for which it misses the first that it would fit but for its indices
 unfoldable pub firstOf : ℕ → List Entry → Bytes → Found
-firstOf e [] name = Unknown
+firstOf e [] name = Unknown Form
 firstOf e (x ∷ xs) name =
     let other = firstOf (e + 1) xs name in
     onMatch (fits (formOf x) name 0 0) other (λ i j. Known e (kindOf x) (familyOf x) i j)
 
 abbrev pub lookupIn : List Entry → Bytes → Found
 lookupIn entries name = firstOf 0 entries name
-
--- whether a pattern whose second byte is q may fit a name that begins with x and y, as the code asks before it looks closer
-unfoldable pub mayFit : ℕ → ℕ → ℕ → Bool
-mayFit q x y = eqb q y || (eqb q OPEN || (eqb q SPACE || (eqb x OPEN || eqb x SPACE)))
-
--- whether a pattern may end before q in a row where the name's last byte is z, as the code asks too: a space stands at q, and before it z, or a place where z is `]`
-unfoldable pub mayEnd : Bytes → ℕ → ℕ → Bool
-mayEnd row q z = eqb (getD row q 0) SPACE && (eqb (getD row (q - 1) 0) z || (eqb z CLOSE && eqb (getD row (q - 3) 0) OPEN))
 
 -- SLOTS: the known names of a table are numbered without a gap, entry by entry
 

@@ -4,15 +4,18 @@ pub mod links;
 use crate::links::HEADS;
 use text_bytes::SPACE;
 use text_bytes::wide;
+use value_references::index::Flaw;
 use value_references::index::Index;
+use value_references::index::is_digit;
 use value_references::index::read_index;
 ghost use mathlib.Core.Path.{_≡_};
 ghost use mathlib.Core.List.{[]};
-ghost use mathlib.Core.Bool.{true};
+ghost use mathlib.Core.Bool.{true, false};
 ghost use Prim.Native.Nat.{_≤_, _<_};
 ghost use lib.ListN.{length, getD, drop};
 ghost use Rattle.text_bytes.specs.Bytes.{SPACE as space};
-ghost use Rattle.book_names.specs.Names.{pieces, fits as fitsIn, lookupIn, mayFit, mayEnd};
+ghost use Rattle.book_names.specs.Names.{pieces, fits as fitsIn, lookupIn, sooner as soonerOf};
+ghost use Rattle.book_names.specs.Steps.{Place, marked, flawOf, mayFit, mayEnd, counts as countsOf, opens as opensBy, extent as extentFrom};
 ghost use Rattle.book_names.specs.Table.{entries};
 ghost use Rattle.book_names.specs.Links.{Linked};
 ghost use Rattle.book_names.specs.declared.Match.the-variants.{Differs};
@@ -26,15 +29,16 @@ const NAME: usize = 3;
 // The bytes of a place for an index, `[n]`.
 const PLACE: usize = 3;
 
-// Whether a name fits a pattern, with the indices that it has there, 0 for none.
+// Whether a name fits a pattern: with the indices that it has there, 0 for none; but for its indices, with the flaw of the leftmost that is bad; or not at all.
 pub enum Match {
     Differs,
+    Misses(Flaw),
     Fits(usize, usize),
 }
 
-// What a table says of a name: its entry there, the letters of its kind and family, and the name's indices, 0 for none.
+// What a table says of a name: why it is unknown; or its entry there, the letters of its kind and family, and the name's indices, 0 for none.
 pub enum Found {
-    Unknown,
+    Unknown(Flaw),
     Known {
         entry: usize,
         kind: u8,
@@ -44,17 +48,64 @@ pub enum Found {
     },
 }
 
-// Where the pattern has ended: a name that goes on differs.
-fn ended(s: &[u8], b: usize, i: usize, j: usize) -> Match
-    ensures { λ r. ⌜ r ≡ fitsIn [] (drop b (now (s .entry))) i j ⌝ }
+// What stands where a pattern has a place: its bytes, 0 for no index; the index that is taken for it, 1 for a bad one; and its flaw, `Form` for none.
+struct Bracket {
+    width: usize,
+    taken: usize,
+    flaw: Flaw,
+}
+
+// What stands in the name from `b` on, where the pattern has a place.
+fn read_place(s: &[u8], b: usize) -> Bracket
+    requires { ⌜ b ≤ length (now s) ⌝ }
+    ensures { λ r. ⌜ Place (drop b (now (s .entry))) (r .taken) (r .width) (r .flaw) ⌝ }
+{
+    let found = read_index(&s[b..]);
+    match found {
+        Index::Not => Bracket {
+            width: 0,
+            taken: 0,
+            flaw: Flaw::Form,
+        },
+        Index::Bad(flaw, width) => Bracket {
+            width,
+            taken: 1,
+            flaw,
+        },
+        Index::Is(taken, width) => Bracket {
+            width,
+            taken,
+            flaw: Flaw::Form,
+        },
+    }
+}
+
+// The first of two flaws, `Form` for none.
+fn sooner(first: Flaw, second: Flaw) -> Flaw
+    ensures { λ r. ⌜ r ≡ soonerOf first second ⌝ }
+{
+    match first {
+        Flaw::Form => second,
+        Flaw::Zero => Flaw::Zero,
+        Flaw::Over => Flaw::Over,
+    }
+}
+
+// Where the pattern has ended: a name that goes on differs, and one that ends there fits, or misses where an index had a flaw.
+fn ended(s: &[u8], b: usize, i: usize, j: usize, flaw: Flaw) -> Match
+    ensures { λ r. ⌜ r ≡ marked flaw (fitsIn [] (drop b (now (s .entry))) i j) ⌝ }
 {
     if b < s.len() {
         return Match::Differs;
     }
-    Match::Fits(i, j)
+    match flaw {
+        Flaw::Form => Match::Fits(i, j),
+        Flaw::Zero => Match::Misses(Flaw::Zero),
+        Flaw::Over => Match::Misses(Flaw::Over),
+    }
 }
 
-// Whether `s` fits the pattern that stands in the row `p` from `from` on.
+// Whether `s` fits the pattern that stands in the row `p` from `from` on. A bad index is noted and passed over as if it were 1.
 fn fits(p: &[u8], from: usize, s: &[u8]) -> Match
     ensures { λ r. ⌜ r ≡ fitsIn (pieces (drop from (now (p .entry)))) (now (s .entry)) 0 0 ⌝ }
 {
@@ -62,36 +113,38 @@ fn fits(p: &[u8], from: usize, s: &[u8]) -> Match
     let mut b = 0;
     let mut i = 0;
     let mut j = 0;
+    let mut flaw = Flaw::Form;
     while a < p.len() {
         let x = p[a];
         if x == SPACE {
-            return ended(s, b, i, j);
+            return ended(s, b, i, j, flaw);
         }
         if x == b'[' {
-            let Index::Is(v, w) = read_index(&s[b..]) else {
+            let read = read_place(s, b);
+            let width = read.width;
+            let bad = read.flaw;
+            if width == 0 {
                 return Match::Differs;
-            };
+            }
             a += PLACE;
-            b += w;
+            b += width;
+            flaw = sooner(flaw, bad);
             if i == 0 {
-                i = v;
+                i = read.taken;
             } else if j == 0 {
-                j = v;
+                j = read.taken;
             } else {
                 return Match::Differs;
             }
         } else {
-            if s.len() <= b {
-                return Match::Differs;
-            }
-            if s[b] != x {
+            if byte_of(s, b) != x {
                 return Match::Differs;
             }
             a += 1;
             b += 1;
         }
     }
-    ended(s, b, i, j)
+    ended(s, b, i, j, flaw)
 }
 
 // The byte of a name at a place, a space past its end.
@@ -138,64 +191,118 @@ fn may_end(row: &[u8], end: usize, last: u8) -> bool
     row[end - PLACE] == b'['
 }
 
-// Whether the row's pattern cannot fit the name by where it ends and by its last byte: its text is as long as the name, or shorter by a byte for each of two indices.
-fn cannot_fit(row: &[u8], name: &[u8]) -> bool
+// How many bytes the byte x of a name counts for in the text of its form, `inside` where it stands behind `[` and digits.
+fn counts(inside: bool, x: u8) -> usize
+    ensures { λ r. ⌜ r ≡ countsOf inside x ⌝ }
+{
+    if !inside {
+        return 1;
+    }
+    if is_digit(x) {
+        return 0;
+    }
+    if x == b']' { 2 } else { 1 }
+}
+
+// Whether the byte after x stands behind `[` and digits.
+fn opens(inside: bool, x: u8) -> bool
+    ensures { λ r. ⌜ r ≡ opensBy inside x ⌝ }
+{
+    if x == b'[' {
+        return true;
+    }
+    if !inside {
+        return false;
+    }
+    is_digit(x)
+}
+
+// How many bytes the text of the name's form has, where each bracket of digits counts as the `[n]` of a pattern.
+fn extent(name: &[u8]) -> usize
+    ensures { λ r. ⌜ r ≡ extentFrom false (now (name .entry)) ⌝ }
+{
+    let mut k = 0;
+    let mut n = 0;
+    let mut inside = false;
+    while k < name.len() {
+        let x = name[k];
+        n += counts(inside, x);
+        inside = opens(inside, x);
+        k += 1;
+    }
+    n
+}
+
+// Whether the row's pattern cannot fit the name, nor miss it, by where it ends and by its last byte: its text is as long as that of the name's form.
+fn cannot_fit(row: &[u8], name: &[u8], extent: usize) -> bool
     requires { ⌜ 54 ≤ length (now row) ⌝ }
+    requires { ⌜ extent ≡ extentFrom false (now name) ⌝ }
     ensures { λ r. ⌜ (r ≡ true → fitsIn (pieces (drop 3 (now (row .entry)))) (now (name .entry)) 0 0 ≡ Differs) ⌝ }
 {
     let n = name.len();
-    if n < 2 {
+    if n == 0 {
         return false;
     }
-    if WIDTH - NAME <= n {
+    if WIDTH - NAME <= extent {
         return false;
     }
-    let end = NAME + n;
-    let last = name[n - 1];
-    if may_end(row, end, last) {
-        return false;
-    }
-    if may_end(row, end - 1, last) {
-        return false;
-    }
-    !may_end(row, end - 2, last)
+    !may_end(row, NAME + extent, name[n - 1])
 }
 
-// How the name fits the row's pattern. One that cannot fit is not read, so that many rows that begin like the name cost little.
-fn fits_row(row: &[u8], name: &[u8]) -> Match
+// How the name fits the row's pattern; it begins with x and y. A row that cannot fit is not read, so that many rows that begin like the name cost little.
+fn fits_row(row: &[u8], name: &[u8], extent: usize, x: u8, y: u8) -> Match
     requires { ⌜ 54 ≤ length (now row) ⌝ }
+    requires { ⌜ extent ≡ extentFrom false (now name) ⌝ }
+    requires { ⌜ x ≡ getD (now name) 0 space ⌝ }
+    requires { ⌜ y ≡ getD (now name) 1 space ⌝ }
     ensures { λ r. ⌜ r ≡ fitsIn (pieces (drop 3 (now (row .entry)))) (now (name .entry)) 0 0 ⌝ }
 {
-    if cannot_fit(row, name) {
+    if !may_fit(row[NAME + 1], x, y) {
+        return Match::Differs;
+    }
+    if cannot_fit(row, name, extent) {
         return Match::Differs;
     }
     fits(row, NAME, name)
 }
 
-// What the table says of the name: the first row whose pattern it fits. The links lead past the rows that begin with another byte.
+// The first flaw that the name has against the rows so far, with the row that it matches so.
+fn noted(flaw: Flaw, row: Match) -> Flaw
+    ensures { λ r. ⌜ r ≡ soonerOf flaw (flawOf row) ⌝ }
+{
+    match row {
+        Match::Differs => flaw,
+        Match::Misses(z) => sooner(flaw, z),
+        Match::Fits(_, _) => flaw,
+    }
+}
+
+// What the table says of the name: the first row whose pattern it fits, else the flaw for which it misses the first that it would fit but for its indices. The links lead past the rows that begin with another byte.
 pub fn lookup(table: &[u8], links: &[u8], name: &[u8]) -> Found
     requires { ⌜ Linked 0 (entries (now table)) (now links) ⌝ }
     ensures { λ r. ⌜ r ≡ lookupIn (entries (now (table .entry))) (now (name .entry)) ⌝ }
 {
     let x = byte_of(name, 0);
     let y = byte_of(name, 1);
+    let n = extent(name);
     let rows = table.len() / WIDTH;
+    let mut flaw = Flaw::Form;
     let mut entry = wide(links[wide(x)]);
     while entry < rows {
         let at = entry * WIDTH;
-        if may_fit(table[at + NAME + 1], x, y) {
-            let end = at + WIDTH;
-            if let Match::Fits(i, j) = fits_row(&table[at..end], name) {
-                return Found::Known {
-                    entry,
-                    kind: table[at],
-                    family: table[at + 1],
-                    i,
-                    j,
-                };
-            }
+        let end = at + WIDTH;
+        let row = fits_row(&table[at..end], name, n, x, y);
+        if let Match::Fits(i, j) = row {
+            return Found::Known {
+                entry,
+                kind: table[at],
+                family: table[at + 1],
+                i,
+                j,
+            };
         }
+        flaw = noted(flaw, row);
         entry = wide(links[HEADS + entry]);
     }
-    Found::Unknown
+    Found::Unknown(flaw)
 }

@@ -44,7 +44,7 @@ fn is_known(found: Found) -> bool
     ensures { λ r. ⌜ r ≡ isKnown found ⌝ }
 {
     match found {
-        Found::Unknown => false,
+        Found::Unknown(_) => false,
         Found::Known {
             entry: _,
             kind: _,
@@ -60,7 +60,7 @@ fn kind_in(found: Found) -> u8
     ensures { λ r. ⌜ r ≡ kindIn found ⌝ }
 {
     match found {
-        Found::Unknown => b'T',
+        Found::Unknown(_) => b'T',
         Found::Known {
             entry: _,
             kind,
@@ -87,7 +87,7 @@ fn undeclared(flags: &[[bool; 64]; 4], found: Found) -> bool
     ensures { λ r. ⌜ r ≡ columnIn (idsOf (now (flags .entry))) found ⌝ }
 {
     match found {
-        Found::Unknown => false,
+        Found::Unknown(_) => false,
         Found::Known {
             entry: _,
             kind: _,

@@ -22,10 +22,10 @@ pub record Judged (b : Book) (slots : List Bool) (ids : Ids) (found : Found) (ke
 
 -- a known key has an entry of the book and one of the slots
 abbrev pub InSlots : Book → Found → Type 0
-InSlots b Unknown = Unit
+InSlots b (Unknown w) = Unit
 InSlots b (Known e k f i j) = (e ≤ length (keyEntries b)) × (slotOf (keyEntries b) e i j < SLOTS)
 
 -- the slots with a known key's one set
 abbrev pub marked : Book → List Bool → Found → List Bool
-marked b slots Unknown = slots
+marked b slots (Unknown w) = slots
 marked b slots (Known e k f i j) = set slots (slotOf (keyEntries b) e i j) true

@@ -70,7 +70,7 @@ pub fn judge_key(
     ensures { λ r. ⌜ Judged (bookIn (now (book .entry))) (now (slots .entry)) (idsOf (now (flags .entry))) found (now (key .entry)) (now (value .entry)) r ⌝ }
 {
     match found {
-        Found::Unknown => Judgement {
+        Found::Unknown(_) => Judgement {
             known: false,
             again: false,
             wrong: false,
@@ -105,7 +105,7 @@ pub fn mark(slots: &mut [bool], book: &[u8], found: Found)
     ensures { λ _. ⌜ now (slots .exit) ≡ marked (bookIn (now (book .entry))) (now (slots .entry)) found ⌝ }
 {
     match found {
-        Found::Unknown => {}
+        Found::Unknown(_) => {}
         Found::Known {
             entry,
             kind: _,

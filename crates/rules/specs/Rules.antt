@@ -33,7 +33,7 @@ sameKey l m = isField m && same (cell 2 l) (cell 2 m)
 
 -- the value is not of its key's kind
 abbrev pub isWrong : Found → Bytes → Bool
-isWrong Unknown v = false
+isWrong (Unknown w) v = false
 isWrong (Known e k f i j) v = not (ofKind k f v)
 
 -- the indices of the ids that a value names: only references name any
@@ -46,7 +46,7 @@ isUndeclared b file f i = not (any (declares b f i) file)
 
 -- the value is of its kind, and names an undeclared id
 abbrev pub namesUndeclared : Book → List Bytes → Found → Bytes → Bool
-namesUndeclared b file Unknown v = false
+namesUndeclared b file (Unknown w) v = false
 namesUndeclared b file (Known e k f i j) v = ofKind k f v && any (isUndeclared b file (familyNumber f)) (namedIn k f v)
 
 -- HEADERS AND ROWS
@@ -82,7 +82,7 @@ abbrev pub lastIndex : ℕ → ℕ → ℕ
 lastIndex i j = cond (eqb j 0) i j
 
 abbrev pub columnUndeclared : Book → List Bytes → Found → Bool
-columnUndeclared b file Unknown = false
+columnUndeclared b file (Unknown w) = false
 columnUndeclared b file (Known e k f i j) = not (eqb f NONE) && isUndeclared b file (familyNumber f) (lastIndex i j)
 
 -- a required column stands among the names
@@ -115,7 +115,7 @@ isAsWide b p = eqb (width (p .here)) (width (nearest b (p .above)))
 
 -- the kind of a column's cells: those under an unknown column are text
 abbrev pub kindIn : Found → ℕ
-kindIn Unknown = TEXT
+kindIn (Unknown w) = TEXT
 kindIn (Known e k f i j) = k
 
 abbrev pub columnKind : Book → Spot → ℕ → ℕ
@@ -180,7 +180,7 @@ isAsked b file w = (asks (w .demand .asked) (modeOf file) (typeOf file) (isDecla
 
 -- a key of the form that is wanted, as the table of keys writes it, and with the id's index
 abbrev pub isWanted : Book → Want → Found → Bool
-isWanted b w Unknown = false
+isWanted b w (Unknown u) = false
 isWanted b w (Known e k f i j) = hasForm (w .demand .form) (getD (b .keys) e "") && (eqb (w .index) 0 || eqb (w .index) i)
 
 -- an MTD line of three cells with such a key

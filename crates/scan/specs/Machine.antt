@@ -51,11 +51,11 @@ idsOf flags f i = getD (getD flags f []) (i - 1) false
 -- METADATA LINES, by the slots of the keys that came before
 
 abbrev pub againIn : Book → List Bool → Bytes → Found → Bool
-againIn b slots key Unknown = false
+againIn b slots key (Unknown w) = false
 againIn b slots key (Known e k f i j) = not (isColunit key) && getD slots (slotOf (keyEntries b) e i j) false
 
 abbrev pub undeclaredIn : Ids → Found → Bytes → Bool
-undeclaredIn ids Unknown v = false
+undeclaredIn ids (Unknown w) v = false
 undeclaredIn ids (Known e k f i j) v = ofKind k f v && any (λ i. not (ids (familyNumber f) i)) (namedIn k f v)
 
 -- the key and the value, cells 2 and 3
@@ -78,12 +78,12 @@ metaBreaks b table slots ids cc n xs rest =
 -- HEADERS
 
 abbrev pub columnIn : Ids → Found → Bool
-columnIn ids Unknown = false
+columnIn ids (Unknown w) = false
 columnIn ids (Known e k f i j) = not (eqb f NONE) && not (ids (familyNumber f) (lastIndex i j))
 
 -- a column that names an id names one of the four families, by an index of 1 to 64
 abbrev pub Within : Found → Type 0
-Within Unknown = Unit
+Within (Unknown w) = Unit
 Within (Known e k f i j) = eqb f NONE ≡ false → (familyNumber f < 4) × (1 ≤ lastIndex i j) × (lastIndex i j ≤ 64)
 
 -- a column name that the book answers so, by whether it came before: what its bytes and the ids do not decide
@@ -154,7 +154,7 @@ unknownBreaks cc n rest = controlAt cc n 1 (when true (breakAt n 1 2) (plainRest
 
 -- the slot of a known key is this one
 abbrev pub isSlot : Book → ℕ → Found → Bool
-isSlot b s Unknown = false
+isSlot b s (Unknown w) = false
 isSlot b s (Known e k f i j) = eqb (slotOf (keyEntries b) e i j) s
 
 -- an MTD line of three cells whose key has this slot

@@ -52,7 +52,7 @@ fn push_found(out: &mut [u8], at: usize, found: Found) -> usize
     ensures { λ r. ⌜ r ≤ length (now (out .exit)) ⌝ }
 {
     match found {
-        Found::Unknown => push(out, at, b'-'),
+        Found::Unknown(_) => push(out, at, b'-'),
         Found::Known {
             entry: _,
             kind,

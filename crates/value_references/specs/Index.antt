@@ -1,12 +1,13 @@
 -- An index: 1 to 64, decimal, no leading zero, in square brackets. Assumes nothing.
 use Prim.Native.Nat.{ℕ, _+_, _*_, _-_, _/_, _%_}
-use mathlib.Core.Bool.{Bool, cond, not, _&&_}
+use mathlib.Core.Bool.{Bool, cond, _&&_}
 use mathlib.Core.List.{[], _∷_}
 use lib.Dec.{eqb, leb, ltb}
 use lib.ListN.{length, getD, drop}
 use Rattle.text_bytes.specs.Bytes.{Bytes}
 use Rattle.value_references.specs.declared.index.Index.{Index}
-use Rattle.value_references.specs.declared.index.Index.the-variants.{Not, Is}
+use Rattle.value_references.specs.declared.index.Index.the-variants.{Not, Bad, Is}
+use Rattle.value_references.specs.declared.index.Flaw.the-variants.{Zero, Over}
 
 -- the highest index
 abbrev pub MOST : ℕ
@@ -43,10 +44,15 @@ bracketed s =
 abbrev pub beginsZero : Bytes → Bool
 beginsZero s = eqb (getD s 1 0) 48
 
--- the index at the front of a text, with the number of its bytes
+-- the index at the front of a text, with the number of its bytes; a bad one begins with zero, else it is over the highest
 unfoldable pub indexAt : Bytes → Index
 indexAt s =
     let ds = digits (drop 1 s) in
-    cond (bracketed s && not (beginsZero s) && leb (number 0 ds) MOST)
-    (Is (number 0 ds) (1 + length ds + 1))
+    let w = 1 + length ds + 1 in
+    cond (bracketed s)
+    (cond (beginsZero s) (Bad Zero w) (cond (ltb MOST (number 0 ds)) (Bad Over w) (Is (number 0 ds) w)))
     Not
+
+-- a number as far as an index needs it: one past the highest stands for all that are over
+unfoldable pub capped : ℕ → ℕ
+capped n = cond (ltb MOST n) (MOST + 1) n

@@ -9,7 +9,7 @@ use lib.Dec.{eqb}
 use Rattle.text_bytes.specs.Bytes.{Bytes, bytes, begins, any, all, splitOn, COMMA, isSpace}
 use Rattle.value_references.specs.Index.{indexAt}
 use Rattle.value_references.specs.declared.index.Index.{Index}
-use Rattle.value_references.specs.declared.index.Index.the-variants.{Not, Is}
+use Rattle.value_references.specs.declared.index.Index.the-variants.{Not, Bad, Is}
 use Rattle.value_references.specs.declared.Named.{Named}
 
 -- the words of the families, numbered from 0
@@ -22,6 +22,7 @@ family f = bytes (getD families f "")
 -- the index that is read, where it is all of a text of n bytes; else 0
 abbrev pub alone : Index → ℕ → ℕ
 alone Not n = 0
+alone (Bad z w) n = 0
 alone (Is i w) n = cond (eqb w n) i 0
 
 -- the index i where b is the word and then i in brackets, else 0

@@ -1,20 +1,28 @@
 // An index in square brackets, as it stands in keys, columns and references.
 use text_bytes::wide;
 ghost use mathlib.Core.Path.{_≡_};
-ghost use Prim.Native.Nat.{_+_, _≤_, _<_};
+ghost use Prim.Native.Nat.{_+_, _≤_};
 ghost use lib.ListN.{length, getD, drop};
-ghost use Rattle.value_references.specs.Index.{digits, number, indexAt};
+ghost use Rattle.value_references.specs.Index.{isDigit, digits, number, indexAt, capped};
 
 // The highest index.
 const MOST: usize = 64;
 
-// What stands at the front of a text: no index, or an index with the number of its bytes.
+// Why a name is not known: no form is like it; an index is zero or begins with zero; an index is over 64.
+pub enum Flaw {
+    Form,
+    Zero,
+    Over,
+}
+
+// What stands at the front of a text: no index, a bad one with its flaw and the number of its bytes, or an index with the number of its bytes.
 pub enum Index {
     Not,
+    Bad(Flaw, usize),
     Is(usize, usize),
 }
 
-// A run of digits: where it ends, and its number. Where the number is over 64 both are those of the digits that make it so.
+// A run of digits: where it ends, and its number, 65 for any that is over 64.
 struct Run {
     end: usize,
     n: usize,
@@ -27,11 +35,28 @@ pub fn byte_at(s: &[u8], i: usize) -> usize
     if i < s.len() { wide(s[i]) } else { 0 }
 }
 
-// The digits of `s` from its second byte on, no further than where their number is over 64: the digits after bring it back no more.
+// Whether a byte is `0` to `9`.
+pub fn is_digit(b: u8) -> bool
+    ensures { λ r. ⌜ r ≡ isDigit b ⌝ }
+{
+    if b < b'0' {
+        return false;
+    }
+    b <= b'9'
+}
+
+// The number, 65 for any that is over 64: so the digits of an index may go on as long as they like.
+fn cap(n: usize) -> usize
+    ensures { λ r. ⌜ r ≡ capped n ⌝ }
+{
+    if MOST < n { MOST + 1 } else { n }
+}
+
+// The digits of `s` from its second byte on.
 fn digits_at(s: &[u8]) -> Run
     requires { ⌜ 1 ≤ length (now s) ⌝ }
-    ensures { λ r. ⌜ (r .n ≤ 64 → (r .end ≡ 1 + length (digits (drop 1 (now (s .entry))))) × (r .n ≡ number 0 (digits (drop 1 (now (s .entry)))))) ⌝ }
-    ensures { λ r. ⌜ (64 < r .n → 64 < number 0 (digits (drop 1 (now (s .entry))))) ⌝ }
+    ensures { λ r. ⌜ r .end ≡ 1 + length (digits (drop 1 (now (s .entry)))) ⌝ }
+    ensures { λ r. ⌜ r .n ≡ capped (number 0 (digits (drop 1 (now (s .entry))))) ⌝ }
 {
     let mut end = 1;
     let mut n = 0;
@@ -43,30 +68,20 @@ fn digits_at(s: &[u8]) -> Run
         if 57 < d {
             return Run { end, n };
         }
-        n = n * 10 + (d - 48);
-        if MOST < n {
-            return Run { end, n };
-        }
+        n = cap(n * 10 + (d - 48));
         end += 1;
     }
     Run { end, n }
 }
 
-// The index at the front of `s`; zero, a leading zero and a number over 64 are none.
+// The index at the front of `s`. One that begins with zero is bad, else one over 64; brackets that are empty or hold more than digits are none.
 pub fn read_index(s: &[u8]) -> Index
     ensures { λ r. ⌜ r ≡ indexAt (now (s .entry)) ⌝ }
 {
     if byte_at(s, 0) != 91 {
         return Index::Not;
     }
-    if byte_at(s, 1) == 48 {
-        return Index::Not;
-    }
     let run = digits_at(s);
-    let n = run.n;
-    if MOST < n {
-        return Index::Not;
-    }
     let end = run.end;
     if end <= 1 {
         return Index::Not;
@@ -74,5 +89,13 @@ pub fn read_index(s: &[u8]) -> Index
     if byte_at(s, end) != 93 {
         return Index::Not;
     }
-    Index::Is(n, end + 1)
+    let w = end + 1;
+    if byte_at(s, 1) == 48 {
+        return Index::Bad(Flaw::Zero, w);
+    }
+    let n = run.n;
+    if MOST < n {
+        return Index::Bad(Flaw::Over, w);
+    }
+    Index::Is(n, w)
 }

@@ -35,6 +35,7 @@ pub fn reference(word: &[u8], s: &[u8]) -> usize
     let found = read_index(rest);
     match found {
         Index::Not => 0,
+        Index::Bad(_, _) => 0,
         Index::Is(i, w) => { if w == rest.len() { i } else { 0 } }
     }
 }

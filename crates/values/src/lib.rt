@@ -2,9 +2,9 @@
 use text_bytes::BAR;
 use text_bytes::same_bytes;
 use text_bytes::seek;
+use value_references::index::is_digit;
 ghost use mathlib.Core.Path.{_≡_};
 ghost use Rattle.text_bytes.specs.Bytes.{splitOn};
-ghost use Rattle.value_references.specs.Index.{isDigit};
 ghost use Rattle.values.specs.Values.{DOT as dot, areDigits, unsigned, dotted, isText, isWhole, isDecimal, isDecimals, isWindow, isNull};
 
 pub const MINUS: u8 = b'-';
@@ -25,16 +25,6 @@ pub fn is_null(s: &[u8]) -> bool
     ensures { λ r. ⌜ r ≡ isNull (now (s .entry)) ⌝ }
 {
     same_bytes(s, b"null")
-}
-
-// Whether a byte is `0` to `9`.
-pub fn is_digit(b: u8) -> bool
-    ensures { λ r. ⌜ r ≡ isDigit b ⌝ }
-{
-    if b < b'0' {
-        return false;
-    }
-    b <= b'9'
 }
 
 // Whether there is one digit or more and nothing else.

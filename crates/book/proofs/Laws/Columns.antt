@@ -10,6 +10,7 @@ use Rattle.text_bytes.specs.Bytes.{Bytes, bytes, all}
 use Rattle.text_bytes.proofs.Laws.Begins.{begins-short}
 use Rattle.text_bytes.proofs.Laws.Tests.{and-both}
 use Rattle.book_names.specs.Names.{Entry, piecesFrom, entryOf, firstOf, lookupIn}
+use Rattle.value_references.specs.declared.index.Flaw.the-variants.{Form}
 use Rattle.book_names.specs.declared.Found.the-variants.{Unknown, Known}
 use Rattle.book_names.proofs.Laws.Lengths.{textOf, isLong, first-short}
 use Rattle.book.specs.Columns.{proteinColumns, peptideColumns, psmColumns, moleculeColumns}
@@ -41,7 +42,7 @@ module _ (b : Book) (section : ℕ) (name : List ℕ) where
   unfolding columnOf
   column-table h = rw h
 
-  pub column-bare : isOpt name ≡ true → length name ≤ 4 → columnOf b section name ≡ Unknown
+  pub column-bare : isOpt name ≡ true → length name ≤ 4 → columnOf b section name ≡ Unknown Form
   unfolding columnOf optOf
   column-bare h l = rw (h, le-ltb 4 (length name) l)
 
@@ -54,12 +55,12 @@ columns-long : (t : Bytes) (s : ℕ) → all isLong (columnEntries (bookIn t) s)
 unfolding isLong textOf all bytes bookIn mzTab proteinColumns peptideColumns psmColumns moleculeColumns entryOf piecesFrom
 columns-long t s = every-section (λ es. all isLong es) (bookIn t) s refl refl
 
-pub column-short : (t : Bytes) (section : ℕ) (name : List ℕ) → length name < 3 → columnOf (bookIn t) section name ≡ Unknown
+pub column-short : (t : Bytes) (section : ℕ) (name : List ℕ) → length name < 3 → columnOf (bookIn t) section name ≡ Unknown Form
 unfolding isOpt bytes
 column-short t section name h =
     column-table (bookIn t) section name (begins-short (bytes "opt_") name (omega arith)) ∙ first-short 0 (columnEntries (bookIn t) section) name (columns-long t section) h
 
 -- NO SECTION has no columns
-pub columns-none : (b : Book) (s : ℕ) (name : List ℕ) → isSection b s ≡ false → lookupIn (columnEntries b s) name ≡ Unknown
+pub columns-none : (b : Book) (s : ℕ) (name : List ℕ) → isSection b s ≡ false → lookupIn (columnEntries b s) name ≡ Unknown Form
 unfolding sectionOf firstOf
 columns-none b s name h = rw h

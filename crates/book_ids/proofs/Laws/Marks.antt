@@ -16,6 +16,7 @@ use Rattle.text.specs.Places.{LineAt}
 use Rattle.text.proofs.Laws.Lines.{lines-done}
 use Rattle.value_references.specs.Index.{written}
 use Rattle.value_references.specs.References.{family}
+use Rattle.value_references.specs.declared.index.Flaw.{Flaw}
 use Rattle.book.specs.Book.{Book, keyOf}
 use Rattle.book_names.specs.Names.{isKnown}
 use Rattle.book_ids.specs.Ids.{declares, declared, flag, Flags, Declared, idOf, keyId, lineId, marked}
@@ -27,9 +28,9 @@ use Rattle.book_ids.proofs.Laws.Words.{isId, id-is, id-range}
 
 -- A KEY's id
 module _ (book : Book) (name : List ℕ) where
-  pub key-unknown : keyOf book name ≡ Unknown → keyId book name ≡ Nothing
+  pub key-unknown : (z : Flaw) → keyOf book name ≡ Unknown z → keyId book name ≡ Nothing
   unfolding keyId
-  key-unknown h = rw h
+  key-unknown z h = rw h
 
   pub key-known : (f : Found) → keyOf book name ≡ f → isKnown f ≡ true → keyId book name ≡ idOf name
   unfolding keyId

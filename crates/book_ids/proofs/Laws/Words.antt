@@ -11,7 +11,7 @@ use Rattle.text_bytes.specs.Bytes.{bytes, begins}
 use Rattle.text_bytes.proofs.Laws.Begins.{begins-is, begins-self}
 use Rattle.value_references.specs.Index.{indexAt, written}
 use Rattle.value_references.specs.declared.index.Index.{Index}
-use Rattle.value_references.specs.declared.index.Index.the-variants.{Not, Is}
+use Rattle.value_references.specs.declared.index.Index.the-variants.{Not, Bad, Is}
 use Rattle.value_references.specs.References.{families, family}
 use Rattle.value_references.proofs.Laws.Indices.{index-read, index-written}
 use Rattle.book_ids.specs.Ids.{valueOf, indexAfter, idIn, idOf}
@@ -61,10 +61,12 @@ module _ (w s : List ℕ) where
 
 value-read : (x : Index) (s : List ℕ) → indexAt s ≡ x → (valueOf x ≡ 0 → ⊥) → indexAt s ≡ Is (valueOf x) (length (written (valueOf x)))
 value-read Not s e n = absurd (n refl)
+value-read (Bad z w) s e n = absurd (n refl)
 value-read (Is v w) s e n = e ∙ ap (Is v) (index-read s v w e .width)
 
 value-high : (x : Index) (s : List ℕ) → indexAt s ≡ x → valueOf x ≤ 64
 value-high Not s e = omega arith
+value-high (Bad z w) s e = omega arith
 value-high (Is v w) s e = index-read s v w e .high
 
 pub after-high : (w s : List ℕ) → indexAfter w s ≤ 64

@@ -37,10 +37,13 @@ returns : tie.Need-returns
 returns c = sym (reading (c .before .before) ∙ ap valueOf (c .enum-told .given .1))
 
 returns-2 : tie.Need-returns-2
-returns-2 c = sym (reading (c .before .before .before) ∙ ap valueOf (c .before .v .given .1))
+returns-2 c = sym (reading (c .before .before) ∙ ap valueOf (c .enum-told2 .given .1))
 
 returns-3 : tie.Need-returns-3
-returns-3 c = let b = c .before in sym (after-none (word b) (name b) (sym (b .begins-with .ensures) ∙ c .if1 .left))
+returns-3 c = sym (reading (c .before .before .before) ∙ ap valueOf (c .before .v .given .1))
+
+returns-4 : tie.Need-returns-4
+returns-4 c = let b = c .before in sym (after-none (word b) (name b) (sym (b .begins-with .ensures) ∙ c .if1 .left))
 
 pub index-after-spec : {M : Type 1} → statement M
 index-after-spec =
@@ -53,6 +56,8 @@ index-after-spec =
     (λ c κs. search needs)
     (λ c. search needs)
     (λ c. search needs)
+    (λ c. search needs)
     returns
     returns-2
-    returns-3)
+    returns-3
+    returns-4)

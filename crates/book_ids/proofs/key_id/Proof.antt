@@ -14,7 +14,7 @@ returns-2 : tie.Need-returns-2
 returns-2 c =
     let k = c .before .before in
     let d = k .before .before .before in
-    sym (key-unknown _ (d .before .before .before .args .name .now) (sym (k .key .ensures) ∙ c .enum-told3 .given .1))
+    sym (key-unknown _ (d .before .before .before .args .name .now) _ (sym (k .key .ensures) ∙ c .enum-told3 .given .1))
 
 returns-3 : tie.Need-returns-3
 returns-3 c =

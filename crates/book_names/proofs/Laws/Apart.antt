@@ -148,10 +148,7 @@ complete es n i j h hn s = go (lookupIn es name) refl
     fit = filled-fits (formOf (nth es n)) i j s
 
     go : (r : Found) → lookupIn es name ≡ r → lookupIn es name ≡ Known n (kindOf (nth es n)) (familyOf (nth es n)) i j
-    go Unknown e =
-        let m = unknown-miss es name 0 n e hn in
-        let z : _≡_ {A = ℕ} 0 1 = cc fit in
-        absurd (omega arith)
+    go (Unknown z) e = absurd (unknown-miss es name 0 n z e hn i j fit)
     go (Known e k f i′ j′) q =
         let a = known es name e k f i′ j′ q in
         let en : e ≡ n = one-line es name e n i′ j′ i j h (a .inside) hn (a .fit) fit in

@@ -12,16 +12,24 @@ use lib.Seq.{drop-append-seam}
 use borrow.Author.Tests.{eq-eqb, eqb-true, ne-eqb}
 use Rattle.value_references.specs.Index.{indexAt, written}
 use Rattle.value_references.specs.declared.index.Index.{Index}
-use Rattle.value_references.specs.declared.index.Index.the-variants.{Not, Is}
+use Rattle.value_references.specs.declared.index.Index.the-variants.{Not, Bad, Is}
+use Rattle.value_references.specs.declared.index.Flaw.{Flaw}
 use Rattle.value_references.proofs.Laws.Indices.{index-read, index-written}
-use Rattle.book_names.specs.Names.{Piece, byte, place, Entry, entry, kindOf, familyOf, formOf, filled, fits, onIndex, onMatch, firstOf, lookupIn, spread, startOf, among, slotOf}
+use Rattle.book_names.specs.Names.{Piece, byte, place, Entry, entry, kindOf, familyOf, formOf, filled, fits, missing, onIndex, misses, onMatch, firstOf, lookupIn, spread, startOf, among, slotOf}
 use Rattle.book_names.specs.declared.Match.{Match}
-use Rattle.book_names.specs.declared.Match.the-variants.{Differs, Fits}
+use Rattle.book_names.specs.declared.Match.the-variants.{Differs, Misses, Fits}
 use Rattle.book_names.specs.declared.Found.{Found}
 use Rattle.book_names.specs.declared.Found.the-variants.{Unknown, Known}
 
+-- what differs does not fit
 pub never : {A : Type 0} {i j : ℕ} → Differs ≡ Fits i j → A
 never h = let z : _≡_ {A = ℕ} 0 1 = cc in absurd (omega arith)
+
+-- nor does a name that has a flaw
+flawed : {A : Type 0} (z : Flaw) (m : Match) {i j : ℕ} → missing z m ≡ Fits i j → A
+flawed z Differs h = never h
+flawed z (Misses w) h = let o : _≡_ {A = ℕ} 0 1 = cc in absurd (omega arith)
+flawed z (Fits a b) h = let o : _≡_ {A = ℕ} 0 1 = cc in absurd (omega arith)
 
 -- a test that leads to a fit was passed
 pub both : (b : Bool) (x : Match) {i j : ℕ} → cond b x Differs ≡ Fits i j → (b ≡ true) × (x ≡ Fits i j)
@@ -33,6 +41,7 @@ pass b x y e = rw e
 
 pub on-index : (x : Index) (f : ℕ → ℕ → Match) {i j : ℕ} → onIndex x f ≡ Fits i j → (v : ℕ) × (w : ℕ) × (x ≡ Is v w) × (f v w ≡ Fits i j)
 on-index Not f h = never h
+on-index (Bad z w) f h = flawed z (f 1 w) h
 on-index (Is v w) f h = (v, w, refl, h)
 
 -- the places of a pattern
@@ -177,10 +186,16 @@ pub record At (es : List Entry) (name : List ℕ) (n k f i j : ℕ) : Type 0 whe
   pub text : filled (formOf (nth es n)) i j ≡ name
   pub shape : Shape (holes (formOf (nth es n))) i j
 
-on-match : (m : Match) (d : Found) (f : ℕ → ℕ → Found) (x : Found) → onMatch m d f ≡ x
-    → (d ≡ x) ⊎ ((i : ℕ) × (j : ℕ) × (m ≡ Fits i j) × (f i j ≡ x))
-on-match Differs d f x h = inl h
-on-match (Fits i j) d f x h = inr (i, j, refl, h)
+-- an entry that is missed lets a known name be known
+missed-known : (z : Flaw) (d : Found) {e k f i j : ℕ} → misses z d ≡ Known e k f i j → d ≡ Known e k f i j
+missed-known z (Unknown w) h = let o : _≡_ {A = ℕ} 0 1 = cc in absurd (omega arith)
+missed-known z (Known e k f i j) h = h
+
+on-match : (m : Match) (d : Found) (g : ℕ → ℕ → Found) {e k f a b : ℕ} → onMatch m d g ≡ Known e k f a b
+    → (d ≡ Known e k f a b) ⊎ ((i : ℕ) × (j : ℕ) × (m ≡ Fits i j) × (g i j ≡ Known e k f a b))
+on-match Differs d g h = inl h
+on-match (Misses z) d g h = inl (missed-known z d h)
+on-match (Fits i j) d g h = inr (i, j, refl, h)
 
 -- counted from e₀
 Rel : List Entry → List ℕ → ℕ → ℕ → ℕ → ℕ → ℕ → ℕ → Type 0
@@ -222,7 +237,7 @@ found (x ∷ es) name e₀ e k f i j h =
     ⊎-elim
     (λ d. below x es name e₀ e k f i j (found es name (e₀ + 1) e k f i j d))
     (λ w. here x es name e₀ e k f i j (w .0) (w .1) (w .2) (w .3))
-    (on-match (fits (formOf x) name 0 0) _ _ (Known e k f i j) h)
+    (on-match (fits (formOf x) name 0 0) _ _ h)
 
 -- THE LAW: a known name is its line's pattern with the indices written out
 pub known : (es : List Entry) (name : List ℕ) (e k f i j : ℕ) → lookupIn es name ≡ Known e k f i j → At es name e k f i j
@@ -232,22 +247,28 @@ known es name e k f i j h =
     let en : r .0 ≡ e = omega (arith, r .1) in
     subst (λ (n : ℕ). At es name n k f i j) en (r .2)
 
-unlike : {e k f i j : ℕ} → Known e k f i j ≡ Unknown → ⊥
-unlike h = let z : _≡_ {A = ℕ} 0 1 = cc in omega arith
+unlike : {A : Type 0} {e k f i j : ℕ} {z : Flaw} → Known e k f i j ≡ Unknown z → A
+unlike h = let o : _≡_ {A = ℕ} 0 1 = cc in absurd (omega arith)
 
-missed : (m : Match) (d : Found) (f : ℕ → ℕ → Found) → onMatch m d f ≡ Unknown → ((i j : ℕ) → f i j ≡ Unknown → ⊥)
-    → (m ≡ Differs) × (d ≡ Unknown)
-missed Differs d f h k = (refl, h)
-missed (Fits i j) d f h k = absurd (k i j h)
+later : (w z : Flaw) (d : Found) → misses w d ≡ Unknown z → (y : Flaw) × (d ≡ Unknown y)
+later w z (Unknown y) h = (y, refl)
+later w z (Known e k f i j) h = unlike h
+
+missed : (m : Match) (d : Found) (g : ℕ → ℕ → Found) (z : Flaw) → onMatch m d g ≡ Unknown z → ((i j : ℕ) → g i j ≡ Unknown z → ⊥)
+    → ((i j : ℕ) → m ≡ Fits i j → ⊥) × ((y : Flaw) × (d ≡ Unknown y))
+missed Differs d g z h k = ((λ i j e. never e), (z, h))
+missed (Misses w) d g z h k = ((λ i j e. absurd (let o : _≡_ {A = ℕ} 0 1 = cc in omega arith)), later w z d h)
+missed (Fits a b) d g z h k = absurd (k a b h)
 
 -- an unknown name fits no line
-pub unknown-miss : (es : List Entry) (name : List ℕ) (e n : ℕ) → firstOf e es name ≡ Unknown → n < length es
-    → fits (formOf (nth es n)) name 0 0 ≡ Differs
+pub unknown-miss : (es : List Entry) (name : List ℕ) (e n : ℕ) (z : Flaw) → firstOf e es name ≡ Unknown z → n < length es
+    → (i j : ℕ) → fits (formOf (nth es n)) name 0 0 ≡ Fits i j → ⊥
 unfolding firstOf
-unknown-miss [] name e n h k = absurd (omega arith)
-unknown-miss (x ∷ es) name e zero h k = missed (fits (formOf x) name 0 0) _ _ h (λ i j q. unlike q) .0
-unknown-miss (x ∷ es) name e (suc n) h k =
-    unknown-miss es name (e + 1) n (missed (fits (formOf x) name 0 0) _ _ h (λ i j q. unlike q) .1) (omega arith)
+unknown-miss [] name e n z h k = absurd (omega arith)
+unknown-miss (x ∷ es) name e zero z h k = missed (fits (formOf x) name 0 0) _ _ z h (λ i j q. unlike q) .0
+unknown-miss (x ∷ es) name e (suc n) z h k =
+    let l = missed (fits (formOf x) name 0 0) _ _ z h (λ i j q. unlike q) .1 in
+    unknown-miss es name (e + 1) n (l .0) (l .1) (omega arith)
 
 -- SLOTS
 

@@ -1,54 +1,56 @@
--- A name ends with the last byte of its pattern's text, which a space follows: a place ends in `]`, as an index does. Assumes nothing.
-use Prim.Native.Nat.{ℕ, zero, suc, _+_, _-_, _/_, _%_, _≤_, _<_}
+-- A name ends with the last byte of the pattern's text that it is like, which a space follows: a place ends in `]`, as an index does. Assumes nothing.
+use Prim.Native.Nat.{ℕ, zero, suc, _+_, _-_, _≤_, _<_}
 use mathlib.Core.Path.{_≡_, refl, ap, sym, _∙_}
-use mathlib.Core.Bool.{Bool, true, false, cond, _&&_, _||_}
-use mathlib.Core.List.{List, [], _∷_, _++_}
+use mathlib.Core.Bool.{Bool, true, false, _&&_, _||_}
+use mathlib.Core.List.{List, [], _∷_}
 use native.Mathlib.Omega.{arith}
-use lib.Dec.{eqb, ltb}
-use lib.ListN.{length, getD, drop}
+use lib.Dec.{eqb}
+use lib.ListN.{length, getD, drop, drop-of-length-le}
 use borrow.Author.Tests.{eq-eqb, eqb-true, eqb-false}
 use Rattle.text_bytes.proofs.Laws.Tests.{absurd-bool}
-use Rattle.value_references.specs.Index.{written}
-use Rattle.book_names.specs.Names.{Piece, byte, place, pieces, filled, fits, mayEnd}
-use Rattle.book_names.specs.declared.Match.{Match}
-use Rattle.book_names.specs.declared.Match.the-variants.{Differs, Fits}
+use Rattle.value_references.specs.Index.{digits}
+use Rattle.value_references.proofs.Laws.Indices.{Bracket}
+use Rattle.book_names.specs.Names.{Piece, byte, place, pieces, fits}
+use Rattle.book_names.specs.Steps.{mayEnd, extent}
+use Rattle.book_names.specs.declared.Match.the-variants.{Differs}
 use Rattle.book_names.proofs.Laws.Turns.{at-space, at-place, at-byte}
-use Rattle.book_names.proofs.Laws.Known.{fits-filled}
-use Rattle.book_names.proofs.Laws.Lengths.{textOf, room, fits-near}
+use Rattle.book_names.proofs.Laws.Alike.{alike}
+use Rattle.book_names.proofs.Laws.Lengths.{textOf, differs-or, pieces-plain, text-extent}
 
 -- THE NAME: its last byte, d where it has none
 unfoldable lastOr : ℕ → List ℕ → ℕ
 lastOr d [] = d
 lastOr d (x ∷ s) = lastOr x s
 
+-- it is the last of what stands behind byte k, or that byte
+last-after : (s : List ℕ) (d k : ℕ) → k < length s → lastOr d s ≡ lastOr (getD s k 0) (drop (suc k) s)
+unfolding lastOr
+last-after [] d k h = absurd (omega arith)
+last-after (x ∷ s) d zero h = refl
+last-after (x ∷ s) d (suc k) h = last-after s x k (omega arith)
+
 last-at : (s : List ℕ) (d : ℕ) → 1 ≤ length s → lastOr d s ≡ getD s (length s - 1) 0
 unfolding lastOr
-last-at [] d h = absurd (omega arith)
-last-at (x ∷ s) d h = let e : suc (length s) - 1 ≡ length s = omega arith in rw e (go s x)
-  where
-    go : (s : List ℕ) (x : ℕ) → lastOr x s ≡ getD (x ∷ s) (length s) 0
-    go [] x = refl
-    go (y ∷ s) x = go s y
+last-at s d h =
+    let e : drop (suc (length s - 1)) s ≡ [] = drop-of-length-le s {i = suc (length s - 1)} (omega arith) in
+    last-after s d (length s - 1) (omega arith) ∙ ap (lastOr (getD s (length s - 1) 0)) e
 
--- the last byte of the names that a pattern stands for
+last-bracket : (s : List ℕ) (w d : ℕ) → Bracket s w → lastOr d s ≡ lastOr 93 (drop w s)
+last-bracket s w d b =
+    let n = 1 + length (digits (drop 1 s)) in
+    let e : suc n ≡ w = omega (arith, b .width) in
+    last-after s d n (omega (arith, b .width, b .within)) ∙ ap (λ (z : ℕ). lastOr z (drop (suc n) s)) (b .closes) ∙ ap (λ (k : ℕ). lastOr 93 (drop k s)) e
+
+-- the last byte of the names that are like a pattern
 unfoldable lastByte : ℕ → List Piece → ℕ
 lastByte d [] = d
 lastByte d (byte x ∷ ps) = lastByte x ps
 lastByte d (place ∷ ps) = lastByte 93 ps
 
-last-written : (i : ℕ) (r : List ℕ) (d : ℕ) → lastOr d (written i ++ r) ≡ lastOr 93 r
-unfolding written lastOr
-last-written i r d = go (ltb i 10)
-  where
-    go : (b : Bool) → lastOr d (cond b (91 ∷ (48 + i) ∷ 93 ∷ []) (91 ∷ (48 + i / 10) ∷ (48 + i % 10) ∷ 93 ∷ []) ++ r) ≡ lastOr 93 r
-    go true = refl
-    go false = refl
-
-last-filled : (ps : List Piece) (d i j : ℕ) → lastOr d (filled ps i j) ≡ lastByte d ps
-unfolding filled lastOr lastByte
-last-filled [] d i j = refl
-last-filled (byte x ∷ ps) d i j = last-filled ps x i j
-last-filled (place ∷ ps) d i j = last-written i (filled ps j 0) d ∙ last-filled ps 93 j 0
+last-alike : (ps : List Piece) (s : List ℕ) (i j : ℕ) → (fits ps s i j ≡ Differs → ⊥) → (d : ℕ) → lastOr d s ≡ lastByte d ps
+unfolding lastOr lastByte
+last-alike =
+    alike (λ ps s. (d : ℕ) → lastOr d s ≡ lastByte d ps) (λ d. refl) (λ p ps s h d. h p) (λ ps s w b h d. last-bracket s w d b ∙ h 93)
 
 -- THE ROW: what stands before a place of it is z, or a place for an index where z is `]`
 module _ (row : List ℕ) where
@@ -103,35 +105,16 @@ module _ (row : List ℕ) where
       go false false es eo rest =
           rw (at-byte row a inside (eqb-false _ 32 es) (eqb-false _ 91 eo)) (ending-byte a d _ _ (rest (a + 1) _ (omega arith) (before-byte a)))
 
--- A ROW with no end for the name: its pattern does not fit
-module _ (row name : List ℕ) (e z : ℕ) (ends : e ≡ 3 + length name) (inside : e < length row) (some : 2 ≤ length name) (last : z ≡ getD name (length name - 1) 0)
-    (n0 : mayEnd row e z ≡ false) (n1 : mayEnd row (e - 1) z ≡ false) (n2 : mayEnd row (e - 2) z ≡ false) where
-  no-end : (q : ℕ) → q ≤ e → e ≤ q + 2 → mayEnd row q z ≡ true → ⊥
-  no-end q h k m = go (eqb q e) (eqb q (e - 1)) refl refl
-    where
-      at : (r : ℕ) → q ≡ r → mayEnd row r z ≡ false → ⊥
-      at r s n = absurd-bool (sym n ∙ ap (λ (i : ℕ). mayEnd row i z) (sym s) ∙ m)
-
-      go : (t u : Bool) → eqb q e ≡ t → eqb q (e - 1) ≡ u → ⊥
-      go true u et eu = at e (eqb-true q e et) n0
-      go false true et eu = at (e - 1) (eqb-true q (e - 1) eu) n1
-      go false false et eu = at (e - 2) (third (eqb-false q e et) (eqb-false q (e - 1) eu)) n2
-        where
-          third : (q ≡ e → ⊥) → (q ≡ e - 1 → ⊥) → q ≡ e - 2
-          third a b = omega arith
-
-  pub no-end-differs : fits (pieces (drop 3 row)) name 0 0 ≡ Differs
-  unfolding room Ending
-  no-end-differs = go (fits (pieces (drop 3 row)) name 0 0) refl
-    where
-      ps : List Piece
-      ps = pieces (drop 3 row)
-
-      go : (x : Match) → fits (pieces (drop 3 row)) name 0 0 ≡ x → x ≡ Differs
-      go Differs f = refl
-      go (Fits a b) f =
-          let d = getD row 2 0 in
-          let n = fits-near ps name 0 0 a b f in
-          let l : lastByte d ps ≡ z = sym (last-filled ps d a b) ∙ ap (lastOr d) (fits-filled ps name a b f .0) ∙ last-at name d (omega arith) ∙ sym last in
-          absurd (no-end (3 + textOf ps) (omega (arith, n .low)) (omega (arith, n .high))
-          (ap (mayEnd row (3 + textOf ps)) (sym l) ∙ ending row (length row) 3 d (omega arith) (before-byte row 2) (omega (arith, n .low))))
+-- A ROW with no end for the name: its pattern is not like it
+pub no-end-differs : (row name : List ℕ) (n : ℕ) → n ≡ extent false name → 3 + n < length row → 1 ≤ length name
+    → mayEnd row (3 + n) (getD name (length name - 1) 0) ≡ false → fits (pieces (drop 3 row)) name 0 0 ≡ Differs
+unfolding Ending
+no-end-differs row name n e inside some f =
+    differs-or (fits ps name 0 0) λ h.
+    let d = getD row 2 0 in
+    let t : textOf ps ≡ n = sym (text-extent ps name 0 0 h (pieces-plain 0 (drop 3 row))) ∙ sym e in
+    let l : lastByte d ps ≡ getD name (length name - 1) 0 = sym (last-alike ps name 0 0 h d) ∙ last-at name d some in
+    absurd-bool (sym f ∙ rw (← t, ← l) (ending row (length row) 3 d (omega arith) (before-byte row 2) (omega (arith, t))))
+  where
+    ps : List Piece
+    ps = pieces (drop 3 row)

@@ -8,12 +8,17 @@ use lib.Dec.{eqb}
 use lib.ListN.{length, getD, take, drop, set, length-drop, length-take, length-set, drop-of-length-le}
 use lib.Seq.{drop-drop, getD-take, getD-drop, getD-set-same, getD-set-other, drop-set-add}
 use borrow.Author.Tests.{eqb-true, eqb-false}
-use Rattle.book_names.specs.Names.{Entry, pieces, formOf, entryOf, fits, firstOf, lookupIn, mayFit}
+use Rattle.value_references.specs.declared.index.Flaw.{Flaw}
+use Rattle.value_references.specs.declared.index.Flaw.the-variants.{Form}
+use Rattle.book_names.specs.Names.{Entry, pieces, formOf, entryOf, fits, sooner, misses, firstOf, lookupIn}
+use Rattle.book_names.specs.Steps.{flawOf}
 use Rattle.book_names.specs.Table.{cut, rows, entries}
 use Rattle.book_names.specs.Links.{headOf, nextHead, Linked}
-use Rattle.book_names.specs.declared.Match.the-variants.{Differs, Fits}
+use Rattle.book_names.specs.declared.Match.{Match}
+use Rattle.book_names.specs.declared.Match.the-variants.{Fits}
 use Rattle.book_names.specs.declared.Found.the-variants.{Unknown, Known}
-use Rattle.book_names.proofs.Laws.Turns.{head-at, head-other, may-other}
+use Rattle.book_names.proofs.Laws.Flaws.{sooner-none, misses-none, misses-again, on-miss}
+use Rattle.book_names.proofs.Laws.Turns.{head-at, head-other}
 
 -- THE ROWS of a table: row e stands at 54 e, and is entry e
 entry-cut : (n e : ℕ) (t : List ℕ) → e < n → drop e (map entryOf (cut n t)) ≡ entryOf (take 54 (drop (e * 54) t)) ∷ drop (e + 1) (map entryOf (cut n t))
@@ -45,14 +50,6 @@ module _ (t : List ℕ) where
     row-length : length (take 54 (drop (e * 54) t)) ≡ 54
     row-length = omega (arith, length-take 54 (drop (e * 54) t), length-drop (e * 54) t)
 
-    -- the row's second byte is not the name's
-    pub row-skip : (name : List ℕ) → mayFit (getD t (e * 54 + 4) 0) (getD name 0 32) (getD name 1 32) ≡ false
-        → fits (pieces (drop 3 (take 54 (drop (e * 54) t)))) name 0 0 ≡ Differs
-    row-skip name m =
-        let r = take 54 (drop (e * 54) t) in
-        let q : mayFit (getD r 4 0) (getD name 0 32) (getD name 1 32) ≡ false = rw (row-byte 4 (omega arith)) m in
-        may-other r 3 (omega (arith, row-length)) name q
-
     pub row-head : headOf (formOf (entryOf (take 54 (drop (e * 54) t)))) ≡ getD t (e * 54 + 3) 0
     unfolding entryOf
     row-head = head-at (take 54 (drop (e * 54) t)) 3 (omega (arith, row-length)) ∙ row-byte 3 (omega arith)
@@ -82,50 +79,51 @@ leads name (y ∷ es) r = go (eqb (headOf (formOf y)) (getD name 0 32)) refl (le
           head = l .head;
         }
 
--- THE LOOK-UP has reached entry e: those before it do not fit, and it begins as the name does
-pub record Reached (t name : List ℕ) (e : ℕ) : Type 0 where
-  pub same : lookupIn (entries t) name ≡ firstOf e (drop e (entries t)) name
+-- THE LOOK-UP has reached entry e: those before it do not fit, z is the first flaw for which the name misses one of them, and it begins as the name does
+pub record Reached (t name : List ℕ) (z : Flaw) (e : ℕ) : Type 0 where
+  pub same : lookupIn (entries t) name ≡ misses z (firstOf e (drop e (entries t)) name)
   pub head : (x : Entry) (xs : List Entry) → drop e (entries t) ≡ x ∷ xs → headOf (formOf x) ≡ getD name 0 32
 
 module _ (t name : List ℕ) where
-  reached : (r q : ℕ) → lookupIn (entries t) name ≡ firstOf r (drop r (entries t)) name → Leads name (drop r (entries t)) r q → Reached t name q
-  reached r q f l =
+  reached : (z : Flaw) (r q : ℕ) → lookupIn (entries t) name ≡ misses z (firstOf r (drop r (entries t)) name) → Leads name (drop r (entries t)) r q → Reached t name z q
+  reached z r q f l =
       let s : drop (l .past) (drop r (entries t)) ≡ drop q (entries t) = drop-drop (l .past) r (entries t) ∙ ap (λ (k : ℕ). drop k (entries t)) (sym (l .sum)) in
-      record { same = f ∙ l .same ∙ ap (λ (es : List Entry). firstOf q es name) s; head = λ x xs d. l .head x xs (s ∙ d) }
+      record { same = f ∙ ap (misses z) (l .same ∙ ap (λ (es : List Entry). firstOf q es name) s); head = λ x xs d. l .head x xs (s ∙ d) }
 
   module _ (links : List ℕ) (k : Linked 0 (entries t) links) where
-    pub reached-first : (x : ℕ) → x < 256 → x ≡ getD name 0 32 → Reached t name (getD links x 0)
+    pub reached-first : (x : ℕ) → x < 256 → x ≡ getD name 0 32 → Reached t name Form (getD links x 0)
     reached-first x h e =
         let q : getD links x 0 ≡ nextHead (getD name 0 32) (entries t) 0 = k .heads x h ∙ ap (λ (b : ℕ). nextHead b (entries t) 0) e in
-        subst⁻¹ (Reached t name) q (reached 0 _ refl (leads name (entries t) 0))
+        subst⁻¹ (Reached t name Form) q (reached Form 0 _ (sym (misses-none (lookupIn (entries t) name))) (leads name (entries t) 0))
 
-    module _ (e : ℕ) (a : Reached t name e) (h : e < length t / 54) (m : fits (pieces (drop 3 (take 54 (drop (e * 54) t)))) name 0 0 ≡ Differs) where
-      missed : lookupIn (entries t) name ≡ firstOf (e + 1) (drop (e + 1) (entries t)) name
-      unfolding firstOf entryOf
-      missed = a .same ∙ rw (entry-at t e h, m)
-
+    module _ (z : Flaw) (e : ℕ) (a : Reached t name z e) (h : e < length t / 54) where
       next-link : getD links (256 + e) 0 ≡ nextHead (getD name 0 32) (drop (e + 1) (entries t)) (e + 1)
       next-link =
           let d = entry-at t e h in
           k .nexts e _ _ (omega arith) d ∙ ap (λ (b : ℕ). nextHead b (drop (e + 1) (entries t)) (e + 1)) (a .head _ _ d)
 
-      pub reached-next : Reached t name (getD links (256 + e) 0)
-      reached-next = subst⁻¹ (Reached t name) next-link (reached (e + 1) _ missed (leads name (drop (e + 1) (entries t)) (e + 1)))
-
       pub further : e < getD links (256 + e) 0
       further = omega (arith, next-link, leads name (drop (e + 1) (entries t)) (e + 1) .sum)
 
-  module _ (e : ℕ) (a : Reached t name e) where
-    pub reached-none : length t / 54 ≤ e → lookupIn (entries t) name ≡ Unknown
+      module _ (m : Match) (row : fits (pieces (drop 3 (take 54 (drop (e * 54) t)))) name 0 0 ≡ m) (n : (i j : ℕ) → m ≡ Fits i j → ⊥) where
+        missed : lookupIn (entries t) name ≡ misses (sooner z (flawOf m)) (firstOf (e + 1) (drop (e + 1) (entries t)) name)
+        unfolding firstOf entryOf
+        missed = a .same ∙ rw (entry-at t e h, row) (ap (misses z) (on-miss m _ _ n) ∙ misses-again z (flawOf m) (firstOf (e + 1) (drop (e + 1) (entries t)) name))
+
+        pub reached-next : (g : Flaw) (q : ℕ) → g ≡ sooner z (flawOf m) → q ≡ getD links (256 + e) 0 → Reached t name g q
+        reached-next g q eg eq = rw (eg, eq ∙ next-link) (reached (sooner z (flawOf m)) (e + 1) _ missed (leads name (drop (e + 1) (entries t)) (e + 1)))
+
+  module _ (z : Flaw) (e : ℕ) (a : Reached t name z e) where
+    pub reached-none : length t / 54 ≤ e → lookupIn (entries t) name ≡ Unknown z
     unfolding firstOf
-    reached-none h = a .same ∙ rw (drop-of-length-le (entries t) {i = e} (omega (arith, entry-count t)))
+    reached-none h = a .same ∙ rw (drop-of-length-le (entries t) {i = e} (omega (arith, entry-count t)), sooner-none z)
 
     pub reached-hit : (i j : ℕ) → e < length t / 54 → fits (pieces (drop 3 (take 54 (drop (e * 54) t)))) name 0 0 ≡ Fits i j
         → lookupIn (entries t) name ≡ Known e (getD t (e * 54) 0) (getD t (e * 54 + 1) 0) i j
     unfolding firstOf entryOf
     reached-hit i j h m =
-        let z : e * 54 + 0 ≡ e * 54 = omega arith in
-        a .same ∙ rw (entry-at t e h, m, row-byte t e h 0 (omega arith), row-byte t e h 1 (omega arith), z)
+        let o : e * 54 + 0 ≡ e * 54 = omega arith in
+        a .same ∙ rw (entry-at t e h, m, row-byte t e h 0 (omega arith), row-byte t e h 1 (omega arith), o)
 
 -- LINKING: bytes whose heads are the number past the last entry link none
 pub linked-none : (es : List Entry) (links : List ℕ) (n : ℕ) → n ≡ length es → 256 + n ≤ length links → ((b : ℕ) → b < 256 → getD links b 0 ≡ n) → Linked n es links

@@ -1,22 +1,24 @@
 -- One turn of the fitting of a name to a row's pattern, by cases, and what its first two bytes tell. Assumes nothing.
-use Prim.Native.Nat.{ℕ, _+_, _≤_, _<_}
+use Prim.Native.Nat.{ℕ, suc, _+_, _≤_, _<_}
 use mathlib.Core.Path.{_≡_, refl, ap, sym, _∙_}
-use mathlib.Core.Bool.{Bool, true, false, _||_}
+use mathlib.Core.Bool.{Bool, true, false, cond, _||_}
 use mathlib.Core.List.{List, [], _∷_}
 use native.Mathlib.Omega.{arith}
-use lib.Dec.{eqb}
-use lib.ListN.{length, getD, drop, drop-of-length-le}
-use lib.Seq.{drop-drop}
-use borrow.Author.Tests.{eq-eqb, ne-eqb, eqb-true, eqb-false}
+use lib.Dec.{eqb, ltb}
+use lib.ListN.{length, getD, drop, drop-of-length-le, List·getD-eq-default}
+use lib.Seq.{drop-drop, drop-cons}
+use borrow.Author.Tests.{eq-eqb, ne-eqb, eqb-true, eqb-false, ltb-true, ltb-false}
 use Rattle.text_bytes.proofs.Laws.Pieces.{drop-step}
 use Rattle.value_references.specs.Index.{indexAt}
-use Rattle.value_references.specs.declared.index.Index.the-variants.{Not, Is}
+use Rattle.value_references.specs.declared.index.Flaw.{Flaw}
 use Rattle.value_references.proofs.Laws.Indices.{index-unopened}
 use Rattle.text_bytes.proofs.Laws.Tests.{absurd-bool}
-use Rattle.book_names.specs.Names.{Piece, byte, place, pieces, piecesFrom, fits, mayFit}
+use Rattle.book_names.specs.Names.{Piece, byte, place, pieces, piecesFrom, onIndex, fits}
+use Rattle.book_names.specs.Steps.{Place, marked, mayFit}
 use Rattle.book_names.specs.Links.{headOf}
 use Rattle.book_names.specs.declared.Match.{Match}
 use Rattle.book_names.specs.declared.Match.the-variants.{Differs, Fits}
+use Rattle.book_names.proofs.Laws.Flaws.{marked-differs, on-none, on-some}
 
 -- PIECES, from a place of the row on
 skip2 : (l : List ℕ) → piecesFrom 2 l ≡ pieces (drop 2 l)
@@ -58,6 +60,27 @@ pub ended-here : (s : List ℕ) (b i j : ℕ) → length s ≤ b → fits [] (dr
 unfolding fits
 ended-here s b i j h = rw (drop-of-length-le s h)
 
+-- where a pattern has a place, by the index v of w bytes that stands there
+abbrev pub onPlace : List Piece → List ℕ → ℕ → ℕ → ℕ → ℕ → Match
+onPlace ps s i j v w = cond (eqb i 0) (fits ps (drop w s) v j) (cond (eqb j 0) (fits ps (drop w s) i v) Differs)
+
+pub place-fits : (ps : List Piece) (s : List ℕ) (i j : ℕ) → fits (place ∷ ps) s i j ≡ onIndex (indexAt s) (onPlace ps s i j)
+unfolding fits
+place-fits ps s i j = refl
+
+-- a byte that is no space stands in the name
+pub inside : (s : List ℕ) (b : ℕ) → (getD s b 32 ≡ 32 → ⊥) → b < length s
+inside s b n = go (ltb b (length s)) refl
+  where
+    go : (t : Bool) → ltb b (length s) ≡ t → b < length s
+    go true h = ltb-true b (length s) h
+    go false h = absurd (n (List·getD-eq-default s 32 (ltb-false b (length s) h)))
+
+byte-step : (s : List ℕ) (b : ℕ) → b < length s → drop b s ≡ getD s b 32 ∷ drop (b + 1) s
+byte-step s b h =
+    let n : suc b ≡ b + 1 = omega arith in
+    drop-cons s b 32 h ∙ ap (λ (k : ℕ). getD s b 32 ∷ drop k s) n
+
 module _ (p s : List ℕ) (a b i j : ℕ) where
   pub rest-end : length p ≤ a → rest p s a b i j ≡ fits [] (drop b s) i j
   rest-end h = rw (at-end p a h)
@@ -66,35 +89,36 @@ module _ (p s : List ℕ) (a b i j : ℕ) where
   rest-space h e = rw (at-space p a h e)
 
   module _ (ha : a < length p) (ns : getD p a 0 ≡ 32 → ⊥) (n : getD p a 0 ≡ 91 → ⊥) where
-    pub rest-byte : b < length s → getD s b 0 ≡ getD p a 0 → rest p s a b i j ≡ rest p s (a + 1) (b + 1) i j
+    pub rest-byte : getD s b 32 ≡ getD p a 0 → rest p s a b i j ≡ rest p s (a + 1) (b + 1) i j
     unfolding fits
-    rest-byte hb e = rw (at-byte p a ha ns n, drop-step s b hb, eq-eqb (getD s b 0) (getD p a 0) e)
+    rest-byte e =
+        let h = inside s b (λ (z : getD s b 32 ≡ 32). ns (sym e ∙ z)) in
+        rw (at-byte p a ha ns n, byte-step s b h, eq-eqb (getD s b 32) (getD p a 0) e)
 
-    pub rest-other : b < length s → (getD s b 0 ≡ getD p a 0 → ⊥) → rest p s a b i j ≡ Differs
+    pub rest-other : (getD s b 32 ≡ getD p a 0 → ⊥) → rest p s a b i j ≡ Differs
     unfolding fits
-    rest-other hb e = rw (at-byte p a ha ns n, drop-step s b hb, ne-eqb (getD s b 0) (getD p a 0) e)
+    rest-other e = rw (at-byte p a ha ns n) (go (ltb b (length s)) refl)
+      where
+        go : (t : Bool) → ltb b (length s) ≡ t → fits (byte (getD p a 0) ∷ pieces (drop (a + 1) p)) (drop b s) i j ≡ Differs
+        go true h = rw (byte-step s b (ltb-true b (length s) h), ne-eqb (getD s b 32) (getD p a 0) e)
+        go false h = rw (drop-of-length-le s (ltb-false b (length s) h))
 
-    pub rest-short : length s ≤ b → rest p s a b i j ≡ Differs
-    unfolding fits
-    rest-short hb = rw (at-byte p a ha ns n, drop-of-length-le s hb)
+  module _ (ha : a < length p) (e : getD p a 0 ≡ 91) (v w : ℕ) (z : Flaw) (r : Place (drop b s) v w z) where
+    pub rest-none : w ≡ 0 → rest p s a b i j ≡ Differs
+    rest-none h = rw (at-place p a ha e) (place-fits _ (drop b s) i j ∙ on-none (drop b s) v w z r _ h)
 
-  module _ (ha : a < length p) (e : getD p a 0 ≡ 91) where
-    pub rest-not : indexAt (drop b s) ≡ Not → rest p s a b i j ≡ Differs
-    unfolding fits
-    rest-not h = rw (at-place p a ha e, h)
+    module _ (h : w ≡ 0 → ⊥) where
+      some : rest p s a b i j ≡ marked z (onPlace (pieces (drop (a + 3) p)) (drop b s) i j v w)
+      some = rw (at-place p a ha e) (place-fits _ (drop b s) i j ∙ on-some (drop b s) v w z r _ h)
 
-    module _ (v w : ℕ) (h : indexAt (drop b s) ≡ Is v w) where
-      pub rest-first : i ≡ 0 → rest p s a b i j ≡ rest p s (a + 3) (b + w) v j
-      unfolding fits
-      rest-first hi = rw (at-place p a ha e, h, eq-eqb i 0 hi, drop-drop w b s)
+      pub rest-first : i ≡ 0 → rest p s a b i j ≡ marked z (rest p s (a + 3) (b + w) v j)
+      rest-first hi = some ∙ rw (eq-eqb i 0 hi, drop-drop w b s)
 
-      pub rest-second : (i ≡ 0 → ⊥) → j ≡ 0 → rest p s a b i j ≡ rest p s (a + 3) (b + w) i v
-      unfolding fits
-      rest-second hi hj = rw (at-place p a ha e, h, ne-eqb i 0 hi, eq-eqb j 0 hj, drop-drop w b s)
+      pub rest-second : (i ≡ 0 → ⊥) → j ≡ 0 → rest p s a b i j ≡ marked z (rest p s (a + 3) (b + w) i v)
+      rest-second hi hj = some ∙ rw (ne-eqb i 0 hi, eq-eqb j 0 hj, drop-drop w b s)
 
       pub rest-third : (i ≡ 0 → ⊥) → (j ≡ 0 → ⊥) → rest p s a b i j ≡ Differs
-      unfolding fits
-      rest-third hi hj = rw (at-place p a ha e, h, ne-eqb i 0 hi, ne-eqb j 0 hj)
+      rest-third hi hj = some ∙ rw (ne-eqb i 0 hi, ne-eqb j 0 hj) (marked-differs z)
 
 -- THE FIRST BYTES: the text that stands at a place of the row begins with the byte there
 pub head-at : (p : List ℕ) (a : ℕ) → a < length p → headOf (pieces (drop a p)) ≡ getD p a 0
@@ -127,12 +151,8 @@ neither true b h = absurd-bool (sym h)
 module _ (p : List ℕ) (a : ℕ) (ha : a + 1 < length p) where
   second-other : (s : List ℕ) → (getD p a 0 ≡ 32 → ⊥) → (getD p a 0 ≡ 91 → ⊥) → (getD p (a + 1) 0 ≡ 32 → ⊥) → (getD p (a + 1) 0 ≡ 91 → ⊥)
       → getD p a 0 ≡ getD s 0 32 → (getD p (a + 1) 0 ≡ getD s 1 32 → ⊥) → rest p s a 0 0 0 ≡ Differs
-  second-other [] s1 o1 s2 o2 e ne = absurd (s1 e)
-  second-other (x ∷ []) s1 o1 s2 o2 e ne =
-      rest-byte p (x ∷ []) a 0 0 0 (omega arith) s1 o1 (omega arith) (sym e) ∙ rest-short p (x ∷ []) (a + 1) 1 0 0 ha s2 o2 (omega arith)
-  second-other (x ∷ (y ∷ s)) s1 o1 s2 o2 e ne =
-      rest-byte p (x ∷ (y ∷ s)) a 0 0 0 (omega arith) s1 o1 (omega arith) (sym e)
-      ∙ rest-other p (x ∷ (y ∷ s)) (a + 1) 1 0 0 ha s2 o2 (omega arith) (λ (z : y ≡ getD p (a + 1) 0). ne (sym z))
+  second-other s s1 o1 s2 o2 e ne =
+      rest-byte p s a 0 0 0 (omega arith) s1 o1 (sym e) ∙ rest-other p s (a + 1) 1 0 0 ha s2 o2 (λ (z : getD s 1 32 ≡ getD p (a + 1) 0). ne (sym z))
 
   pub may-other : (s : List ℕ) → mayFit (getD p (a + 1) 0) (getD s 0 32) (getD s 1 32) ≡ false → rest p s a 0 0 0 ≡ Differs
   unfolding mayFit

@@ -3,7 +3,7 @@ use borrow.Author.Needs.{needs}
 use borrow.Author.Tests.{eq-eqb, ne-eqb}
 use Prim.Native.Nat.{_-_}
 use lib.ListN.{getD}
-use Rattle.book_names.specs.Names.{mayEnd}
+use Rattle.book_names.specs.Steps.{mayEnd}
 use Rattle.book_names.proofs.may_end.Statement.{statement}
 use Rattle.book_names.proofs.may_end.Tie as tie
 

@@ -1,6 +1,6 @@
 -- `book_names::may_fit`: the tests that led to each `return` decide. Assumes nothing.
 use borrow.Author.Tests.{eq-eqb, ne-eqb}
-use Rattle.book_names.specs.Names.{mayFit}
+use Rattle.book_names.specs.Steps.{mayFit}
 use Rattle.book_names.proofs.may_fit.Statement.{statement}
 use Rattle.book_names.proofs.may_fit.Tie as tie
 

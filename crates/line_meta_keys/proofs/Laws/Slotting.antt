@@ -25,7 +25,7 @@ unfolding keyOf
 in-slots t x = go (keyOf (bookIn t) x) refl
   where
     go : (r : Found) → keyOf (bookIn t) x ≡ r → InSlots (bookIn t) r
-    go Unknown q = tt
+    go (Unknown w) q = tt
     go (Known e k f i j) q =
         let s = slot-below (keyEntries (bookIn t)) x e k f i j q in
         (omega (arith, s .0), omega (arith, s .1, book-sized t .slots))
@@ -35,7 +35,7 @@ inside b q h = rw q at h
 
 module _ (b : Book) (slots : List Bool) (whole : length slots ≡ SLOTS) where
   pub marked-length : (r : Found) → length (marked b slots r) ≡ SLOTS
-  marked-length Unknown = whole
+  marked-length (Unknown w) = whole
   marked-length (Known e k f i j) = length-set slots (slotOf (keyEntries b) e i j) true ∙ whole
 
   set-slot : (s i : ℕ) → i < SLOTS → getD (set slots s true) i false ≡ (getD slots i false || eqb s i)
@@ -46,5 +46,5 @@ module _ (b : Book) (slots : List Bool) (whole : length slots ≡ SLOTS) where
       go false e = getD-set-other slots s i true false (λ z. eqb-false s i e (sym z)) ∙ sym (or-false (getD slots i false))
 
   pub marked-slot : (r : Found) (i : ℕ) → i < SLOTS → getD (marked b slots r) i false ≡ (getD slots i false || isSlot b i r)
-  marked-slot Unknown i h = sym (or-false (getD slots i false))
+  marked-slot (Unknown w) i h = sym (or-false (getD slots i false))
   marked-slot (Known e k f i₁ j) i h = set-slot (slotOf (keyEntries b) e i₁ j) i h

@@ -21,6 +21,9 @@ shared-slice-read-both c =
     let start = f .before .before .before .before .before .before in
     omega (arith, at-slot .slot-of .ensures, inside _ (f .found .given .1) (start .pre .1 .0) .1, start .pre .1 .1 .1)
 
+returns : tie.Need-returns
+returns c = let f = c .enum-told .given .1 in record { known = rw f; again = rw f; wrong = rw f; undeclared = rw f }
+
 returns-2 : tie.Need-returns-2
 returns-2 c =
     let at-value = c .before in
@@ -46,5 +49,5 @@ judge-key-spec =
     shared-slice-read-both
     (λ c κs. search needs)
     (λ c κs. search needs)
-    (λ c. search needs)
+    returns
     returns-2)

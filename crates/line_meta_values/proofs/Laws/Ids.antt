@@ -79,7 +79,7 @@ module _ (t : Bytes) (file : List Bytes) (ids : Ids) (d : Declares (bookIn t) fi
   value-ids x v = go (keyOf (bookIn t) x) refl
     where
       go : (r : Found) → keyOf (bookIn t) x ≡ r → namesUndeclared (bookIn t) file r v ≡ undeclaredIn ids r v
-      go Unknown q = refl
+      go (Unknown w) q = refl
       go (Known e k f i j) q = by (ofKind k f v) refl
         where
           by : (y : Bool) → ofKind k f v ≡ y

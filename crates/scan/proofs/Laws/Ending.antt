@@ -296,7 +296,7 @@ module _ (b : Book) (sized : Sized b) (w : Want) (sound : isSound (b .keys) (w .
   module _ (ways : (w .index ≡ 0) ⊎ ((isEach (w .demand) ≡ true) × (1 ≤ w .index) × (w .index ≤ MOST))) where
     form-slot : (m : Bytes) (r : Found) → keyFound b m ≡ r → any (λ s. isSlot b s r) (upFrom span begin) ≡ isWanted b w r
     unfolding keyOf
-    form-slot m Unknown q = any-false (upFrom span begin)
+    form-slot m (Unknown u) q = any-false (upFrom span begin)
     form-slot m (Known e k f i j) q =
         let o = known-of es (cell 2 m) e k f i j q in
         ⊎-elim (λ z. any-slot z e k f i j o) (λ z. id-slot (z .0) (z .1) (z .2) e k f i j o) ways

@@ -13,6 +13,7 @@ use Rattle.text_bytes.proofs.Laws.Each.{all-at}
 use Rattle.book.specs.Letters.{NONE}
 use Rattle.book_names.specs.Names.{Entry, entry, entryOf, familyOf, formOf, piecesFrom, lookupIn}
 use Rattle.book_kinds.specs.Kinds.{familyNumber}
+use Rattle.value_references.specs.declared.index.Flaw.the-variants.{Form}
 use Rattle.book_names.specs.declared.Found.{Found}
 use Rattle.book_names.specs.declared.Found.the-variants.{Unknown, Known}
 use Rattle.book_names.proofs.Laws.Known.{holes, nth, Shape, known}
@@ -39,7 +40,7 @@ last-within h i j l s = go (eqb j 0) refl
     go false e = let n = eqb-false j 0 e in (omega arith, omega (arith, s .j-most, s .few))
 
 found-within : (t : Bytes) (section : ℕ) (name : Bytes) (r : Found) → lookupIn (columnEntries (bookIn t) section) name ≡ r → Within r
-found-within t section name Unknown h = tt
+found-within t section name (Unknown w) h = tt
 found-within t section name (Known e k f i j) h =
     λ none.
     let a = known (columnEntries (bookIn t) section) name e k f i j h in
@@ -55,7 +56,7 @@ pub column-within : (t : Bytes) (section : ℕ) (name : Bytes) → Within (colum
 unfolding columnOf optOf
 column-within t section name = go (isOpt name) (ltb 4 (length name)) (found-within t section name (lookupIn (columnEntries (bookIn t) section) name) refl)
   where
-    go : (v u : Bool) → Within (lookupIn (columnEntries (bookIn t) section) name) → Within (cond v (cond u (Known 255 84 45 0 0) Unknown) (lookupIn (columnEntries (bookIn t) section) name))
+    go : (v u : Bool) → Within (lookupIn (columnEntries (bookIn t) section) name) → Within (cond v (cond u (Known 255 84 45 0 0) (Unknown Form)) (lookupIn (columnEntries (bookIn t) section) name))
     go true true w = λ h. absurd (let z : _≡_ {A = ℕ} 0 1 = cc in omega arith)
     go true false w = tt
     go false u w = w
@@ -81,7 +82,7 @@ module _ (t : Bytes) (file : List Bytes) (ids : Ids) (d : Declares (bookIn t) fi
   column-ids section x = go (columnOf (bookIn t) section x) (column-within t section x)
     where
       go : (r : Found) → Within r → columnUndeclared (bookIn t) file r ≡ columnIn ids r
-      go Unknown w = refl
+      go (Unknown z) w = refl
       go (Known e k f i j) w = none (eqb f 45) refl
         where
           none : (v : Bool) → eqb f 45 ≡ v → (not v && isUndeclared (bookIn t) file (familyNumber f) (lastIndex i j)) ≡ (not v && not (ids (familyNumber f) (lastIndex i j)))

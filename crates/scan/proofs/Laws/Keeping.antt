@@ -43,7 +43,7 @@ module _ (book : Book) (sized : Sized book) where
         there t = let z : keyOf book y ≡ Known e k f i j = subst (λ (b : Bytes). keyOf book b ≡ Known e k f i j) (same-equal x y t) q in rw z (eq-eqb (slot e i j) (slot e i j) refl)
 
         back : (r : Found) → keyOf book y ≡ r → isSlot book (slot e i j) r ≡ true → same x y ≡ true
-        back Unknown u t = absurd (let z : _≡_ {A = ℕ} 0 1 = cc in omega arith)
+        back (Unknown w) u t = absurd (let z : _≡_ {A = ℕ} 0 1 = cc in omega arith)
         back (Known e′ k′ f′ i′ j′) u t = subst (λ (b : Bytes). same x b ≡ true) (slot-equal y e′ k′ f′ i′ j′ u (eqb-true (slot e′ i′ j′) (slot e i j) t)) (same-self x)
 
     slot-in : slot e i j < SLOTS
@@ -54,7 +54,7 @@ module _ (book : Book) (sized : Sized book) where
   module _ (l : Bytes) (above : List Bytes) (slots : List Bool) (h : Slots book above slots) where
     again-by : (r : Found) → keyFound book l ≡ r → (isKnown r && (not (isColunit (cell 2 l)) && any (sameKey l) above)) ≡ againIn book slots (cell 2 l) r
     unfolding sameKey hasSlot
-    again-by Unknown q = refl
+    again-by (Unknown w) q = refl
     again-by (Known e k f i j) q =
         let alike = any-alike (sameKey l) (hasSlot book (slot e i j)) (λ m. rw (slot-key (cell 2 l) e k f i j q (cell 2 m))) above in
         rw (alike, h (slot e i j) (slot-in (cell 2 l) e k f i j q))

@@ -1,7 +1,7 @@
 -- What the reading of an index says of the text, and the other way round: each index as it is written is read. Assumes nothing.
 use Prim.Native.Nat.{ℕ, zero, suc, _+_, _*_, _-_, _/_, _%_, _≤_, _<_}
 use mathlib.Core.Path.{_≡_, refl, ap, sym, _∙_, subst}
-use mathlib.Core.Bool.{Bool, true, false, cond, not, _&&_, and-false}
+use mathlib.Core.Bool.{Bool, true, false, cond, _&&_}
 use mathlib.Core.List.{List, [], _∷_, _++_}
 use native.Mathlib.Omega.{arith}
 use lib.Dec.{eqb, leb, ltb}
@@ -10,8 +10,11 @@ use lib.Seq.{getD-drop}
 use borrow.Author.Tests.{lt-ltb, le-ltb, le-leb, lt-leb, eq-eqb, ne-eqb, eqb-true, eqb-false, leb-true, ltb-true, ltb-false}
 use Rattle.text_bytes.proofs.Laws.Pieces.{drop-step}
 use Rattle.text_bytes.proofs.Laws.Tests.{and-both}
-use Rattle.value_references.specs.Index.{written, isDigit, digits, more, number, bracketed, beginsZero, indexAt}
-use Rattle.value_references.specs.declared.index.Index.the-variants.{Not, Is}
+use Rattle.value_references.specs.Index.{written, isDigit, digits, more, number, bracketed, beginsZero, indexAt, capped}
+use Rattle.value_references.specs.declared.index.Index.{Index}
+use Rattle.value_references.specs.declared.index.Index.the-variants.{Not, Bad, Is}
+use Rattle.value_references.specs.declared.index.Flaw.{Flaw}
+use Rattle.value_references.specs.declared.index.Flaw.the-variants.{Form, Zero, Over}
 
 -- the text begins with the index v as it is written, w bytes
 pub record Read (s : List ℕ) (v w : ℕ) : Type 0 where
@@ -20,6 +23,14 @@ pub record Read (s : List ℕ) (v w : ℕ) : Type 0 where
   pub within : w ≤ length s
   pub width : w ≡ length (written v)
   pub text : s ≡ written v ++ drop w s
+
+-- a bracket of digits, good or bad, is the first w bytes of the text
+pub record Bracket (s : List ℕ) (w : ℕ) : Type 0 where
+  pub opens : getD s 0 0 ≡ 91
+  pub some : 3 ≤ w
+  pub width : w ≡ 1 + length (digits (drop 1 s)) + 1
+  pub closes : getD s (1 + length (digits (drop 1 s))) 0 ≡ 93
+  pub within : w ≤ length s
 
 -- a byte that is not 0 stands inside the text
 pub present : (s : List ℕ) (i : ℕ) → 1 ≤ getD s i 0 → i < length s
@@ -42,8 +53,11 @@ written-two v h = rw (le-ltb v 10 h)
 digit-yes : (x : ℕ) → 48 ≤ x → x ≤ 57 → isDigit x ≡ true
 digit-yes x h k = rw (le-leb 48 x h, le-leb x 57 k)
 
-digit-low : (x : ℕ) → x < 48 → isDigit x ≡ false
+pub digit-low : (x : ℕ) → x < 48 → isDigit x ≡ false
 digit-low x h = rw (lt-leb 48 x h)
+
+pub digit-else : (x : ℕ) → 48 ≤ x → leb x 57 ≡ isDigit x
+digit-else x h = rw (le-leb 48 x h)
 
 digit-high : (x : ℕ) → 57 < x → isDigit x ≡ false
 digit-high x h = rw (le-leb 48 x (omega arith), lt-leb x 57 h)
@@ -80,6 +94,56 @@ number-least n m (d ∷ ds) h = number-least (more n d) m ds (omega arith)
 pub number-more : (n d : ℕ) (ds : List ℕ) → number n (d ∷ ds) ≡ number (more n d) ds
 unfolding number
 number-more n d ds = refl
+
+-- CAPPED NUMBERS
+
+capped-most : (n : ℕ) → 64 < n → capped n ≡ 65
+unfolding capped
+capped-most n h = rw (lt-ltb 64 n h)
+
+pub capped-le : (n : ℕ) → capped n ≤ 65
+unfolding capped
+capped-le n = go (ltb 64 n) refl
+  where
+    go : (t : Bool) → ltb 64 n ≡ t → cond t 65 n ≤ 65
+    go true e = omega arith
+    go false e = omega (arith, ltb-false 64 n e)
+
+pub capped-self : (n : ℕ) → n ≤ 65 → capped n ≡ n
+unfolding capped
+capped-self n h = go (ltb 64 n) refl
+  where
+    go : (t : Bool) → ltb 64 n ≡ t → cond t 65 n ≡ n
+    go true e = omega (arith, ltb-true 64 n e)
+    go false e = refl
+
+-- the digits that follow do not tell a capped number from the number
+pub capped-number : (n : ℕ) (ds : List ℕ) → capped (number n ds) ≡ capped (number (capped n) ds)
+unfolding capped
+capped-number n ds = go (ltb 64 n) refl
+  where
+    go : (t : Bool) → ltb 64 n ≡ t → capped (number n ds) ≡ capped (number (cond t 65 n) ds)
+    go true e =
+        let h = ltb-true 64 n e in
+        capped-most (number n ds) (number-least n 65 ds h) ∙ sym (capped-most (number 65 ds) (number-least 65 65 ds (omega arith)))
+    go false e = refl
+
+module _ (n m : ℕ) (c : n ≡ capped m) where
+  pub capped-is : n ≤ 64 → n ≡ m
+  unfolding capped
+  capped-is h = go (ltb 64 m) c
+    where
+      go : (t : Bool) → n ≡ cond t 65 m → n ≡ m
+      go true e = absurd (omega arith)
+      go false e = e
+
+  pub capped-over : 64 < n → 64 < m
+  unfolding capped
+  capped-over h = go (ltb 64 m) refl c
+    where
+      go : (t : Bool) → ltb 64 m ≡ t → n ≡ cond t 65 m → 64 < m
+      go true q e = ltb-true 64 m q
+      go false q e = omega arith
 
 -- a run of digits is the front of its text
 uncons-by : (b : Bool) (x d : ℕ) (r ds : List ℕ) → isDigit x ≡ b → cond b (x ∷ digits r) [] ≡ d ∷ ds
@@ -171,14 +235,6 @@ module _ (s : List ℕ) where
   unfolding indexAt bracketed
   index-unopened h = rw (ne-eqb (getD s 0 0) 91 h)
 
-  pub index-zero : getD s 1 0 ≡ 48 → indexAt s ≡ Not
-  unfolding indexAt
-  index-zero h = rw (eq-eqb (getD s 1 0) 48 h, and-false (bracketed s))
-
-  pub index-over : 64 < number 0 (digits (drop 1 s)) → indexAt s ≡ Not
-  unfolding indexAt
-  index-over h = rw (lt-leb (number 0 (digits (drop 1 s))) 64 h, and-false (bracketed s && not (beginsZero s)))
-
   module _ (opens : getD s 0 0 ≡ 91) (e : ℕ) (ends : e ≡ 1 + length (digits (drop 1 s))) where
     pub index-undigited : e ≤ 1 → indexAt s ≡ Not
     unfolding indexAt bracketed
@@ -189,35 +245,64 @@ module _ (s : List ℕ) where
       unfolding indexAt bracketed
       index-unclosed h = rw (← ends, eq-eqb (getD s 0 0) 91 opens, lt-ltb 1 e some, ne-eqb (getD s e 0) 93 h)
 
-      brackets : getD s e 0 ≡ 93 → bracketed s ≡ true
-      unfolding bracketed
-      brackets closes = rw (← ends, eq-eqb (getD s 0 0) 91 opens, lt-ltb 1 e some, eq-eqb (getD s e 0) 93 closes)
+      module _ (closes : getD s e 0 ≡ 93) where
+        brackets : bracketed s ≡ true
+        unfolding bracketed
+        brackets = rw (← ends, eq-eqb (getD s 0 0) 91 opens, lt-ltb 1 e some, eq-eqb (getD s e 0) 93 closes)
 
-      pub index-is : getD s e 0 ≡ 93 → (getD s 1 0 ≡ 48 → ⊥) → (n : ℕ) → n ≡ number 0 (digits (drop 1 s)) → n ≤ 64 → indexAt s ≡ Is n (e + 1)
-      unfolding indexAt
-      index-is closes first n is h = rw (brackets closes, ne-eqb (getD s 1 0) 48 first, ← is, ← ends, le-leb n 64 h)
+        pub index-zero : getD s 1 0 ≡ 48 → indexAt s ≡ Bad Zero (e + 1)
+        unfolding indexAt
+        index-zero first = rw (brackets, eq-eqb (getD s 1 0) 48 first, ← ends)
 
--- WHAT IS READ is an index as it is written
-pub index-read : (s : List ℕ) (v w : ℕ) → indexAt s ≡ Is v w → Read s v w
-unfolding indexAt bracketed
-index-read s v w h = go (bracketed s) (beginsZero s) (leb (number 0 ds) 64) refl refl refl h
+        module _ (first : getD s 1 0 ≡ 48 → ⊥) where
+          pub index-over : 64 < number 0 (digits (drop 1 s)) → indexAt s ≡ Bad Over (e + 1)
+          unfolding indexAt
+          index-over h = rw (brackets, ne-eqb (getD s 1 0) 48 first, ← ends, lt-ltb 64 (number 0 (digits (drop 1 s))) h)
+
+          pub index-is : (n : ℕ) → n ≡ number 0 (digits (drop 1 s)) → n ≤ 64 → indexAt s ≡ Is n (e + 1)
+          unfolding indexAt
+          index-is n is h = rw (brackets, ne-eqb (getD s 1 0) 48 first, ← is, ← ends, le-ltb 64 n h)
+
+-- WHAT IS READ is a bracket of digits, and an index as it is written or bad for a reason
+unfoldable pub Holds : List ℕ → Index → Type 0
+Holds s Not = Unit
+Holds s (Bad z w) = Bracket s w × (z ≡ Form → ⊥)
+Holds s (Is v w) = Bracket s w × Read s v w
+
+bracket : (s : List ℕ) → bracketed s ≡ true → Bracket s (1 + length (digits (drop 1 s)) + 1)
+unfolding bracketed
+bracket s e =
+    let n = 1 + length (digits (drop 1 s)) in
+    let p = and-both (eqb (getD s 0 0) 91 && ltb 1 n) _ e in
+    let r = and-both (eqb (getD s 0 0) 91) _ (p .0) in
+    let c = eqb-true (getD s n 0) 93 (p .1) in
+    record {
+      opens = eqb-true (getD s 0 0) 91 (r .0);
+      some = omega (arith, ltb-true 1 n (r .1));
+      width = refl;
+      closes = c;
+      within = omega (arith, present s n (omega arith));
+    }
+
+pub index-holds : (s : List ℕ) (x : Index) → indexAt s ≡ x → Holds s x
+unfolding indexAt Holds
+index-holds s x h = subst (Holds s) h (go (bracketed s) (beginsZero s) (ltb 64 (number 0 ds)) refl refl refl)
   where
     ds : List ℕ
     ds = digits (drop 1 s)
 
-    go : (a b c : Bool) → bracketed s ≡ a → beginsZero s ≡ b → leb (number 0 ds) 64 ≡ c
-        → cond (a && not b && c) (Is (number 0 ds) (1 + length ds + 1)) Not ≡ Is v w → Read s v w
-    go true false true ea eb ec q =
-        let p = and-both (eqb (getD s 0 0) 91 && ltb 1 (1 + length ds)) _ ea in
-        let r = and-both (eqb (getD s 0 0) 91) _ (p .0) in
-        let some : 1 < 1 + length ds = ltb-true 1 (1 + length ds) (r .1) in
-        let ev : number 0 ds ≡ v = cc in
-        let ew : 1 + length ds + 1 ≡ w = cc in
-        let read = by-digits s ds (eqb-true (getD s 0 0) 91 (r .0)) refl (omega arith) (eqb-false (getD s 1 0) 48 eb) (eqb-true (getD s (1 + length ds) 0) 93 (p .1)) (leb-true (number 0 ds) 64 ec) in
-        subst (λ (m : ℕ). Read s v m) ew (subst (λ (m : ℕ). Read s m (1 + length ds + 1)) ev read)
-    go false b c ea eb ec q = absurd (let z : _≡_ {A = ℕ} 0 1 = cc in omega arith)
-    go true true c ea eb ec q = absurd (let z : _≡_ {A = ℕ} 0 1 = cc in omega arith)
-    go true false false ea eb ec q = absurd (let z : _≡_ {A = ℕ} 0 1 = cc in omega arith)
+    go : (a b c : Bool) → bracketed s ≡ a → beginsZero s ≡ b → ltb 64 (number 0 ds) ≡ c
+        → Holds s (cond a (cond b (Bad Zero (1 + length ds + 1)) (cond c (Bad Over (1 + length ds + 1)) (Is (number 0 ds) (1 + length ds + 1)))) Not)
+    go false b c ea eb ec = tt
+    go true true c ea eb ec = (bracket s ea, λ z. absurd (let o : _≡_ {A = ℕ} 0 1 = cc in omega arith))
+    go true false true ea eb ec = (bracket s ea, λ z. absurd (let o : _≡_ {A = ℕ} 0 1 = cc in omega arith))
+    go true false false ea eb ec =
+        let b = bracket s ea in
+        (b, by-digits s ds (b .opens) refl (omega (arith, b .some)) (eqb-false (getD s 1 0) 48 eb) (b .closes) (ltb-false 64 (number 0 ds) ec))
+
+pub index-read : (s : List ℕ) (v w : ℕ) → indexAt s ≡ Is v w → Read s v w
+unfolding Holds
+index-read s v w h = index-holds s (Is v w) h .1
 
 -- AND AN INDEX AS IT IS WRITTEN IS READ
 digits-one : (x : ℕ) (r : List ℕ) → 48 ≤ x → x ≤ 57 → digits (x ∷ 93 ∷ r) ≡ x ∷ []

@@ -15,7 +15,8 @@ use Rattle.text_bytes.proofs.Laws.Pieces.{drop-step, piece-cut, piece-last}
 use Rattle.value_references.specs.Index.{written, indexAt}
 use Rattle.value_references.specs.References.{alone, refTo, trimmed, spaced, refsTo, isIndex, isReferences, names, Tells}
 use Rattle.value_references.specs.declared.index.Index.{Index}
-use Rattle.value_references.specs.declared.index.Index.the-variants.{Not, Is}
+use Rattle.value_references.specs.declared.index.Flaw.{Flaw}
+use Rattle.value_references.specs.declared.index.Index.the-variants.{Not, Bad, Is}
 use Rattle.text_bytes.proofs.Laws.Each.{to-end, split-some}
 use Rattle.value_references.proofs.Laws.Indices.{index-read, index-written}
 
@@ -34,6 +35,9 @@ module _ (w b : List ℕ) where
     pub ref-not : o ≡ Not → refTo w b ≡ 0
     ref-not n = rest-is ∙ rw n
 
+    pub ref-bad : (z : Flaw) (v : ℕ) → o ≡ Bad z v → refTo w b ≡ 0
+    ref-bad z v n = rest-is ∙ rw n
+
     pub ref-is : (i v : ℕ) → o ≡ Is i v → v ≡ length (take (length b - length w) (drop (length w) b)) → refTo w b ≡ i
     ref-is i v n q = rest-is ∙ rw (n, eq-eqb v _ q)
 
@@ -42,6 +46,7 @@ module _ (w b : List ℕ) where
 
 alone-le : (s : List ℕ) (n : ℕ) (o : Index) → indexAt s ≡ o → alone o n ≤ 64
 alone-le s n Not e = omega arith
+alone-le s n (Bad z w) e = omega arith
 alone-le s n (Is i v) e = go (eqb v n)
   where
     go : (t : Bool) → cond t i 0 ≤ 64
@@ -60,6 +65,7 @@ ref-le w b = go (begins w b)
 
 alone-read : (r : List ℕ) (i : ℕ) (o : Index) → indexAt r ≡ o → alone o (length r) ≡ i → 1 ≤ i → r ≡ written i
 alone-read r i Not e a h = absurd (omega arith)
+alone-read r i (Bad z w) e a h = absurd (omega arith)
 alone-read r i (Is v u) e a h = go (eqb u (length r)) refl a
   where
     go : (t : Bool) → eqb u (length r) ≡ t → cond t v 0 ≡ i → r ≡ written i

@@ -7,7 +7,7 @@ use Prim.Native.Nat.{ℕ, suc, _+_, _-_, _≤_, _<_}
 use native.Mathlib.Nat.{not-suc-le-zero, eq-or-lt-of-le}
 use native.Mathlib.Omega.{arith}
 use borrow.Author.Tests.{eq-eqb, ne-eqb, eqb-true, lt-ltb, lt-leb, le-leb}
-use lib.Dec.{eqb, ltb, leb}
+use lib.Dec.{eqb, ltb}
 use lib.ListN.{length, take, drop, getD}
 use lib.Seq.{take-all}
 use Rattle.text_bytes.specs.Bytes.{isEmpty, all, splitOn}
@@ -15,6 +15,7 @@ use Rattle.text_bytes.specs.Places.{upTo, Ends}
 use Rattle.text_bytes.proofs.Laws.Pieces.{upTo-le, split-cut, split-last, piece-cut, piece-last}
 use Rattle.text_bytes.proofs.Laws.Each.{split-some, to-end}
 use Rattle.value_references.specs.Index.{isDigit}
+use Rattle.value_references.proofs.Laws.Indices.{digit-low}
 use Rattle.values.specs.Values.{areDigits, unsigned, dotted, isText, isWhole}
 
 -- what is empty
@@ -32,12 +33,6 @@ pub digits-some : (l : List ℕ) → (length l ≡ 0 → ⊥) → areDigits l �
 unfolding areDigits isEmpty
 digits-some [] h = absurd (h refl)
 digits-some (x ∷ xs) h = refl
-
-pub digit-low : (b : ℕ) → b < 48 → isDigit b ≡ false
-digit-low b h = rw (lt-leb 48 b h)
-
-pub digit-else : (b : ℕ) → 48 ≤ b → leb b 57 ≡ isDigit b
-digit-else b h = rw (le-leb 48 b h)
 
 -- a minus in front
 pub unsigned-none : (l : List ℕ) → length l ≡ 0 → l ≡ unsigned l
