@@ -6,17 +6,16 @@ use mathlib.Core.List.{List, [], _∷_, map}
 use lib.ListN.{length, drop, getD}
 use lib.Seq.{sets}
 use lib.Dec.{ltb}
-use Rattle.numbers.specs.Numbers.{TOO-LONG}
 use Rattle.text_bytes.specs.Bytes.{Bytes}
 use Rattle.text.specs.Lines.{LIMIT, lines}
-use Rattle.book_ids.specs.Ids.{Declared}
 use Rattle.rules.specs.Breaks.{Break}
 use Rattle.rules.specs.Rules.{breaks}
-use Rattle.judging.specs.Parts.{total, Midway}
+use Rattle.judging.specs.Parts.{total}
+use Rattle.judging.specs.Calls.{numberOf, Going}
 use Rattle.faults.specs.declared.Fault.{Fault}
 use Rattle.faults.specs.declared.steps.Progress.{Progress}
 use Rattle.faults.specs.Records.{faultOf}
-use Rattle.book.specs.Book.{SLOTS, bookOf}
+use Rattle.book.specs.Book.{bookOf}
 
 -- the places of a part: 4,096 breaks
 abbrev pub ROOM : ℕ
@@ -34,12 +33,9 @@ abbrev pub records : List ℕ → ℕ → ℕ → List Fault
 records ps j zero = []
 records ps j (suc t) = recordAt ps j ∷ records ps (j + 3) t
 
--- what is reported of a file, and the number: none and 1 where it is too long
+-- what is reported of a file: nothing where it is too long
 unfoldable pub found : Bytes → List Break
 found file = cond (ltb LIMIT (length file)) [] (breaks file)
-
-unfoldable pub numberOf : Bytes → ℕ
-numberOf file = cond (ltb LIMIT (length file)) TOO-LONG 0
 
 -- the records that are still to come
 abbrev pub remaining : Bytes → Progress → List Fault
@@ -47,24 +43,13 @@ remaining file s = map faultOf (drop (s .count) (found file))
 
 -- it grows smaller with each step
 unfoldable pub away : Bytes → Progress → ℕ
-away file s = cond (s .more) (suc (length file - s .stand .at)) 0
-
-abbrev pub flagsOf : Progress → List (List Bool)
-flagsOf s = s .samples ∷ s .assays ∷ s .variables ∷ s .runs ∷ []
-
--- in the middle of a file
-pub record Going (file : Bytes) (s : Progress) (slots : List Bool) : Type 0 where
-  pub limit : length file ≤ LIMIT
-  pub midway : Midway (bookOf (lines file)) file (s .stand) (s .kinds) slots
-  pub counted : s .count ≡ total (s .stand)
-  pub declared : Declared (bookOf (lines file)) (flagsOf s) file
-  pub columns : length (s .kinds) ≡ 256
-  pub keys : length slots ≡ SLOTS
+away file s = cond (s .more) (suc (length file - s .carried .stand .at)) 0
 
 -- what holds between two steps
 pub record Good (file : Bytes) (s : Progress) (slots : List Bool) : Type 0 where
   pub number : s .number ≡ numberOf file
-  pub going : s .more ≡ true → Going file s slots
+  pub counted : s .count ≡ total (s .carried .stand)
+  pub going : s .more ≡ true → Going (bookOf (lines file)) file (s .carried) slots
   pub done : s .more ≡ false → s .count ≡ length (found file)
 
 -- a step from s to r: the places hold records, of which the list has room for `fit`, from `from` on; with them and those to come it is what it was to be

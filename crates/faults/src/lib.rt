@@ -1,6 +1,7 @@
 // The judging call over a lent list of records.
 mod steps;
 
+use book::layout::book;
 use book::slots::SLOTS;
 use steps::PLACES;
 use steps::begin;
@@ -52,11 +53,12 @@ fn copy_out(places: &[u32], faults: &mut [Fault], at: usize, n: usize)
 pub fn judge(file: &[u8], faults: &mut [Fault], number: &mut u32) -> u32
     ensures { λ r. ⌜ outcome (now (number .exit)) r (now (faults .exit)) ≡ judged (now (file .entry)) (now (faults .entry)) ⌝ }
 {
+    let rows = book();
     let mut slots = [false; SLOTS];
     let mut places = [0u32; PLACES];
-    let mut s = begin(file, faults.len());
+    let mut s = begin(&rows, file, faults.len());
     while s.more {
-        s = next(file, s, &mut slots, &mut places);
+        s = next(&rows, file, s, &mut slots, &mut places);
         copy_out(&places, faults, s.from, s.fit);
     }
     *number = s.number;

@@ -1,11 +1,8 @@
 // The judging call over plain places.
 use book::layout::book;
 use book::slots::SLOTS;
-use book_ids::declared_ids;
-use judging::parts::beginning;
-use judging::parts::judge_part;
-use numbers::TOO_LONG;
-use text::LIMIT;
+use judging::calls::begin;
+use judging::calls::next_part;
 ghost use mathlib.Core.Path.{_≡_};
 ghost use Rattle.mztab.specs.Judged.{outcome, judged};
 
@@ -17,24 +14,13 @@ const ALL: u32 = 4000000000;
 pub fn judge_places(file: &[u8], places: &mut [u32], number: &mut u32) -> u32
     ensures { λ r. ⌜ outcome (now (number .exit)) r (now (places .exit)) ≡ judged (now (file .entry)) (now (places .entry)) ⌝ }
 {
-    if LIMIT < file.len() {
-        *number = TOO_LONG;
+    let rows = book();
+    let first = begin(&rows, file);
+    *number = first.number;
+    if first.number != 0 {
         return 0;
     }
-    *number = 0;
-    let rows = book();
-    let flags = declared_ids(&rows, file);
-    let mut kinds = [0u8; 256];
     let mut slots = [false; SLOTS];
-    let whole = judge_part(
-        places,
-        ALL,
-        &rows,
-        file,
-        beginning(),
-        &flags,
-        &mut kinds,
-        &mut slots,
-    );
-    whole.held
+    let whole = next_part(places, ALL, &rows, file, first, &mut slots);
+    whole.stand.held
 }

@@ -43,6 +43,9 @@ facts2 𝓤 {φ} {ψ} x y = via 𝓤 (sep 𝓤 (emp 𝓤) (emp 𝓤)) (emp∗ �
 pub facts3 : {M : Type 1} (𝓤 : URA M) {φ ψ χ : Type 0} → φ → ψ → χ → ent 𝓤 (emp 𝓤) (sep 𝓤 (fact 𝓤 φ) (sep 𝓤 (fact 𝓤 ψ) (fact 𝓤 χ)))
 facts3 𝓤 {φ} x y z = via 𝓤 (sep 𝓤 (emp 𝓤) (emp 𝓤)) (emp∗ 𝓤 (emp 𝓤)) (mono∗ 𝓤 (factI 𝓤 φ (emp 𝓤) x) (facts2 𝓤 y z))
 
+pub facts4 : {M : Type 1} (𝓤 : URA M) {φ ψ χ ω : Type 0} → φ → ψ → χ → ω → ent 𝓤 (emp 𝓤) (sep 𝓤 (fact 𝓤 φ) (sep 𝓤 (fact 𝓤 ψ) (sep 𝓤 (fact 𝓤 χ) (fact 𝓤 ω))))
+facts4 𝓤 {φ} w x y z = via 𝓤 (sep 𝓤 (emp 𝓤) (emp 𝓤)) (emp∗ 𝓤 (emp 𝓤)) (mono∗ 𝓤 (factI 𝓤 φ (emp 𝓤) w) (facts3 𝓤 x y z))
+
 -- n times one value are n times its machine value
 times-is : (R : RattleType) (n : ℕ) (x : R .Denot) (u : Val) → Is R x (u ∷ []) → shadow (each (R .Denot) (R .own) (replicate n x) (replicate n u))
 times-is R zero x u is = tt

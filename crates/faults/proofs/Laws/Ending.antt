@@ -14,7 +14,8 @@ use Rattle.rules.specs.Rules.{breaks}
 use Rattle.faults.specs.declared.Fault.{Fault}
 use Rattle.faults.specs.declared.steps.Progress.{Progress}
 use Rattle.faults.specs.Records.{faultOf, outcome, judged}
-use Rattle.faults.specs.Steps.{found, numberOf, records, remaining, Good, Moves}
+use Rattle.judging.specs.Calls.{numberOf}
+use Rattle.faults.specs.Steps.{found, records, remaining, Good, Moves}
 
 -- the list that is to be
 abbrev pub whole : Bytes → List Fault → List Fault

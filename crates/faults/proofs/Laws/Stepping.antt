@@ -20,7 +20,7 @@ use Rattle.judging.specs.declared.parts.Stand.{Stand}
 use Rattle.faults.specs.declared.Fault.{Fault}
 use Rattle.faults.specs.declared.steps.Progress.{Progress}
 use Rattle.faults.specs.Records.{faultOf}
-use Rattle.faults.specs.Steps.{recordAt, records, found, numberOf, away}
+use Rattle.faults.specs.Steps.{recordAt, records, found, away}
 use Rattle.book.specs.Book.{bookOf}
 
 -- A RUN OF STORES
@@ -84,18 +84,10 @@ module _ (file : Bytes) where
     unfolding found breaks
     found-all = rw (le-ltb LIMIT (length file) h)
 
-    pub number-none : numberOf file ≡ 0
-    unfolding numberOf
-    number-none = rw (le-ltb LIMIT (length file) h)
-
   module _ (h : LIMIT < length file) where
     pub found-none : found file ≡ []
     unfolding found
     found-none = rw (lt-ltb LIMIT (length file) h)
-
-    pub number-one : numberOf file ≡ 1
-    unfolding numberOf
-    number-one = rw (lt-ltb LIMIT (length file) h)
 
 -- A STEP: the places hold the breaks of a part
 
@@ -139,19 +131,10 @@ module _ {file : Bytes} {room : ℕ} {s r : Stand} {ps ps' : List ℕ} (p : Part
   step-moves {cap = cap} h n-is from-is fit-is ys e = rw (found-all file h, n-is, fit-is, from-is) (step-writes cap ys e)
 
 -- the way left grows shorter
-pub step-less : (file : Bytes) (s r : Progress) → s .more ≡ true → (r .more ≡ true → (s .stand .at < r .stand .at) × (r .stand .at ≤ length file)) → away file r < away file s
+pub step-less : (file : Bytes) (s r : Progress) → s .more ≡ true → (r .more ≡ true → (s .carried .stand .at < r .carried .stand .at) × (r .carried .stand .at ≤ length file)) → away file r < away file s
 unfolding away
 step-less file s r e h = rw e (go (r .more) refl)
   where
-    go : (t : Bool) → r .more ≡ t → cond (r .more) (suc (length file - r .stand .at)) 0 < suc (length file - s .stand .at)
+    go : (t : Bool) → r .more ≡ t → cond (r .more) (suc (length file - r .carried .stand .at)) 0 < suc (length file - s .carried .stand .at)
     go true q = rw q (omega (arith, h q .0, h q .1))
     go false q = rw q (omega arith)
-
--- four families of flags, one after the other
-pub four : (flags : List (List Bool)) → length flags ≡ 4 → getD flags 0 [] ∷ getD flags 1 [] ∷ getD flags 2 [] ∷ getD flags 3 [] ∷ [] ≡ flags
-four (a ∷ b ∷ c ∷ d ∷ []) e = refl
-four (a ∷ b ∷ c ∷ d ∷ x ∷ xs) e = absurd (not-suc-le-zero {n = length xs} (omega (arith, e)))
-four [] e = absurd (not-suc-le-zero {n = 0} (omega (arith, e)))
-four (a ∷ []) e = absurd (not-suc-le-zero {n = 0} (omega (arith, e)))
-four (a ∷ b ∷ []) e = absurd (not-suc-le-zero {n = 0} (omega (arith, e)))
-four (a ∷ b ∷ c ∷ []) e = absurd (not-suc-le-zero {n = 0} (omega (arith, e)))

@@ -1,0 +1,57 @@
+-- `judging::calls::begin` meets its contract: past the limit there is a number, and else no line is passed and no key has come. Assumes nothing.
+use mathlib.Core.Path.{_≡_, refl, sym, ap, _∙_}
+use mathlib.Core.Bool.{false}
+use native.Mathlib.Omega.{arith}
+use borrow.Author.Needs.{needs}
+use lib.ListN.{length-replicate}
+use Rattle.book.specs.Book.{SLOTS}
+use Rattle.judging.specs.Parts.{beginning}
+use Rattle.judging.specs.declared.parts.Stand.{Stand}
+use Rattle.judging.proofs.Laws.Parting.{midway-start, same-everywhere}
+use Rattle.judging.proofs.Laws.Calling.{number-none, number-one, four}
+use Rattle.judging.proofs.calls.begin.Statement.{statement}
+use Rattle.judging.proofs.calls.begin.Tie as tie
+
+-- where it begins, its facts are those that were given
+begins : {s : Stand} {x : _} → s ≡ beginning x → s ≡ beginning (s .facts)
+begins e = e ∙ ap beginning (sym (ap (λ (t : Stand). t .facts) e))
+
+returns : tie.Need-returns
+returns c =
+    let then = c .before in
+    let file = then .before .before .before .args .file .now in
+    record { number = sym (number-one file (then .if1 .taken)); stand = begins (c .beginning .ensures); going = λ q. absurd (omega (arith, q)) }
+
+returns-2 : tie.Need-returns-2
+returns-2 c =
+    let first = c .before .before .before .before in
+    let at-survey = first .before in
+    let else = at-survey .before .before in
+    let file = else .before .before .before .args .file .now in
+    let limit = else .if1 .left in
+    let flags = at-survey .survey .ensures .0 in
+    record {
+      number = sym (number-none file limit);
+      stand = begins (first .beginning2 .ensures);
+      going = λ q. record {
+        limit = limit;
+        midway = midway-start _ (first .beginning2 .ensures) (at-survey .survey .ensures .1) (λ i. same-everywhere SLOTS i false);
+        declared = rw (four (at-survey .survey .last .0) (flags .shape .families)) flags;
+        columns = refl;
+        keys = length-replicate SLOTS false;
+      };
+    }
+
+pub begin-spec : {M : Type 1} → statement M
+begin-spec =
+    tie.close
+    (tie.spec
+    (λ c κs. search needs)
+    returns
+    (λ c κs. let e = c .before in (e .before .before .before .pre, (refl, e .if1 .left)))
+    (λ c κs. search needs)
+    (λ c. search needs)
+    (λ c. search needs)
+    (λ c. search needs)
+    (λ c. search needs)
+    returns-2)

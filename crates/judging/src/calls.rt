@@ -1,0 +1,94 @@
+// What the judging calls share: what a file's judging begins with, and what is carried from part to part.
+use crate::parts::Stand;
+use crate::parts::beginning;
+use crate::parts::judge_part;
+use book_facts::Facts;
+use book_facts::survey;
+use numbers::TOO_LONG;
+use text::LIMIT;
+ghost use mathlib.Core.Path.{_≡_};
+ghost use mathlib.Core.Bool.{true};
+ghost use Prim.Native.Nat.{_≤_};
+ghost use Rattle.book.specs.Text.{bookIn, IsBook};
+ghost use Rattle.judging.specs.Parts.{Parts};
+ghost use Rattle.judging.specs.Calls.{Begun, Going};
+
+// The number of the call, where the judging stands, the kinds of the nearest header's columns, and the ids that the file declares.
+pub struct Carried {
+    pub number: u32,
+    pub stand: Stand,
+    pub kinds: [u8; 256],
+    pub samples: [bool; 64],
+    pub assays: [bool; 64],
+    pub variables: [bool; 64],
+    pub runs: [bool; 64],
+}
+
+// Before the first line; a file over the limit is refused by the number.
+pub fn begin(book: &[u8], file: &[u8]) -> Carried
+    requires { ⌜ IsBook (now book) ⌝ }
+    ensures { λ r. ⌜ Begun (bookIn (now (book .entry))) (now (file .entry)) r ⌝ }
+{
+    let none = [false; 64];
+    if LIMIT < file.len() {
+        let nothing = Facts {
+            mode: 0,
+            typed: 0,
+            version: 0,
+        };
+        return Carried {
+            number: TOO_LONG,
+            stand: beginning(nothing),
+            kinds: [0u8; 256],
+            samples: none,
+            assays: none,
+            variables: none,
+            runs: none,
+        };
+    }
+    let mut flags = [[false; 64]; 4];
+    let facts = survey(&mut flags, book, file);
+    Carried {
+        number: 0,
+        stand: beginning(facts),
+        kinds: [0u8; 256],
+        samples: flags[0],
+        assays: flags[1],
+        variables: flags[2],
+        runs: flags[3],
+    }
+}
+
+// The next part, of `room` breaks and what one line and the end put beyond them: its breaks are in the places.
+pub fn next_part(
+    places: &mut [u32],
+    room: u32,
+    book: &[u8],
+    file: &[u8],
+    s: Carried,
+    slots: &mut [bool],
+) -> Carried
+    requires { ⌜ 1 ≤ room ⌝ }
+    requires { ⌜ IsBook (now book) ⌝ }
+    requires { ⌜ Going (bookIn (now book)) (now file) s (now slots) ⌝ }
+    ensures { λ r. ⌜ Parts (bookIn (now (book .entry))) (now (file .entry)) room (s .stand) (r .stand) (now (places .entry)) (now (places .exit)) ⌝ }
+    ensures { λ r. ⌜ (r .stand .more ≡ true → Going (bookIn (now (book .entry))) (now (file .entry)) r (now (slots .exit))) ⌝ }
+    ensures { λ r. ⌜ r .number ≡ s .number ⌝ }
+{
+    let a = s.samples;
+    let b = s.assays;
+    let c = s.variables;
+    let d = s.runs;
+    let flags = [a, b, c, d];
+    let mut kinds = s.kinds;
+    let stand = judge_part(places, room, book, file, s.stand, &flags, &mut kinds, slots);
+    Carried {
+        number: s.number,
+        stand,
+        kinds,
+        samples: a,
+        assays: b,
+        variables: c,
+        runs: d,
+    }
+}
