@@ -2,3 +2,4 @@
 pub mod Stepping
 pub mod Ending
 pub mod Recording
+pub mod Reporting

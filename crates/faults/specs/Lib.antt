@@ -1,3 +1,4 @@
 pub mod Records
 pub mod Steps
 pub mod Outcomes
+pub mod Promised

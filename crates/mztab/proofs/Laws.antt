@@ -1,3 +1,4 @@
 -- Laws over plain lists and positions, with no code in them.
 pub mod Placing
 pub mod Counting
+pub mod Judging

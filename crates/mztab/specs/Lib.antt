@@ -3,3 +3,4 @@ pub mod Readings
 pub mod Judged
 pub mod Outcomes
 pub mod Cases
+pub mod Promised

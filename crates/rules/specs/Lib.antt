@@ -2,3 +2,4 @@ pub mod Sorts
 pub mod Breaks
 pub mod Rules
 pub mod Cases
+pub mod Promised

@@ -3,7 +3,7 @@ use Prim.Native.Nat.{ℕ, _+_, _*_, _≤_}
 use mathlib.Core.Path.{_≡_}
 use mathlib.Core.Bool.{cond}
 use mathlib.Core.List.{List, [], _∷_}
-use lib.ListN.{length, set}
+use lib.ListN.{length, getD, set}
 use lib.Dec.{leb}
 use Rattle.book.specs.Book.{WANTS}
 use Rattle.rules.specs.Breaks.{Break}
@@ -27,6 +27,12 @@ put o b =
 unfoldable pub putAll : Lent → List Break → Lent
 putAll o [] = o
 putAll o (b ∷ bs) = putAll (put o b) bs
+
+-- rule, line and cell of a break stand from place a on
+pub record Written (ys : List ℕ) (a : ℕ) (f : Break) : Type 0 where
+  pub rule : getD ys a 0 ≡ f .rule
+  pub line : getD ys (a + 1) 0 ≡ f .line
+  pub cell : getD ys (a + 2) 0 ≡ f .cell
 
 -- HOW MANY AT MOST
 

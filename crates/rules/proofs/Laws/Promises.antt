@@ -2,14 +2,17 @@
 -- 2: the list is empty exactly when no rule is broken. Assumes nothing.
 use mathlib.Core.Path.{_≡_, refl, subst}
 use mathlib.Core.List.{List, [], _∷_}
-use mathlib.Core.Logic.{_⊎_, inl}
+use mathlib.Core.Logic.{inl}
 use Prim.Native.Nat.{ℕ}
+use native.Mathlib.Omega.{arith}
 use borrow.Author.Needs.{needs}
+use lib.ListN.{length}
 use Rattle.text_bytes.specs.Bytes.{Bytes}
 use Rattle.text.specs.Lines.{lines}
-use Rattle.rules.specs.Breaks.{Break, breakAt, Breaks, Lacks, In, Sorted, Rising}
+use Rattle.rules.specs.Breaks.{Break, breakAt, In, Sorted, Rising}
 use Rattle.book.specs.Book.{Book, bookOf}
 use Rattle.rules.specs.Rules.{rules, endRules, ends, breaksBy, breaks}
+use Rattle.rules.specs.Promised.{IsBrokenBy, IsBroken, Reports}
 use Rattle.rules.proofs.Laws.Listing.{all-sorted, all-broken, broken-all}
 
 -- BY ANY BOOK
@@ -23,45 +26,45 @@ module _ (b : Book) where
   unfolding endRules
   end-rising = search needs
 
-  -- a rule is broken at a cell of a line, or of the one after the last
-  abbrev pub BrokenBy : List Bytes → ℕ → ℕ → ℕ → Type 0
-  BrokenBy file n c k = Breaks (rules b) file n c k ⊎ Lacks (endRules b) (ends b) file n c k
-
   -- each break comes before all that stand after it, so none stands twice
   pub by-sorted : (file : List Bytes) → Sorted (breaksBy b file)
   unfolding breaksBy
   by-sorted file = all-sorted (rules b) (endRules b) (ends b) file 0 0 rising end-rising
 
   -- a break is listed exactly where that rule is broken at that cell of that line
-  pub by-broken : (file : List Bytes) (n c k : ℕ) → In (breakAt n c k) (breaksBy b file) → BrokenBy file n c k
+  pub by-broken : (file : List Bytes) (n c k : ℕ) → In (breakAt n c k) (breaksBy b file) → IsBrokenBy b file n c k
   unfolding breaksBy
   by-broken file n c k h = all-broken (rules b) (endRules b) (ends b) file n c k h
 
-  pub by-listed : (file : List Bytes) {n c k : ℕ} → BrokenBy file n c k → In (breakAt n c k) (breaksBy b file)
+  pub by-listed : (file : List Bytes) {n c k : ℕ} → IsBrokenBy b file n c k → In (breakAt n c k) (breaksBy b file)
   unfolding breaksBy
   by-listed file h = broken-all (rules b) (endRules b) (ends b) file h
 
 -- BY THE BOOK OF THE FILE
-abbrev pub Broken : Bytes → ℕ → ℕ → ℕ → Type 0
-Broken file n c k = BrokenBy (bookOf (lines file)) (lines file) n c k
-
 pub breaks-sorted : (file : Bytes) → Sorted (breaks file)
 unfolding breaks
 breaks-sorted file = by-sorted (bookOf (lines file)) (lines file)
 
-pub listed-broken : (file : Bytes) (n c k : ℕ) → In (breakAt n c k) (breaks file) → Broken file n c k
+pub listed-broken : (file : Bytes) (n c k : ℕ) → In (breakAt n c k) (breaks file) → IsBroken file n c k
 unfolding breaks
 listed-broken file n c k h = by-broken (bookOf (lines file)) (lines file) n c k h
 
-pub broken-listed : (file : Bytes) {n c k : ℕ} → Broken file n c k → In (breakAt n c k) (breaks file)
+pub broken-listed : (file : Bytes) {n c k : ℕ} → IsBroken file n c k → In (breakAt n c k) (breaks file)
 unfolding breaks
 broken-listed file h = by-listed (bookOf (lines file)) (lines file) h
 
+pub breaks-reported : (file : Bytes) → Reports file (breaks file)
+breaks-reported file = record { sorted = breaks-sorted file; broken = listed-broken file; listed = λ n c k h. broken-listed file h }
+
+pub length-none : (bs : List Break) → length bs ≡ 0 → bs ≡ []
+length-none [] e = refl
+length-none (b ∷ bs) e = absurd (omega (arith, e))
+
 -- so a file is accepted exactly when no rule is broken
-pub accepted-whole : (file : Bytes) {n c k : ℕ} → breaks file ≡ [] → Broken file n c k → ⊥
+pub accepted-whole : (file : Bytes) {n c k : ℕ} → breaks file ≡ [] → IsBroken file n c k → ⊥
 accepted-whole file {n} {c} {k} e h = subst (In (breakAt n c k)) e (broken-listed file h)
 
-pub whole-accepted : (file : Bytes) → ((n c k : ℕ) → Broken file n c k → ⊥) → breaks file ≡ []
+pub whole-accepted : (file : Bytes) → ((n c k : ℕ) → IsBroken file n c k → ⊥) → breaks file ≡ []
 whole-accepted file h = none (breaks file) (λ b i. h (b .line) (b .cell) (b .rule) (listed-broken file (b .line) (b .cell) (b .rule) i))
   where
     none : (bs : List Break) → ((b : Break) → In b bs → ⊥) → bs ≡ []

@@ -12,7 +12,7 @@ use lib.Seq.{getD-set-same, getD-set-other}
 use lib.ListN.{length, getD, set, length-set}
 use borrow.Author.Tests.{le-leb, lt-leb, leb-true, leb-false}
 use Rattle.rules.specs.Breaks.{Break, breakAt}
-use Rattle.scan.specs.Places.{lent, three, put, putAll}
+use Rattle.scan.specs.Places.{Written, lent, three, put, putAll}
 
 -- ONE BREAK
 
@@ -45,13 +45,7 @@ module _ (ys : List ℕ) (k : ℕ) (f : Break) where
   after-full : length ys < 3 * k + 3 → after ≡ ys
   after-full h = rw (lt-leb (3 * k + 3) (length ys) h)
 
--- rule, line and cell of a break stand from place a on
-pub record Holds (ys : List ℕ) (a : ℕ) (f : Break) : Type 0 where
-  pub rule : getD ys a 0 ≡ f .rule
-  pub line : getD ys (a + 1) 0 ≡ f .line
-  pub cell : getD ys (a + 2) 0 ≡ f .cell
-
-after-holds : (ys : List ℕ) (k : ℕ) (f : Break) → 3 * k + 3 ≤ length ys → Holds (after ys k f) (3 * k) f
+after-holds : (ys : List ℕ) (k : ℕ) (f : Break) → 3 * k + 3 ≤ length ys → Written (after ys k f) (3 * k) f
 after-holds ys k f h =
     let a = 3 * k in
     let l₁ = length-set ys a (f .rule) in
@@ -97,7 +91,7 @@ placed-short (f ∷ fs) ys k q j h l = placed-short fs (after ys k f) (k + 1) q 
     go false e = ap (λ (l : List ℕ). getD l j 0) (after-full ys k f (omega (arith, leb-false (suc k) q e)))
 
 -- break i stands at its places, where they are there
-pub placed-at : (fs : List Break) (ys : List ℕ) (k i : ℕ) → i < length fs → 3 * (k + i) + 3 ≤ length ys → Holds (placed ys k fs) (3 * (k + i)) (getD fs i (breakAt 0 0 0))
+pub placed-at : (fs : List Break) (ys : List ℕ) (k i : ℕ) → i < length fs → 3 * (k + i) + 3 ≤ length ys → Written (placed ys k fs) (3 * (k + i)) (getD fs i (breakAt 0 0 0))
 unfolding putAll put
 placed-at [] ys k i h l = absurd (not-suc-le-zero h)
 placed-at (f ∷ fs) ys k zero h l =

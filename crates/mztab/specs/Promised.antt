@@ -1,0 +1,32 @@
+-- What `judge_places`, and `mztab_judge`, promise of a file: n is the number, k the count, ys the lent places before and zs after. Assumes nothing.
+use mathlib.Core.Path.{_≡_}
+use mathlib.Core.List.{List}
+use mathlib.Core.Logic.{_⊎_}
+use Prim.Native.Nat.{ℕ, _+_, _*_, _≤_, _<_}
+use lib.ListN.{length, getD}
+use Rattle.numbers.specs.Numbers.{TOO-LONG}
+use Rattle.text_bytes.specs.Bytes.{Bytes}
+use Rattle.rules.specs.Breaks.{Break, breakAt}
+use Rattle.rules.specs.Promised.{IsBroken, Reports}
+use Rattle.scan.specs.Places.{Written}
+
+-- of one over the limit
+pub record Refused (ys : List ℕ) (n k : ℕ) (zs : List ℕ) : Type 0 where
+  pub number : n ≡ TOO-LONG
+  pub count : k ≡ 0
+  pub untouched : zs ≡ ys
+
+-- the places of break i are there, and it is one of k
+abbrev pub Fits : ℕ → List ℕ → ℕ → Type 0
+Fits k ys i = (i < k) × (3 * i + 3 ≤ length ys)
+
+-- of one within the limit, whose breaks are bs
+pub record Promised (file : Bytes) (bs : List Break) (ys : List ℕ) (n k : ℕ) (zs : List ℕ) : Type 0 where
+  pub reports : Reports file bs
+  pub number : n ≡ 0
+  pub count : k ≡ length bs
+  pub none-broken : k ≡ 0 → (l c r : ℕ) → IsBroken file l c r → ⊥
+  pub accepted : ((l c r : ℕ) → IsBroken file l c r → ⊥) → k ≡ 0
+  pub long : length zs ≡ length ys
+  pub stands : (i : ℕ) → Fits k ys i → Written zs (3 * i) (getD bs i (breakAt 0 0 0))
+  pub untouched : (j : ℕ) → ((i : ℕ) → Fits k ys i → (j < 3 * i) ⊎ (3 * i + 3 ≤ j)) → getD zs j 0 ≡ getD ys j 0
