@@ -33,8 +33,8 @@ textOf (place ∷ ps) = suc (2 + textOf ps)
 pub text-least : (ps : List Piece) (s : List ℕ) (i j : ℕ) → (fits ps s i j ≡ Differs → ⊥) → textOf ps ≤ length s
 unfolding textOf
 text-least =
-    alike (λ ps s. textOf ps ≤ length s) (omega arith) (λ p ps s h. omega (arith, h))
-    (λ ps s w b h. omega (arith, h, b .some, b .within, length-drop w s))
+    alike (λ ps s z. textOf ps ≤ length s) (omega arith) (λ p ps s z h. omega (arith, h))
+    (λ ps s w z b h. omega (arith, h, b .some, b .within, length-drop w s))
 
 -- either a name differs or it does not
 pub differs-or : (m : Match) → ((m ≡ Differs → ⊥) → ⊥) → m ≡ Differs
@@ -226,5 +226,5 @@ last-extent s at e f h = omega (arith, to-bracket s at e f, extent-end s e h)
 pub text-extent : (ps : List Piece) (s : List ℕ) (i j : ℕ) → (fits ps s i j ≡ Differs → ⊥) → Plain ps → extent false s ≡ textOf ps
 unfolding textOf Plain extent
 text-extent =
-    alike (λ ps s. Plain ps → extent false s ≡ textOf ps) (λ p. refl) (λ p ps s h q. extent-byte p s (q .0) ∙ ap suc (h (q .1)))
-    (λ ps s w b h q. extent-bracket s w b ∙ ap (λ (n : ℕ). suc (2 + n)) (h q))
+    alike (λ ps s z. Plain ps → extent false s ≡ textOf ps) (λ p. refl) (λ p ps s z h q. extent-byte p s (q .0) ∙ ap suc (h (q .1)))
+    (λ ps s w z b h q. extent-bracket s w b ∙ ap (λ (n : ℕ). suc (2 + n)) (h q))
