@@ -1,10 +1,10 @@
 -- A name that a pattern fits or misses is like it: byte for byte, and a bracket of digits where it has a place. What so follows from step to step. Assumes nothing.
-use Prim.Native.Nat.{ℕ, zero, suc, _+_, _≤_, _<_}
+use Prim.Native.Nat.{ℕ}
 use mathlib.Core.Path.{_≡_, refl, ap, sym, _∙_, subst}
 use mathlib.Core.Bool.{Bool, true, false, cond}
 use mathlib.Core.List.{List, [], _∷_}
 use lib.Dec.{eqb}
-use lib.ListN.{length, drop}
+use lib.ListN.{drop}
 use borrow.Author.Tests.{eqb-true}
 use Rattle.value_references.specs.Index.{indexAt}
 use Rattle.value_references.specs.declared.index.Index.{Index}

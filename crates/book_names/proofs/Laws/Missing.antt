@@ -2,7 +2,7 @@
 -- other way round. Assumes nothing.
 use Prim.Native.Nat.{ℕ, zero, suc, _+_, _≤_, _<_}
 use mathlib.Core.Path.{_≡_, refl, ap, sym, _∙_, subst}
-use mathlib.Core.Bool.{Bool, true, false, cond, _&&_}
+use mathlib.Core.Bool.{Bool, true, false, cond}
 use mathlib.Core.List.{List, [], _∷_, _++_}
 use native.Mathlib.Omega.{arith}
 use lib.Dec.{eqb, ltb}
@@ -14,7 +14,7 @@ use Rattle.text_bytes.proofs.Laws.Tests.{and-both}
 use Rattle.text_bytes.proofs.Laws.Pieces.{drop-step}
 use Rattle.value_references.specs.Index.{isDigit, digits, number, indexAt}
 use Rattle.value_references.specs.declared.index.Index.{Index}
-use Rattle.value_references.specs.declared.index.Index.the-variants.{Not, Bad, Is}
+use Rattle.value_references.specs.declared.index.Index.the-variants.{Bad, Is}
 use Rattle.value_references.specs.declared.index.Flaw.{Flaw}
 use Rattle.value_references.specs.declared.index.Flaw.the-variants.{Form, Zero, Over}
 use Rattle.value_references.proofs.Laws.Indices.{Bracket, index-read, index-zero, index-over, index-is}
@@ -94,7 +94,7 @@ digits-closed (x ∷ d) r h =
     rw (q .0) (ap (λ (l : List ℕ). x ∷ l) (digits-closed d r (q .1)))
 
 -- A BRACKET is passed over with the flaw of its digits
-bracket-place : (s : List ℕ) (w : ℕ) → Bracket s w → (v : ℕ) × (1 ≤ v) × Place s v w (digitsFlaw (digits (drop 1 s)))
+pub bracket-place : (s : List ℕ) (w : ℕ) → Bracket s w → (v : ℕ) × (1 ≤ v) × Place s v w (digitsFlaw (digits (drop 1 s)))
 unfolding digitsFlaw
 bracket-place s w b = go (eqb (getD s 1 0) 48) (ltb 64 (number 0 (digits (drop 1 s)))) refl refl
   where

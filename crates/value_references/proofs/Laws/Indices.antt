@@ -13,7 +13,6 @@ use Rattle.text_bytes.proofs.Laws.Tests.{and-both}
 use Rattle.value_references.specs.Index.{written, isDigit, digits, more, number, bracketed, beginsZero, indexAt, Run}
 use Rattle.value_references.specs.declared.index.Index.{Index}
 use Rattle.value_references.specs.declared.index.Index.the-variants.{Not, Bad, Is}
-use Rattle.value_references.specs.declared.index.Flaw.{Flaw}
 use Rattle.value_references.specs.declared.index.Flaw.the-variants.{Form, Zero, Over}
 
 -- the text begins with the index v as it is written, w bytes

@@ -2,8 +2,8 @@
 use native.Mathlib.Omega.{arith}
 use mathlib.Core.Path.{_≡_, sym, _∙_}
 use mathlib.Core.List.{List}
-use Prim.Native.Nat.{ℕ, _+_}
-use lib.ListN.{length, getD, drop}
+use Prim.Native.Nat.{ℕ}
+use lib.ListN.{getD}
 use Rattle.value_references.specs.Index.{Run}
 use borrow.Author.Needs.{needs}
 use Rattle.value_references.proofs.Laws.Indices.{present, index-unopened, index-undigited, index-unclosed, index-zero, index-over, index-is}
