@@ -2,10 +2,12 @@
 use Prim.Native.Nat.{ℕ}
 use Prim.Native.String.{String}
 use mathlib.Core.Path.{_≡_, refl}
+use mathlib.Core.Bool.{false}
 use mathlib.Core.List.{[], _∷_, map}
 use Rattle.text_bytes.specs.Bytes.{bytes, begins}
 use Rattle.value_references.specs.Index.{digits, number, bracketed, indexAt}
 use Rattle.book_names.specs.Names.{piecesFrom, entryOf, fits, firstOf}
+use Rattle.book_names.specs.Steps.{extent}
 use Rattle.book.specs.Keys.{keys}
 use Rattle.book.specs.Columns.{proteinColumns, peptideColumns, psmColumns, moleculeColumns, proteinRequired, peptideRequired, psmRequired, moleculeRequired}
 use Rattle.book.specs.Book.{isSection, sectionOf, keyOf, isOpt, optOf, columnOf, mzTab}
@@ -59,6 +61,12 @@ keys-no-index : (key "sample[]-description" ≡ Unknown Form) × (key "sample[1a
     × (key "sample[ 1]-description" ≡ Unknown Form) × (key "sample[01]-descriptio" ≡ Unknown Form)
 unfolding mzTab keyOf keys bytes entryOf piecesFrom firstOf fits indexAt bracketed digits number
 keys-no-index = (refl, refl, refl, refl, refl)
+
+-- the text of a name's form is as long as that of its pattern, whatever digits stand in its brackets; what is no index counts byte by byte
+forms-long : (extent false (bytes "sample[n]-description") ≡ 21) × (extent false (bytes "sample[7]-description") ≡ 21) × (extent false (bytes "sample[00065]-description") ≡ 21)
+    × (extent false (bytes "assay[12]-quantification_mod[0]") ≡ 30) × (extent false (bytes "title") ≡ 5)
+unfolding extent bytes
+forms-long = (refl, refl, refl, refl, refl)
 
 -- a column that names run 7, its last index (68 is `D`, 82 `R`); reliability is text in section 4 (84 is `T`) and not in section 2 (82 is `R`)
 columns-known : (column 1 "search_engine_score[2]_ms_run[7]" ≡ Known 16 68 82 2 7) × (column 4 "reliability" ≡ Known 11 84 45 0 0) × (column 2 "reliability" ≡ Known 8 82 45 0 0)

@@ -2,6 +2,7 @@
 pub mod Flaws
 pub mod Turns
 pub mod Known
+pub mod Missing
 pub mod Apart
 pub mod Alike
 pub mod Lengths

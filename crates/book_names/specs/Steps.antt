@@ -71,3 +71,7 @@ opens inside x = eqb x OPEN || (inside && isDigit x)
 unfoldable pub extent : Bool → Bytes → ℕ
 extent inside [] = 0
 extent inside (x ∷ s) = counts inside x + extent (opens inside x) s
+
+-- the bytes of a `]` at a place of a name
+abbrev pub closeAt : Bytes → ℕ → ℕ
+closeAt name at = cond (eqb (getD name at SPACE) CLOSE) 1 0

@@ -3,10 +3,11 @@ pub mod links;
 
 use crate::links::HEADS;
 use text_bytes::SPACE;
+use text_bytes::seek;
 use text_bytes::wide;
 use value_references::index::Flaw;
 use value_references::index::Index;
-use value_references::index::is_digit;
+use value_references::index::digits_end;
 use value_references::index::read_index;
 ghost use mathlib.Core.Path.{_≡_};
 ghost use mathlib.Core.List.{[]};
@@ -15,7 +16,7 @@ ghost use Prim.Native.Nat.{_≤_, _<_};
 ghost use lib.ListN.{length, getD, drop};
 ghost use Rattle.text_bytes.specs.Bytes.{SPACE as space};
 ghost use Rattle.book_names.specs.Names.{pieces, fits as fitsIn, lookupIn, sooner as soonerOf};
-ghost use Rattle.book_names.specs.Steps.{Place, marked, flawOf, mayFit, mayEnd, counts as countsOf, opens as opensBy, extent as extentFrom};
+ghost use Rattle.book_names.specs.Steps.{Place, marked, flawOf, mayFit, mayEnd, extent as extentFrom, closeAt};
 ghost use Rattle.book_names.specs.Table.{entries};
 ghost use Rattle.book_names.specs.Links.{Linked};
 ghost use Rattle.book_names.specs.declared.Match.the-variants.{Differs};
@@ -191,46 +192,30 @@ fn may_end(row: &[u8], end: usize, last: u8) -> bool
     row[end - PLACE] == b'['
 }
 
-// How many bytes the byte x of a name counts for in the text of its form, `inside` where it stands behind `[` and digits.
-fn counts(inside: bool, x: u8) -> usize
-    ensures { λ r. ⌜ r ≡ countsOf inside x ⌝ }
+// How many bytes `]` has at a place of the name: none where it does not stand there.
+fn closing(name: &[u8], at: usize) -> usize
+    ensures { λ r. ⌜ r ≡ closeAt (now (name .entry)) at ⌝ }
 {
-    if !inside {
-        return 1;
-    }
-    if is_digit(x) {
-        return 0;
-    }
-    if x == b']' { 2 } else { 1 }
-}
-
-// Whether the byte after x stands behind `[` and digits.
-fn opens(inside: bool, x: u8) -> bool
-    ensures { λ r. ⌜ r ≡ opensBy inside x ⌝ }
-{
-    if x == b'[' {
-        return true;
-    }
-    if !inside {
-        return false;
-    }
-    is_digit(x)
+    if byte_of(name, at) == b']' { 1 } else { 0 }
 }
 
 // How many bytes the text of the name's form has, where each bracket of digits counts as the `[n]` of a pattern.
 fn extent(name: &[u8]) -> usize
     ensures { λ r. ⌜ r ≡ extentFrom false (now (name .entry)) ⌝ }
 {
-    let mut k = 0;
+    let mut at = 0;
     let mut n = 0;
-    let mut inside = false;
-    while k < name.len() {
-        let x = name[k];
-        n += counts(inside, x);
-        inside = opens(inside, x);
-        k += 1;
+    loop {
+        let bracket = seek(name, at, b'[');
+        n += bracket - at;
+        if bracket == name.len() {
+            return n;
+        }
+        let end = digits_end(name, bracket + 1);
+        let close = closing(name, end);
+        n += 1 + 2 * close;
+        at = end + close;
     }
-    n
 }
 
 // Whether the row's pattern cannot fit the name, nor miss it, by where it ends and by its last byte: its text is as long as that of the name's form.

@@ -1,5 +1,6 @@
 -- An index: 1 to 64, decimal, no leading zero, in square brackets. Assumes nothing.
-use Prim.Native.Nat.{ℕ, _+_, _*_, _-_, _/_, _%_}
+use Prim.Native.Nat.{ℕ, _+_, _*_, _-_, _/_, _%_, _<_}
+use mathlib.Core.Path.{_≡_}
 use mathlib.Core.Bool.{Bool, cond, _&&_}
 use mathlib.Core.List.{[], _∷_}
 use lib.Dec.{eqb, leb, ltb}
@@ -53,6 +54,8 @@ indexAt s =
     (cond (beginsZero s) (Bad Zero w) (cond (ltb MOST (number 0 ds)) (Bad Over w) (Is (number 0 ds) w)))
     Not
 
--- a number as far as an index needs it: one past the highest stands for all that are over
-unfoldable pub capped : ℕ → ℕ
-capped n = cond (ltb MOST n) (MOST + 1) n
+-- the digits behind the first byte of a text end at e: there are some, and the first is not zero
+pub record Run (s : Bytes) (e : ℕ) : Type 0 where
+  pub ends : e ≡ 1 + length (digits (drop 1 s))
+  pub some : 1 < e
+  pub first : getD s 1 0 ≡ 48 → ⊥

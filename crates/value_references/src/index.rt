@@ -1,12 +1,15 @@
 // An index in square brackets, as it stands in keys, columns and references.
 use text_bytes::wide;
 ghost use mathlib.Core.Path.{_≡_};
-ghost use Prim.Native.Nat.{_+_, _≤_};
+ghost use Prim.Native.Nat.{_+_, _≤_, _<_};
 ghost use lib.ListN.{length, getD, drop};
-ghost use Rattle.value_references.specs.Index.{isDigit, digits, number, indexAt, capped};
+ghost use Rattle.value_references.specs.Index.{isDigit, digits, number, indexAt, Run};
 
 // The highest index.
 const MOST: usize = 64;
+
+// Where the digits of an index end at the latest: behind `[` and two of them.
+const LATEST: usize = 3;
 
 // Why a name is not known: no form is like it; an index is zero or begins with zero; an index is over 64.
 pub enum Flaw {
@@ -20,12 +23,6 @@ pub enum Index {
     Not,
     Bad(Flaw, usize),
     Is(usize, usize),
-}
-
-// A run of digits: where it ends, and its number, 65 for any that is over 64.
-struct Run {
-    end: usize,
-    n: usize,
 }
 
 // The byte at `i`, 0 past the end.
@@ -45,33 +42,34 @@ pub fn is_digit(b: u8) -> bool
     b <= b'9'
 }
 
-// The number, 65 for any that is over 64: so the digits of an index may go on as long as they like.
-fn cap(n: usize) -> usize
-    ensures { λ r. ⌜ r ≡ capped n ⌝ }
+// The first place from `from` on where no digit stands, or the length.
+pub fn digits_end(s: &[u8], from: usize) -> usize
+    requires { ⌜ from ≤ length (now s) ⌝ }
+    ensures { λ r. ⌜ r ≡ from + length (digits (drop from (now (s .entry)))) ⌝ }
 {
-    if MOST < n { MOST + 1 } else { n }
-}
-
-// The digits of `s` from its second byte on.
-fn digits_at(s: &[u8]) -> Run
-    requires { ⌜ 1 ≤ length (now s) ⌝ }
-    ensures { λ r. ⌜ r .end ≡ 1 + length (digits (drop 1 (now (s .entry)))) ⌝ }
-    ensures { λ r. ⌜ r .n ≡ capped (number 0 (digits (drop 1 (now (s .entry))))) ⌝ }
-{
-    let mut end = 1;
-    let mut n = 0;
+    let mut end = from;
     while end < s.len() {
-        let d = wide(s[end]);
-        if d < 48 {
-            return Run { end, n };
+        if !is_digit(s[end]) {
+            return end;
         }
-        if 57 < d {
-            return Run { end, n };
-        }
-        n = cap(n * 10 + (d - 48));
         end += 1;
     }
-    Run { end, n }
+    end
+}
+
+// The number of the digits from the second byte of `s` up to `end`, or some number over 64 where it is over: of three digits or more it is, since the first is not zero.
+fn small_number(s: &[u8], end: usize) -> usize
+    requires { ⌜ Run (now s) end ⌝ }
+    ensures { λ r. ⌜ (r ≤ 64 → r ≡ number 0 (digits (drop 1 (now (s .entry))))) × (64 < r → 64 < number 0 (digits (drop 1 (now (s .entry))))) ⌝ }
+{
+    if LATEST < end {
+        return MOST + 1;
+    }
+    let first = wide(s[1]) - 48;
+    if end < LATEST {
+        return first;
+    }
+    first * 10 + (wide(s[2]) - 48)
 }
 
 // The index at the front of `s`. One that begins with zero is bad, else one over 64; brackets that are empty or hold more than digits are none.
@@ -81,8 +79,7 @@ pub fn read_index(s: &[u8]) -> Index
     if byte_at(s, 0) != 91 {
         return Index::Not;
     }
-    let run = digits_at(s);
-    let end = run.end;
+    let end = digits_end(s, 1);
     if end <= 1 {
         return Index::Not;
     }
@@ -93,7 +90,7 @@ pub fn read_index(s: &[u8]) -> Index
     if byte_at(s, 1) == 48 {
         return Index::Bad(Flaw::Zero, w);
     }
-    let n = run.n;
+    let n = small_number(s, end);
     if MOST < n {
         return Index::Bad(Flaw::Over, w);
     }

@@ -1,21 +1,28 @@
--- No name fits two lines of a table, and so a line's pattern with its indices written out is found at that line. Assumes nothing.
-use Prim.Native.Nat.{ℕ, zero, suc, _<_}
-use mathlib.Core.Path.{_≡_, refl, ap, sym, _∙_, subst}
+-- No name is like two lines of a table, and so the one line that a name is like decides: its pattern with indices is found there, and with other digits it is
+-- unknown for their first flaw. Assumes nothing.
+use Prim.Native.Nat.{ℕ, zero, suc, _+_, _≤_, _<_}
+use mathlib.Core.Path.{_≡_, refl, ap, sym, _∙_}
 use mathlib.Core.Bool.{Bool, true, false, cond, not, _&&_}
 use mathlib.Core.List.{List, [], _∷_}
 use native.Mathlib.Omega.{arith}
-use lib.Dec.{eqb, ltb}
+use lib.Dec.{eqb}
 use lib.ListN.{length, getD, drop}
-use borrow.Author.Tests.{eq-eqb, eqb-true, eqb-false, ltb-true, ltb-false}
-use Rattle.value_references.specs.Index.{indexAt}
-use Rattle.value_references.specs.declared.index.Index.the-variants.{Is}
-use Rattle.value_references.proofs.Laws.Indices.{index-unopened}
-use Rattle.book_names.specs.Names.{Piece, byte, place, Entry, kindOf, familyOf, formOf, filled, fits, lookupIn}
-use Rattle.book_names.specs.declared.Match.the-variants.{Differs, Fits}
-use Rattle.book_names.specs.declared.Found.{Found}
-use Rattle.book_names.specs.declared.Found.the-variants.{Unknown, Known}
-use Rattle.book_names.proofs.Laws.Known.{never, both, on-index, holes, Shape, filled-fits, nth, known, unknown-miss}
+use borrow.Author.Tests.{eq-eqb, ne-eqb}
 use Rattle.text_bytes.proofs.Laws.Tests.{absurd-bool, and-both}
+use Rattle.value_references.specs.declared.index.Flaw.{Flaw}
+use Rattle.value_references.specs.declared.index.Flaw.the-variants.{Form, Zero, Over}
+use Rattle.value_references.specs.Index.{digits, indexAt}
+use Rattle.value_references.proofs.Laws.Indices.{Bracket, index-unopened}
+use Rattle.book_names.specs.Names.{Piece, byte, place, Entry, kindOf, familyOf, formOf, filled, fits, sooner, onMatch, firstOf, lookupIn}
+use Rattle.book_names.specs.Steps.{flawIn, marked}
+use Rattle.book_names.specs.declared.Match.the-variants.{Differs, Fits}
+use Rattle.book_names.specs.declared.Found.the-variants.{Unknown, Known}
+use Rattle.book_names.proofs.Laws.Flaws.{marked-differs, on-some}
+use Rattle.book_names.proofs.Laws.Turns.{place-fits}
+use Rattle.book_names.proofs.Laws.Alike.{alike}
+use Rattle.book_names.proofs.Laws.Lengths.{differs-or}
+use Rattle.book_names.proofs.Laws.Known.{holes, Shape, filled-fits, nth}
+use Rattle.book_names.proofs.Laws.Missing.{spelled, digitsFlaw, firstFlaw, Digits, bracket-place, spelled-fits}
 
 -- two patterns that no text fits both: at some piece they part
 unfoldable pub apart : List Piece → List Piece → Bool
@@ -39,78 +46,49 @@ allApart (e ∷ es) = apartFrom (formOf e) es && allApart es
 not-same : (x : ℕ) → not (eqb x 91) ≡ true → x ≡ 91 → ⊥
 not-same x h e = absurd-bool (rw (eq-eqb x 91 e) at h)
 
--- a byte at the front of a pattern is the name's first
-byte-on : (x : ℕ) (ps : List Piece) (s : List ℕ) (a b i j : ℕ) → fits (byte x ∷ ps) s a b ≡ Fits i j
-    → (getD s 0 0 ≡ x) × (fits ps (drop 1 s) a b ≡ Fits i j) × (0 < length s)
+-- a place fits no text that does not begin with `[`
+place-unopened : (ps : List Piece) (s : List ℕ) (c d : ℕ) → (getD s 0 0 ≡ 91 → ⊥) → fits (place ∷ ps) s c d ≡ Differs
 unfolding fits
-byte-on x ps [] a b i j h = never h
-byte-on x ps (z ∷ s) a b i j h =
-    let q = both (eqb z x) _ h in
-    (eqb-true z x (q .0), q .1, omega arith)
+place-unopened ps s c d n = rw (index-unopened s n)
 
--- a place at the front of a pattern is an index
-place-on : (ps : List Piece) (s : List ℕ) (a b i j : ℕ) → fits (place ∷ ps) s a b ≡ Fits i j
-    → (v : ℕ) × (w : ℕ) × (a′ : ℕ) × (b′ : ℕ) × (indexAt s ≡ Is v w) × (fits ps (drop w s) a′ b′ ≡ Fits i j)
-unfolding fits
-place-on ps s a b i j h = let o = on-index (indexAt s) _ h in go (o .0) (o .1) (o .2) (eqb a 0) (eqb b 0) (o .3)
+-- THE STEPS, from the end of the two patterns on: where one is like a name, the other differs from it
+Other : List Piece → List ℕ → Flaw → Type 0
+Other ps s z = (qs : List Piece) (c d : ℕ) → apart ps qs ≡ true → fits qs s c d ≡ Differs
+
+other-none : Other [] [] Form
+unfolding Other apart fits
+other-none [] c d a = absurd-bool a
+other-none (byte y ∷ qs) c d a = refl
+other-none (place ∷ qs) c d a = place-unopened qs [] c d (λ (e : 0 ≡ 91). omega arith)
+
+other-byte : (p : ℕ) (ps : List Piece) (s : List ℕ) (z : Flaw) → Other ps s z → Other (byte p ∷ ps) (p ∷ s) z
+unfolding Other apart fits
+other-byte p ps s z h [] c d a = refl
+other-byte p ps s z h (byte y ∷ qs) c d a = go (eqb p y) a
   where
-    go : (v w : ℕ) → indexAt s ≡ Is v w → (t u : Bool)
-        → cond t (fits ps (drop w s) v b) (cond u (fits ps (drop w s) a v) Differs) ≡ Fits i j
-        → (v : ℕ) × (w : ℕ) × (a′ : ℕ) × (b′ : ℕ) × (indexAt s ≡ Is v w) × (fits ps (drop w s) a′ b′ ≡ Fits i j)
-    go v w e true u q = (v, w, v, b, e, q)
-    go v w e false true q = (v, w, a, v, e, q)
-    go v w e false false q = never q
+    go : (t : Bool) → cond t (apart ps qs) true ≡ true → cond t (fits qs s c d) Differs ≡ Differs
+    go true a = h qs c d a
+    go false a = refl
+other-byte p ps s z h (place ∷ qs) c d a = place-unopened qs (p ∷ s) c d (not-same p a)
 
-nil-on : (s : List ℕ) (a b i j : ℕ) → fits [] s a b ≡ Fits i j → s ≡ []
-unfolding fits
-nil-on [] a b i j h = refl
-nil-on (z ∷ s) a b i j h = never h
-
--- an index begins with `[`
-index-opens : (s : List ℕ) (v w : ℕ) → indexAt s ≡ Is v w → getD s 0 0 ≡ 91
-index-opens s v w h = go (eqb (getD s 0 0) 91) refl
+other-place : (ps : List Piece) (s : List ℕ) (w : ℕ) (z : Flaw) → Bracket s w → Other ps (drop w s) z → Other (place ∷ ps) s (sooner (flawIn (indexAt s)) z)
+unfolding Other apart fits
+other-place ps [] w z b h qs c d a = absurd (omega (arith, b .opens))
+other-place ps (x ∷ s) w z b h [] c d a = refl
+other-place ps (x ∷ s) w z b h (byte y ∷ qs) c d a = rw (ne-eqb x y (λ (e : x ≡ y). not-same y a (sym e ∙ b .opens)))
+other-place ps (x ∷ s) w z b h (place ∷ qs) c d a =
+    let p = bracket-place (x ∷ s) w b in
+    let m = digitsFlaw (digits s) in
+    place-fits qs (x ∷ s) c d ∙ on-some (x ∷ s) (p .0) w m (p .2) _ (λ (e : w ≡ 0). omega (arith, b .some)) ∙ ap (marked m) (go (p .0) (eqb c 0) (eqb d 0)) ∙ marked-differs m
   where
-    go : (t : Bool) → eqb (getD s 0 0) 91 ≡ t → getD s 0 0 ≡ 91
-    go true e = eqb-true (getD s 0 0) 91 e
-    go false e =
-        let n = index-unopened s (eqb-false (getD s 0 0) 91 e) in
-        let z : _≡_ {A = ℕ} 0 1 = cc in
-        absurd (omega arith)
+    go : (v : ℕ) (t u : Bool) → cond t (fits qs (drop w (x ∷ s)) v d) (cond u (fits qs (drop w (x ∷ s)) c v) Differs) ≡ Differs
+    go v true u = h qs v d a
+    go v false true = h qs c v a
+    go v false false = refl
 
--- nothing that is empty fits a piece
-piece-on : (p : Piece) (ps : List Piece) (s : List ℕ) (a b i j : ℕ) → fits (p ∷ ps) s a b ≡ Fits i j → s ≡ [] → ⊥
-piece-on (byte x) ps s a b i j h e = let q = byte-on x ps s a b i j h in omega (arith, q .2, ap length e)
-piece-on place ps s a b i j h e =
-    let q = place-on ps s a b i j h in
-    omega (arith, index-opens s (q .0) (q .1) (q .4), ap (λ (l : List ℕ). getD l 0 0) e)
-
-pub apart-fits : (ps qs : List Piece) (s : List ℕ) (a b c d i j k l : ℕ) → apart ps qs ≡ true
-    → fits ps s a b ≡ Fits i j → fits qs s c d ≡ Fits k l → ⊥
-unfolding apart
-apart-fits [] [] s a b c d i j k l h f g = absurd-bool h
-apart-fits [] (q ∷ qs) s a b c d i j k l h f g = piece-on q qs s c d k l g (nil-on s a b i j f)
-apart-fits (p ∷ ps) [] s a b c d i j k l h f g = piece-on p ps s a b i j f (nil-on s c d k l g)
-apart-fits (byte x ∷ ps) (byte y ∷ qs) s a b c d i j k l h f g =
-    let u = byte-on x ps s a b i j f in
-    let v = byte-on y qs s c d k l g in
-    let e : x ≡ y = sym (u .0) ∙ v .0 in
-    apart-fits ps qs (drop 1 s) a b c d i j k l (rw (eq-eqb x y e) at h) (u .1) (v .1)
-apart-fits (byte x ∷ ps) (place ∷ qs) s a b c d i j k l h f g =
-    let u = byte-on x ps s a b i j f in
-    let v = place-on qs s c d k l g in
-    not-same x h (sym (u .0) ∙ index-opens s (v .0) (v .1) (v .4))
-apart-fits (place ∷ ps) (byte y ∷ qs) s a b c d i j k l h f g =
-    let u = place-on ps s a b i j f in
-    let v = byte-on y qs s c d k l g in
-    not-same y h (sym (v .0) ∙ index-opens s (u .0) (u .1) (u .4))
-apart-fits (place ∷ ps) (place ∷ qs) s a b c d i j k l h f g =
-    let u = place-on ps s a b i j f in
-    let v = place-on qs s c d k l g in
-    let p = u .4 in
-    let q = v .4 in
-    let e : v .1 ≡ u .1 = cc in
-    apart-fits ps qs (drop (u .1) s) (u .2) (u .3) (v .2) (v .3) i j k l h (u .5)
-    (subst (λ (w : ℕ). fits qs (drop w s) (v .2) (v .3) ≡ Fits k l) e (v .5))
+pub apart-alike : (ps qs : List Piece) (s : List ℕ) (i j c d : ℕ) → apart ps qs ≡ true → (fits ps s i j ≡ Differs → ⊥) → fits qs s c d ≡ Differs
+unfolding Other
+apart-alike ps qs s i j c d a n = alike Other other-none other-byte other-place ps s i j n qs c d a
 
 -- THE WHOLE TABLE
 from-at : (p : List Piece) (es : List Entry) (m : ℕ) → apartFrom p es ≡ true → m < length es → apart p (formOf (nth es m)) ≡ true
@@ -119,43 +97,49 @@ from-at p [] m h k = absurd (omega arith)
 from-at p (e ∷ es) zero h k = and-both (apart p (formOf e)) _ h .0
 from-at p (e ∷ es) (suc m) h k = from-at p es m (and-both (apart p (formOf e)) _ h .1) (omega arith)
 
-apart-at : (es : List Entry) (n m : ℕ) → allApart es ≡ true → n < m → m < length es → apart (formOf (nth es n)) (formOf (nth es m)) ≡ true
-unfolding allApart
-apart-at [] n m h lt k = absurd (omega arith)
-apart-at (e ∷ es) n zero h lt k = absurd (omega arith)
-apart-at (e ∷ es) zero (suc m) h lt k = from-at (formOf e) es m (and-both (apartFrom (formOf e) es) _ h .0) (omega arith)
-apart-at (e ∷ es) (suc n) (suc m) h lt k = apart-at es n m (and-both (apartFrom (formOf e) es) _ h .1) (omega arith) (omega arith)
+-- THE LINE that a name is like decides
+none-like : (p : List Piece) (es : List Entry) (name : List ℕ) (e : ℕ) → apartFrom p es ≡ true → (fits p name 0 0 ≡ Differs → ⊥) → firstOf e es name ≡ Unknown Form
+unfolding apartFrom firstOf
+none-like p [] name e h n = refl
+none-like p (x ∷ es) name e h n =
+    let q = and-both (apart p (formOf x)) _ h in
+    rw (apart-alike p (formOf x) name 0 0 0 0 (q .0) n) (none-like p es name (e + 1) (q .1) n)
 
--- no name fits two lines
-pub one-line : (es : List Entry) (name : List ℕ) (n m i j k l : ℕ) → allApart es ≡ true → n < length es → m < length es
-    → fits (formOf (nth es n)) name 0 0 ≡ Fits i j → fits (formOf (nth es m)) name 0 0 ≡ Fits k l → n ≡ m
-one-line es name n m i j k l h hn hm f g = go (ltb n m) (ltb m n) refl refl
-  where
-    go : (t u : Bool) → ltb n m ≡ t → ltb m n ≡ u → n ≡ m
-    go true u p q = absurd (apart-fits (formOf (nth es n)) (formOf (nth es m)) name 0 0 0 0 i j k l (apart-at es n m h (ltb-true n m p) hm) f g)
-    go false true p q = absurd (apart-fits (formOf (nth es m)) (formOf (nth es n)) name 0 0 0 0 k l i j (apart-at es m n h (ltb-true m n q) hn) g f)
-    go false false p q = omega (arith, ltb-false n m p, ltb-false m n q)
+pub only-line : (es : List Entry) (name : List ℕ) (e n : ℕ) → allApart es ≡ true → n < length es → (fits (formOf (nth es n)) name 0 0 ≡ Differs → ⊥)
+    → firstOf e es name ≡ onMatch (fits (formOf (nth es n)) name 0 0) (Unknown Form) (λ i j. Known (e + n) (kindOf (nth es n)) (familyOf (nth es n)) i j)
+unfolding allApart firstOf
+only-line [] name e n h l k = absurd (omega arith)
+only-line (x ∷ es) name e zero h l k =
+    let q = and-both (apartFrom (formOf x) es) _ h in
+    let z : e + 0 ≡ e = omega arith in
+    rw (none-like (formOf x) es name (e + 1) (q .0) k, z)
+only-line (x ∷ es) name e (suc n) h l k =
+    let q = and-both (apartFrom (formOf x) es) _ h in
+    let a = from-at (formOf x) es n (q .0) (omega arith) in
+    let d = differs-or (fits (formOf x) name 0 0) (λ (m : fits (formOf x) name 0 0 ≡ Differs → ⊥). k (apart-alike (formOf x) (formOf (nth es n)) name 0 0 0 0 a m)) in
+    let z : e + 1 + n ≡ e + suc n = omega arith in
+    rw (d, ← z) (only-line es name (e + 1) n (q .1) (omega arith) k)
 
--- THE LAW: a line's pattern with indices 1 to 64 written out is found at that line
-pub complete : (es : List Entry) (n i j : ℕ) → allApart es ≡ true → n < length es → Shape (holes (formOf (nth es n))) i j
-    → lookupIn es (filled (formOf (nth es n)) i j) ≡ Known n (kindOf (nth es n)) (familyOf (nth es n)) i j
-complete es n i j h hn s = go (lookupIn es name) refl
-  where
-    name : List ℕ
-    name = filled (formOf (nth es n)) i j
+module _ (es : List Entry) (n : ℕ) (h : allApart es ≡ true) (inside : n < length es) where
+  -- THE LAW: a line's pattern with indices 1 to 64 written out is found at that line
+  pub complete : (i j : ℕ) → Shape (holes (formOf (nth es n))) i j
+      → lookupIn es (filled (formOf (nth es n)) i j) ≡ Known n (kindOf (nth es n)) (familyOf (nth es n)) i j
+  complete i j s =
+      let f = filled-fits (formOf (nth es n)) i j s in
+      let z : 0 + n ≡ n = omega arith in
+      only-line es _ 0 n h inside (λ d. absurd (let o : _≡_ {A = ℕ} 0 1 = cc in omega arith)) ∙ rw (f, z)
 
-    fit : fits (formOf (nth es n)) name 0 0 ≡ Fits i j
-    fit = filled-fits (formOf (nth es n)) i j s
+  -- AND with digits at its places of which some are no index, it is unknown for their first flaw
+  pub complete-flaw : (ds : List (List ℕ)) → holes (formOf (nth es n)) ≤ 2 → length ds ≡ holes (formOf (nth es n)) → Digits ds → (firstFlaw ds ≡ Form → ⊥)
+      → lookupIn es (spelled (formOf (nth es n)) ds) ≡ Unknown (firstFlaw ds)
+  complete-flaw ds few c e k =
+      let f = spelled-fits (formOf (nth es n)) ds few c e in
+      go (firstFlaw ds) k (f .0) (f .1) (f .2)
+    where
+      name : List ℕ
+      name = spelled (formOf (nth es n)) ds
 
-    go : (r : Found) → lookupIn es name ≡ r → lookupIn es name ≡ Known n (kindOf (nth es n)) (familyOf (nth es n)) i j
-    go (Unknown z) e = absurd (unknown-miss es name 0 n z e hn i j fit)
-    go (Known e k f i′ j′) q =
-        let a = known es name e k f i′ j′ q in
-        let en : e ≡ n = one-line es name e n i′ j′ i j h (a .inside) hn (a .fit) fit in
-        let af : fits (formOf (nth es n)) name 0 0 ≡ Fits i′ j′ = subst (λ (m : ℕ). fits (formOf (nth es m)) name 0 0 ≡ Fits i′ j′) en (a .fit) in
-        let ei : i′ ≡ i = cc fit in
-        let ej : j′ ≡ j = cc fit in
-        let ek : k ≡ kindOf (nth es n) = a .kind ∙ ap (λ (m : ℕ). kindOf (nth es m)) en in
-        let ef : f ≡ familyOf (nth es n) = a .family ∙ ap (λ (m : ℕ). familyOf (nth es m)) en in
-        q ∙ ap (λ (x : ℕ). Known x k f i′ j′) en ∙ ap (λ (x : ℕ). Known n x f i′ j′) ek ∙ ap (λ (x : ℕ). Known n (kindOf (nth es n)) x i′ j′) ef
-        ∙ ap (λ (x : ℕ). Known n (kindOf (nth es n)) (familyOf (nth es n)) x j′) ei ∙ ap (λ (x : ℕ). Known n (kindOf (nth es n)) (familyOf (nth es n)) i x) ej
+      go : (z : Flaw) → (z ≡ Form → ⊥) → (a b : ℕ) → fits (formOf (nth es n)) name 0 0 ≡ marked z (Fits a b) → lookupIn es name ≡ Unknown z
+      go Form k a b q = absurd (k refl)
+      go Zero k a b q = only-line es name 0 n h inside (λ d. absurd (let o : _≡_ {A = ℕ} 0 1 = cc in omega arith)) ∙ rw q
+      go Over k a b q = only-line es name 0 n h inside (λ d. absurd (let o : _≡_ {A = ℕ} 0 1 = cc in omega arith)) ∙ rw q

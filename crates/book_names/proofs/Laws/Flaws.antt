@@ -9,7 +9,7 @@ use Rattle.value_references.specs.declared.index.Index.{Index}
 use Rattle.value_references.specs.declared.index.Index.the-variants.{Not, Bad, Is}
 use Rattle.value_references.specs.declared.index.Flaw.{Flaw}
 use Rattle.value_references.specs.declared.index.Flaw.the-variants.{Form, Zero, Over}
-use Rattle.value_references.proofs.Laws.Indices.{Bracket, Holds, index-holds}
+use Rattle.value_references.proofs.Laws.Indices.{Holds, index-holds}
 use Rattle.book_names.specs.Names.{missing, onIndex, sooner, misses, onMatch}
 use Rattle.book_names.specs.Steps.{widthIn, takenIn, flawIn, Place, marked, flawOf}
 use Rattle.book_names.specs.declared.Match.{Match}

@@ -32,14 +32,14 @@ flawed z (Misses w) h = let o : _≡_ {A = ℕ} 0 1 = cc in absurd (omega arith)
 flawed z (Fits a b) h = let o : _≡_ {A = ℕ} 0 1 = cc in absurd (omega arith)
 
 -- a test that leads to a fit was passed
-pub both : (b : Bool) (x : Match) {i j : ℕ} → cond b x Differs ≡ Fits i j → (b ≡ true) × (x ≡ Fits i j)
+both : (b : Bool) (x : Match) {i j : ℕ} → cond b x Differs ≡ Fits i j → (b ≡ true) × (x ≡ Fits i j)
 both true x h = (refl, h)
 both false x h = never h
 
 pass : (b : Bool) (x y : Match) → b ≡ false → cond b x y ≡ y
 pass b x y e = rw e
 
-pub on-index : (x : Index) (f : ℕ → ℕ → Match) {i j : ℕ} → onIndex x f ≡ Fits i j → (v : ℕ) × (w : ℕ) × (x ≡ Is v w) × (f v w ≡ Fits i j)
+on-index : (x : Index) (f : ℕ → ℕ → Match) {i j : ℕ} → onIndex x f ≡ Fits i j → (v : ℕ) × (w : ℕ) × (x ≡ Is v w) × (f v w ≡ Fits i j)
 on-index Not f h = never h
 on-index (Bad z w) f h = flawed z (f 1 w) h
 on-index (Is v w) f h = (v, w, refl, h)
@@ -246,29 +246,6 @@ known es name e k f i j h =
     let r = found es name 0 e k f i j h in
     let en : r .0 ≡ e = omega (arith, r .1) in
     subst (λ (n : ℕ). At es name n k f i j) en (r .2)
-
-unlike : {A : Type 0} {e k f i j : ℕ} {z : Flaw} → Known e k f i j ≡ Unknown z → A
-unlike h = let o : _≡_ {A = ℕ} 0 1 = cc in absurd (omega arith)
-
-later : (w z : Flaw) (d : Found) → misses w d ≡ Unknown z → (y : Flaw) × (d ≡ Unknown y)
-later w z (Unknown y) h = (y, refl)
-later w z (Known e k f i j) h = unlike h
-
-missed : (m : Match) (d : Found) (g : ℕ → ℕ → Found) (z : Flaw) → onMatch m d g ≡ Unknown z → ((i j : ℕ) → g i j ≡ Unknown z → ⊥)
-    → ((i j : ℕ) → m ≡ Fits i j → ⊥) × ((y : Flaw) × (d ≡ Unknown y))
-missed Differs d g z h k = ((λ i j e. never e), (z, h))
-missed (Misses w) d g z h k = ((λ i j e. absurd (let o : _≡_ {A = ℕ} 0 1 = cc in omega arith)), later w z d h)
-missed (Fits a b) d g z h k = absurd (k a b h)
-
--- an unknown name fits no line
-pub unknown-miss : (es : List Entry) (name : List ℕ) (e n : ℕ) (z : Flaw) → firstOf e es name ≡ Unknown z → n < length es
-    → (i j : ℕ) → fits (formOf (nth es n)) name 0 0 ≡ Fits i j → ⊥
-unfolding firstOf
-unknown-miss [] name e n z h k = absurd (omega arith)
-unknown-miss (x ∷ es) name e zero z h k = missed (fits (formOf x) name 0 0) _ _ z h (λ i j q. unlike q) .0
-unknown-miss (x ∷ es) name e (suc n) z h k =
-    let l = missed (fits (formOf x) name 0 0) _ _ z h (λ i j q. unlike q) .1 in
-    unknown-miss es name (e + 1) n (l .0) (l .1) (omega arith)
 
 -- SLOTS
 

@@ -50,7 +50,7 @@ lastByte d (place ∷ ps) = lastByte 93 ps
 last-alike : (ps : List Piece) (s : List ℕ) (i j : ℕ) → (fits ps s i j ≡ Differs → ⊥) → (d : ℕ) → lastOr d s ≡ lastByte d ps
 unfolding lastOr lastByte
 last-alike =
-    alike (λ ps s. (d : ℕ) → lastOr d s ≡ lastByte d ps) (λ d. refl) (λ p ps s h d. h p) (λ ps s w b h d. last-bracket s w d b ∙ h 93)
+    alike (λ ps s z. (d : ℕ) → lastOr d s ≡ lastByte d ps) (λ d. refl) (λ p ps s z h d. h p) (λ ps s w z b h d. last-bracket s w d b ∙ h 93)
 
 -- THE ROW: what stands before a place of it is z, or a place for an index where z is `]`
 module _ (row : List ℕ) where

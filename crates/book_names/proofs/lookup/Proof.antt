@@ -1,13 +1,12 @@
 -- `book_names::lookup`: the first flaw so far, the entry that the links have reached and those after it decide. Assumes nothing.
 use borrow.Author.Needs.{needs}
 use native.Mathlib.Omega.{arith}
-use mathlib.Core.Path.{_≡_, refl, sym, _∙_, ap, subst⁻¹}
+use mathlib.Core.Path.{_≡_, sym, _∙_, ap, subst⁻¹}
 use mathlib.Core.List.{List}
 use mathlib.Core.Logic.{_⊎_, ⊎-elim}
-use Prim.Native.Nat.{ℕ, _+_, _*_, _-_, _<_, _/_}
-use lib.ListN.{length, drop, take, getD}
+use Prim.Native.Nat.{ℕ, _+_, _*_, _-_}
+use lib.ListN.{drop, take}
 use denote.Enum.Declared.{tagOf}
-use Rattle.value_references.specs.declared.index.Flaw.{Flaw}
 use Rattle.value_references.specs.declared.index.Flaw.the-variants.{Form}
 use Rattle.book_names.specs.Names.{pieces, fits as fitsIn}
 use Rattle.book_names.specs.declared.Match.{Match}

@@ -5,15 +5,14 @@ use mathlib.Core.Bool.{Bool, true, false, cond, _&&_}
 use mathlib.Core.List.{List, [], _∷_, _++_}
 use native.Mathlib.Omega.{arith}
 use lib.Dec.{eqb, leb, ltb}
-use lib.ListN.{length, getD, drop, drop-of-length-le}
+use lib.ListN.{length, getD, drop, drop-of-length-le, length-drop}
 use lib.Seq.{getD-drop}
 use borrow.Author.Tests.{lt-ltb, le-ltb, le-leb, lt-leb, eq-eqb, ne-eqb, eqb-true, eqb-false, leb-true, ltb-true, ltb-false}
 use Rattle.text_bytes.proofs.Laws.Pieces.{drop-step}
 use Rattle.text_bytes.proofs.Laws.Tests.{and-both}
-use Rattle.value_references.specs.Index.{written, isDigit, digits, more, number, bracketed, beginsZero, indexAt, capped}
+use Rattle.value_references.specs.Index.{written, isDigit, digits, more, number, bracketed, beginsZero, indexAt, Run}
 use Rattle.value_references.specs.declared.index.Index.{Index}
 use Rattle.value_references.specs.declared.index.Index.the-variants.{Not, Bad, Is}
-use Rattle.value_references.specs.declared.index.Flaw.{Flaw}
 use Rattle.value_references.specs.declared.index.Flaw.the-variants.{Form, Zero, Over}
 
 -- the text begins with the index v as it is written, w bytes
@@ -59,25 +58,18 @@ digit-low x h = rw (lt-leb 48 x h)
 pub digit-else : (x : ℕ) → 48 ≤ x → leb x 57 ≡ isDigit x
 digit-else x h = rw (le-leb 48 x h)
 
-digit-high : (x : ℕ) → 57 < x → isDigit x ≡ false
-digit-high x h = rw (le-leb 48 x (omega arith), lt-leb x 57 h)
-
 module _ (s : List ℕ) (i : ℕ) where
   pub digits-end : length s ≤ i → digits (drop i s) ≡ []
   unfolding digits
   digits-end h = rw (drop-of-length-le s h)
 
-  pub digits-low : i < length s → getD s i 0 < 48 → digits (drop i s) ≡ []
+  pub digits-stop : i < length s → isDigit (getD s i 0) ≡ false → digits (drop i s) ≡ []
   unfolding digits
-  digits-low h k = rw (drop-step s i h, digit-low (getD s i 0) k)
+  digits-stop h k = rw (drop-step s i h, k)
 
-  pub digits-high : i < length s → 57 < getD s i 0 → digits (drop i s) ≡ []
+  pub digits-more : i < length s → isDigit (getD s i 0) ≡ true → digits (drop i s) ≡ getD s i 0 ∷ digits (drop (i + 1) s)
   unfolding digits
-  digits-high h k = rw (drop-step s i h, digit-high (getD s i 0) k)
-
-  pub digits-more : i < length s → 48 ≤ getD s i 0 → getD s i 0 ≤ 57 → digits (drop i s) ≡ getD s i 0 ∷ digits (drop (i + 1) s)
-  unfolding digits
-  digits-more h k m = rw (drop-step s i h, digit-yes (getD s i 0) k m)
+  digits-more h k = rw (drop-step s i h, k)
 
 -- NUMBERS
 
@@ -94,56 +86,6 @@ number-least n m (d ∷ ds) h = number-least (more n d) m ds (omega arith)
 pub number-more : (n d : ℕ) (ds : List ℕ) → number n (d ∷ ds) ≡ number (more n d) ds
 unfolding number
 number-more n d ds = refl
-
--- CAPPED NUMBERS
-
-capped-most : (n : ℕ) → 64 < n → capped n ≡ 65
-unfolding capped
-capped-most n h = rw (lt-ltb 64 n h)
-
-pub capped-le : (n : ℕ) → capped n ≤ 65
-unfolding capped
-capped-le n = go (ltb 64 n) refl
-  where
-    go : (t : Bool) → ltb 64 n ≡ t → cond t 65 n ≤ 65
-    go true e = omega arith
-    go false e = omega (arith, ltb-false 64 n e)
-
-pub capped-self : (n : ℕ) → n ≤ 65 → capped n ≡ n
-unfolding capped
-capped-self n h = go (ltb 64 n) refl
-  where
-    go : (t : Bool) → ltb 64 n ≡ t → cond t 65 n ≡ n
-    go true e = omega (arith, ltb-true 64 n e)
-    go false e = refl
-
--- the digits that follow do not tell a capped number from the number
-pub capped-number : (n : ℕ) (ds : List ℕ) → capped (number n ds) ≡ capped (number (capped n) ds)
-unfolding capped
-capped-number n ds = go (ltb 64 n) refl
-  where
-    go : (t : Bool) → ltb 64 n ≡ t → capped (number n ds) ≡ capped (number (cond t 65 n) ds)
-    go true e =
-        let h = ltb-true 64 n e in
-        capped-most (number n ds) (number-least n 65 ds h) ∙ sym (capped-most (number 65 ds) (number-least 65 65 ds (omega arith)))
-    go false e = refl
-
-module _ (n m : ℕ) (c : n ≡ capped m) where
-  pub capped-is : n ≤ 64 → n ≡ m
-  unfolding capped
-  capped-is h = go (ltb 64 m) c
-    where
-      go : (t : Bool) → n ≡ cond t 65 m → n ≡ m
-      go true e = absurd (omega arith)
-      go false e = e
-
-  pub capped-over : 64 < n → 64 < m
-  unfolding capped
-  capped-over h = go (ltb 64 m) refl c
-    where
-      go : (t : Bool) → ltb 64 m ≡ t → n ≡ cond t 65 m → 64 < m
-      go true q e = ltb-true 64 m q
-      go false q e = omega arith
 
 -- a run of digits is the front of its text
 uncons-by : (b : Bool) (x d : ℕ) (r ds : List ℕ) → isDigit x ≡ b → cond b (x ∷ digits r) [] ≡ d ∷ ds
@@ -205,6 +147,74 @@ long s v d f h0 hd hf d1 d2 f1 f2 e m h3 =
 -- no number of three digits is an index
 three-digits : (d f g : ℕ) → 49 ≤ d → 65 ≤ more (more (more 0 d) f) g
 three-digits d f g h = omega arith
+
+-- A RUN of digits behind the first byte, of which the first is not zero
+
+-- each is a digit that stands in the text
+pub digits-at : (t : List ℕ) (k : ℕ) → k < length (digits t) → (k < length t) × (48 ≤ getD t k 0) × (getD t k 0 ≤ 57)
+unfolding digits
+digits-at [] k h = absurd (omega arith)
+digits-at (x ∷ t) k h = go (isDigit x) refl k h (digits-at t)
+  where
+    go : (b : Bool) → isDigit x ≡ b → (k : ℕ) → k < length (cond b (x ∷ digits t) [])
+        → ((k : ℕ) → k < length (digits t) → (k < length t) × (48 ≤ getD t k 0) × (getD t k 0 ≤ 57))
+        → (k < suc (length t)) × (48 ≤ getD (x ∷ t) k 0) × (getD (x ∷ t) k 0 ≤ 57)
+    go true e zero h rest =
+        let d = and-both (leb 48 x) (leb x 57) e in
+        (omega arith, leb-true 48 x (d .0), leb-true x 57 (d .1))
+    go true e (suc k) h rest = let r = rest k (omega arith) in (omega (arith, r .0), r .1, r .2)
+    go false e k h rest = absurd (omega arith)
+
+module _ (s : List ℕ) (e : ℕ) (r : Run s e) where
+  run-digit : (k : ℕ) → 1 + k < e → (1 + k < length s) × (48 ≤ getD s (1 + k) 0) × (getD s (1 + k) 0 ≤ 57)
+  run-digit k h =
+      let d = digits-at (drop 1 s) k (omega (arith, r .ends)) in
+      let g = getD-drop 1 s k 0 in
+      (omega (arith, d .0, length-drop 1 s), omega (arith, d .1, g), omega (arith, d .2, g))
+
+  pub run-first : (1 < length s) × (48 ≤ getD s 1 0) × (getD s 1 0 ≤ 57)
+  run-first = run-digit 0 (omega (arith, r .some))
+
+  pub run-second : 3 ≤ e → (2 < length s) × (48 ≤ getD s 2 0) × (getD s 2 0 ≤ 57)
+  run-second h = run-digit 1 (omega arith)
+
+  pub run-one : e < 3 → getD s 1 0 - 48 ≡ number 0 (digits (drop 1 s))
+  unfolding number
+  run-one h = go (digits (drop 1 s)) refl (r .ends)
+    where
+      go : (ds : List ℕ) → digits (drop 1 s) ≡ ds → e ≡ 1 + length ds → getD s 1 0 - 48 ≡ number 0 ds
+      go [] q l = absurd (omega (arith, r .some))
+      go (d ∷ []) q l = omega (arith, uncons (drop 1 s) d [] q .0, getD-drop 1 s 0 0)
+      go (d ∷ f ∷ ds) q l = absurd (omega arith)
+
+  pub run-two : 3 ≤ e → e ≤ 3 → (getD s 1 0 - 48) * 10 + (getD s 2 0 - 48) ≡ number 0 (digits (drop 1 s))
+  unfolding number
+  run-two h k = go (digits (drop 1 s)) refl (r .ends)
+    where
+      go : (ds : List ℕ) → digits (drop 1 s) ≡ ds → e ≡ 1 + length ds → (getD s 1 0 - 48) * 10 + (getD s 2 0 - 48) ≡ number 0 ds
+      go [] q l = absurd (omega arith)
+      go (d ∷ []) q l = absurd (omega arith)
+      go (d ∷ f ∷ []) q l =
+          let u = uncons (drop 1 s) d (f ∷ []) q in
+          let v = uncons (drop 1 (drop 1 s)) f [] (u .1) in
+          omega (arith, u .0, v .0, getD-drop 1 s 0 0, getD-drop 1 (drop 1 s) 0 0, getD-drop 1 s 1 0)
+      go (d ∷ f ∷ g ∷ ds) q l = absurd (omega arith)
+
+  pub run-long : 3 < e → 64 < number 0 (digits (drop 1 s))
+  unfolding number
+  run-long h = go (digits (drop 1 s)) refl (r .ends)
+    where
+      least : (d : ℕ) → 48 ≤ d → (d ≡ 48 → ⊥) → 49 ≤ d
+      least d h n = omega arith
+
+      go : (ds : List ℕ) → digits (drop 1 s) ≡ ds → e ≡ 1 + length ds → 64 < number 0 ds
+      go [] q l = absurd (omega arith)
+      go (d ∷ []) q l = absurd (omega arith)
+      go (d ∷ f ∷ []) q l = absurd (omega arith)
+      go (d ∷ f ∷ g ∷ ds) q l =
+          let u = uncons (drop 1 s) d (f ∷ g ∷ ds) q in
+          let lo = least d (u .2) (λ (x : d ≡ 48). r .first (sym (getD-drop 1 s 0 0) ∙ u .0 ∙ x)) in
+          number-least (more (more (more 0 d) f) g) 65 ds (three-digits d f g lo)
 
 -- the text of an index, by its digits
 by-digits : (s ds : List ℕ) → getD s 0 0 ≡ 91 → digits (drop 1 s) ≡ ds → 1 ≤ length ds → (getD s 1 0 ≡ 48 → ⊥)
