@@ -1,11 +1,12 @@
 -- What the cell calls show of a file: paper 01, 'Calls and what they give back'. Assumes nothing.
 use Prim.Native.Nat.{ℕ, _+_, _-_, _≤_}
 use mathlib.Core.Path.{_≡_}
-use mathlib.Core.Bool.{cond}
+use mathlib.Core.Bool.{Bool, true, false, cond}
 use mathlib.Core.List.{[]}
 use mathlib.Core.Option.{Option, none, some}
 use lib.ListN.{length}
 use lib.Dec.{ltb}
+use denote.Ref.{RefT}
 use Rattle.numbers.specs.Numbers.{TOO-LONG, NO-SECTION, NO-ROW, NO-CELL}
 use Rattle.text_bytes.specs.Bytes.{Bytes, is}
 use Rattle.text_bytes.specs.Places.{part, after}
@@ -74,3 +75,15 @@ pub record Placed (file : Bytes) (s : Sought) (p : Place) : Type 0 where
   pub starts : p .start ≤ p .end
   pub ends : p .end ≤ length file
   pub views : part (p .start) (p .end) file ≡ s .view
+
+-- WHERE A VIEW STANDS
+
+-- in the memory of the file, so many bytes after its first
+pub record Points (file : RefT Bytes) (start : ℕ) (view : RefT Bytes) : Type 0 where
+  pub block : view .ptr .0 ≡ file .ptr .0
+  pub offset : view .ptr .1 ≡ file .ptr .1 + start
+
+-- the stand-in itself, or a view of the file
+abbrev pub PointsOr : Bool → RefT Bytes → RefT Bytes → ℕ → RefT Bytes → Type 0
+PointsOr true other file start view = view ≡ other
+PointsOr false other file start view = Points file start view

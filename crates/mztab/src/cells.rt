@@ -15,8 +15,9 @@ use text_bytes::same_bytes;
 use value_readings::Value;
 use value_readings::read;
 ghost use mathlib.Core.Path.{_≡_};
+ghost use Rattle.text_bytes.specs.Bytes.{is};
 ghost use Rattle.mztab.specs.Readings.{told, readingOf};
-ghost use Rattle.mztab.specs.Shown.{Placed, given, refusal, sought, shown, orElse};
+ghost use Rattle.mztab.specs.Shown.{Placed, given, refusal, sought, shown, orElse, Points, PointsOr};
 
 // A number, the numbers of a line and a cell, and a part of the file: of a refusal line 0, cell 0 and the first zero bytes.
 pub struct Place {
@@ -66,9 +67,10 @@ pub fn locate(file: &[u8], section: u32, row: u32, column: u32) -> Place
     }
 }
 
-// The plain cell call: shows the very bytes that stand there, or the empty view with the number of the refusal.
+// The plain cell call: shows the very bytes that stand there, where they stand, or the empty view at the front of the file with the number of the refusal.
 pub fn cell<'a>(file: &'a [u8], section: u32, row: u32, column: u32, number: &mut u32) -> &'a [u8]
     ensures { λ r. ⌜ given (now (number .exit)) (now r) ≡ shown (sought (now (file .entry)) section row column) ⌝ }
+    ensures { λ r. ⌜ Points (file .entry) ((sought (now (file .entry)) section row column) .start) r ⌝ }
 {
     let place = locate(file, section, row, column);
     let start = place.start;
@@ -87,6 +89,7 @@ pub fn cell_or<'a>(
     number: &mut u32,
 ) -> &'a [u8]
     ensures { λ r. ⌜ given (now (number .exit)) (now r) ≡ orElse (now («stand_in» .entry)) (shown (sought (now (file .entry)) section row column)) ⌝ }
+    ensures { λ r. ⌜ PointsOr (is ((sought (now (file .entry)) section row column) .view) "null") («stand_in» .entry) (file .entry) ((sought (now (file .entry)) section row column) .start) r ⌝ }
 {
     let view = cell(file, section, row, column, number);
     if same_bytes(view, b"null") {

@@ -12,7 +12,8 @@ use Rattle.text_bytes.specs.Places.{part, after}
 use Rattle.text.specs.Lines.{LIMIT, TAB, LF, lines}
 use Rattle.text_bytes.proofs.Laws.Parts.{part-part}
 use Rattle.rows.specs.Rows.{Line, lineOf, rowOf, columnOf}
-use Rattle.mztab.specs.Shown.{Sought, refused, refusal, startOf, soughtRow, sought, Shown, given, shown, orElse, Placed}
+use Rattle.mztab.specs.Shown.{Sought, refused, refusal, startOf, soughtRow, sought, Shown, given, shown, orElse, Placed, Points, PointsOr}
+use denote.Ref.{RefT}
 use Rattle.mztab.specs.Readings.{told, unread, readingOf}
 use Rattle.mztab.specs.declared.cells.Place.{Place}
 use Rattle.value_readings.specs.Reading.{valueOf}
@@ -44,6 +45,14 @@ module _ (n : ℕ) (v other : Bytes) (s : Shown) (e : given n v ≡ s) where
   pub or-kept : is v "null" ≡ false → given n v ≡ orElse other s
   unfolding orElse
   or-kept t = rw (← e, t)
+
+-- where it stands, by the same
+module _ (other file view : RefT Bytes) (start : ℕ) {n : ℕ} {v : Bytes} {s : Shown} (e : given n v ≡ s) where
+  pub points-other : is v "null" ≡ true → view ≡ other → PointsOr (is (s .view) "null") other file start view
+  points-other t p = rw (← ap (λ (x : Shown). x .view) e, t) p
+
+  pub points-kept : is v "null" ≡ false → Points file start view → PointsOr (is (s .view) "null") other file start view
+  points-kept t p = rw (← ap (λ (x : Shown). x .view) e, t) p
 
 module _ (f : Bytes) (section row column : ℕ) where
   pub sought-long : LIMIT < length f → refused TOO-LONG ≡ sought f section row column

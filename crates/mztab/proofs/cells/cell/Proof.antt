@@ -1,11 +1,15 @@
--- `mztab::cells::cell` meets its contract: `locate` gives the number and the part. Assumes nothing.
+-- `mztab::cells::cell` meets its contract: `locate` gives the number and the part, which begins where the cell does. Assumes nothing.
+use mathlib.Core.Path.{refl}
+use native.Mathlib.Omega.{arith}
 use borrow.Author.Needs.{needs}
 use Rattle.mztab.proofs.Laws.Placing.{placed-shown}
 use Rattle.mztab.proofs.cells.cell.Statement.{statement}
 use Rattle.mztab.proofs.cells.cell.Tie as tie
 
 returns : tie.Need-returns
-returns c = placed-shown (c .before .locate .ensures)
+returns c =
+    let p = c .before .locate .ensures in
+    (placed-shown p, record { block = refl; offset = omega (arith, p .from) })
 
 pub cell-spec : {M : Type 1} → statement M
 cell-spec =

@@ -1,18 +1,24 @@
 -- `mztab::cells::cell_or` meets its contract: what `cell` shows decides. Assumes nothing.
-use mathlib.Core.Path.{sym, _∙_}
+use mathlib.Core.Path.{refl, sym, _∙_}
 use borrow.Author.Needs.{needs}
 use Rattle.text_bytes.specs.Bytes.{bytes}
-use Rattle.mztab.proofs.Laws.Placing.{or-null, or-kept}
+use Rattle.mztab.proofs.Laws.Placing.{or-null, or-kept, points-other, points-kept}
 use Rattle.mztab.proofs.cells.cell_or.Statement.{statement}
 use Rattle.mztab.proofs.cells.cell_or.Tie as tie
 
 returns : tie.Need-returns
 unfolding bytes
-returns c = or-null _ _ _ _ (c .before .before .before .cell .ensures) (sym (c .before .same-bytes .ensures) ∙ c .if1 .taken)
+returns c =
+    let g = c .before .before .before .cell .ensures in
+    let t = sym (c .before .same-bytes .ensures) ∙ c .if1 .taken in
+    (or-null _ _ _ _ (g .0) t, points-other _ _ _ _ (g .0) t refl)
 
 returns-2 : tie.Need-returns-2
 unfolding bytes
-returns-2 c = or-kept _ _ _ _ (c .before .before .before .cell .ensures) (sym (c .before .same-bytes .ensures) ∙ c .if1 .left)
+returns-2 c =
+    let g = c .before .before .before .cell .ensures in
+    let t = sym (c .before .same-bytes .ensures) ∙ c .if1 .left in
+    (or-kept _ _ _ _ (g .0) t, points-kept _ _ _ _ (g .0) t (g .1))
 
 pub cell-or-spec : {M : Type 1} → statement M
 cell-or-spec =
