@@ -1,10 +1,14 @@
 //! The tool as its users run it, on small files in folders of their own below target/.
 
+mod common;
+
 use std::fs;
 use std::io::Write;
 use std::os::unix::fs::symlink;
 use std::path::PathBuf;
-use std::process::{Command, Output, Stdio};
+use std::process::{Command, Stdio};
+
+use common::Run;
 
 const HEAD: &str =
     "MTD\tmzTab-version\t1.0.0\nMTD\tmzTab-mode\tSummary\nMTD\tmzTab-type\tIdentification\n\
@@ -28,17 +32,9 @@ impl Folder {
         self
     }
 
-    /// The tool, to be run in this folder. BOLFRAKE_RUNNER names an emulator where the machine needs one.
+    /// The tool, to be run in this folder.
     fn command(&self, words: &[&str]) -> Command {
-        let tool = env!("CARGO_BIN_EXE_bolfrake");
-        let mut command = match std::env::var("BOLFRAKE_RUNNER") {
-            Ok(runner) if !runner.is_empty() => {
-                let mut command = Command::new(runner);
-                command.arg(tool);
-                command
-            }
-            _ => Command::new(tool),
-        };
+        let mut command = common::tool();
         command
             .args(words)
             .current_dir(&self.0)
@@ -59,22 +55,6 @@ impl Folder {
         let mut child = command.spawn().unwrap();
         child.stdin.take().unwrap().write_all(input).unwrap();
         Run::of(child.wait_with_output().unwrap())
-    }
-}
-
-struct Run {
-    status: i32,
-    out: String,
-    error: String,
-}
-
-impl Run {
-    fn of(output: Output) -> Run {
-        Run {
-            status: output.status.code().unwrap(),
-            out: String::from_utf8(output.stdout).unwrap(),
-            error: String::from_utf8(output.stderr).unwrap(),
-        }
     }
 }
 
@@ -639,11 +619,6 @@ study variable  description             weight     share
         (run.status, run.out.as_str(), run.error.as_str()),
         (0, expected, "")
     );
-    let in_readme: String = expected
-        .lines()
-        .map(|line| format!("    {line}\n"))
-        .collect();
-    assert!(include_str!("../../../README.md").contains(&in_readme));
     for amount in ["1000.00", "1000.0", "01000"] {
         assert_eq!(folder.run(&["fee", "fee.mztab", amount]).out, expected);
     }
