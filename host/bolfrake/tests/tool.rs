@@ -9,6 +9,7 @@ use std::path::PathBuf;
 use std::process::{Command, Stdio};
 
 use common::Run;
+use samples::{Export, EXPORTS};
 
 const HEAD: &str =
     "MTD\tmzTab-version\t1.0.0\nMTD\tmzTab-mode\tSummary\nMTD\tmzTab-type\tIdentification\n\
@@ -323,6 +324,11 @@ fn files_of_the_run_tests() {
     let folder = Folder::new("stored");
     let stored = stored();
     assert!(stored.len() > 400);
+    hold_to(&folder, &stored);
+}
+
+/// Checks the files of a folder, `--max 4096`, and holds the breaks of each to those stored.
+fn hold_to(folder: &Folder, stored: &[(&[u8], Vec<String>)]) -> Run {
     for (k, (file, _)) in stored.iter().enumerate() {
         folder.write(&format!("d/{k:04}.mztab"), file);
     }
@@ -335,7 +341,37 @@ fn files_of_the_run_tests() {
         found[k].push(format!("{} {} {rule}", words[1], words[2]));
     }
     for (found, (file, breaks)) in found.iter().zip(stored) {
-        assert_eq!(*found, breaks, "{}", file.escape_ascii());
+        assert_eq!(found, breaks, "{}", file.escape_ascii());
+    }
+    run
+}
+
+#[test]
+fn files_as_programs_export_them() {
+    let folder = Folder::new("exports");
+    let breaks = |export: &Export| export.judged.lines().skip(1).map(str::to_string).collect();
+    let stored: Vec<_> = (EXPORTS.iter())
+        .map(|export| (export.file, breaks(export)))
+        .collect();
+    let run = hold_to(&folder, &stored);
+    assert_eq!(run.status, 1);
+    assert!(
+        run.out
+            .ends_with("4 files: 2 accepted, 2 with breaks, 0 not judged; 75 breaks in all\n"),
+        "{}",
+        run.out
+    );
+    // Each is one that the program `judge` takes, and the accepted ones are split over.
+    assert!(EXPORTS.iter().all(|export| export.file.len() < 60_000));
+    let fees = EXPORTS.iter().map(|export| {
+        let run = folder.run_with_input(&["fee", "-", "1000", "--format", "csv"], export.file);
+        (run.status, run.out.lines().last().map(str::to_string))
+    });
+    let fees: Vec<_> = fees.collect();
+    assert_eq!((fees[0].0, fees[3].0), (1, 1));
+    for (status, last) in &fees[1..3] {
+        assert_eq!(*status, 0);
+        assert!(last.as_ref().unwrap().ends_with(",100000,1000.00"));
     }
 }
 
