@@ -3,10 +3,12 @@
  * Every call ends, on every file and every number, and touches nothing but what is named here. No call keeps a pointer, allocates, or
  * needs set-up; calls may run at the same time as long as they do not share a place that is written.
  *
- * A `file` is a pointer to bytes and their count. The pointer is not null, also where the count is 0, and the bytes do not change during
- * the call. Each pointer that is written to (`number`, `length`, ..) is not null and aligned, and none points into the file or at another.
- * A list of numbers is a pointer, not null and aligned, also where the list has no place, and the count of its places; one that is written
- * to overlaps nothing else that is lent.
+ * What the host owes. A `file` and a list are each a pointer and the count of what it points at.
+ *  - Every pointer is not null, also where its count is 0, and aligned, and all that its count says is there.
+ *  - What is lent to be read does not change during the call.
+ *  - No memory lent to be written (`number`, `length`, .., and the lists `places`, `faults`, `weights` of mztab_weights and `shares`) overlaps
+ *    other memory that is lent in the call, be it to be read or to be written.
+ *  - The stack has room for what a call says it needs.
  *
  * The number that every call writes says whether there is an answer, and else why not. Each call says which of them it gives.
  *    0  the answer was given
@@ -38,7 +40,7 @@ size_t mztab_cell(const uint8_t *file, size_t file_length, uint32_t section, uin
 
 /* Reads a cell, found as by mztab_cell. The answer is the case: 0 missing (`null`), 1 whole, 2 decimal, 3 infinite (`INF`), 4 not a number (`NaN`),
  * 5 long decimal (more than 15 digits), 6 text (all else, an empty cell too). *line and *cell say where it stands. A whole has its value in *whole. A
- * decimal has its signed numerals in *whole, its places after the dot in *places, and in *double the numerals divided once by ten to the places as IEEE
+ * decimal has its signed numerals in *whole, its places after the dot in *places, and in *decimal the numerals divided once by ten to the places as IEEE
  * 754 binary64, negated last for a minus. What a case does not carry is written 0; a refused reading has line 0, cell 0 and missing. */
 uint32_t mztab_reading(const uint8_t *file, size_t file_length, uint32_t section, uint32_t row, uint32_t column, uint32_t *number, uint32_t *line,
                        uint32_t *cell, int64_t *whole, uint32_t *places, double *decimal);

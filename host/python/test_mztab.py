@@ -3,6 +3,7 @@
 import concurrent.futures
 import fractions
 import math
+import os
 import pathlib
 import random
 import struct
@@ -10,7 +11,8 @@ import unittest
 
 import mztab
 
-EXAMPLES = pathlib.Path(__file__).resolve().parents[2] / "examples"
+ROOT = pathlib.Path(__file__).resolve().parents[2]
+EXAMPLES = ROOT / "examples"
 YEAST = (EXAMPLES / "yeast.mztab").read_bytes()
 ACCEPTED = (EXAMPLES / "accepted.mztab").read_bytes()
 FEE = (EXAMPLES / "fee.mztab").read_bytes()
@@ -271,6 +273,22 @@ class Splits(unittest.TestCase):
             with self.assertRaises(kind) as caught:
                 mztab.split_fee(fee, weights)
             self.assertEqual(caught.exception.number, number)
+
+
+class Readme(unittest.TestCase):
+    """The calls that README.md shows, each with its answer beside it; an answer that ends in dots is shown in part."""
+
+    def test_the_calls(self):
+        folder = os.getcwd()
+        self.addCleanup(os.chdir, folder)
+        os.chdir(ROOT)  # the calls name examples/
+        calls = [line for line in (ROOT / "README.md").read_text().splitlines() if line.startswith("    mztab.")]
+        self.assertEqual(len(calls), 2)
+        for call in calls:
+            code, answer = call.strip().split("  # ")
+            found = repr(eval(code, {"mztab": mztab, "open": open}))
+            part, dots, _ = answer.partition("...")
+            self.assertEqual(found[: len(part)] if dots else found, part)
 
 
 if __name__ == "__main__":

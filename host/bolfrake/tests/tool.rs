@@ -1,10 +1,15 @@
 //! The tool as its users run it, on small files in folders of their own below target/.
 
+mod common;
+
 use std::fs;
 use std::io::Write;
 use std::os::unix::fs::symlink;
 use std::path::PathBuf;
-use std::process::{Command, Output, Stdio};
+use std::process::{Command, Stdio};
+
+use common::Run;
+use samples::{Export, EXPORTS};
 
 const HEAD: &str =
     "MTD\tmzTab-version\t1.0.0\nMTD\tmzTab-mode\tSummary\nMTD\tmzTab-type\tIdentification\n\
@@ -28,17 +33,9 @@ impl Folder {
         self
     }
 
-    /// The tool, to be run in this folder. BOLFRAKE_RUNNER names an emulator where the machine needs one.
+    /// The tool, to be run in this folder.
     fn command(&self, words: &[&str]) -> Command {
-        let tool = env!("CARGO_BIN_EXE_bolfrake");
-        let mut command = match std::env::var("BOLFRAKE_RUNNER") {
-            Ok(runner) if !runner.is_empty() => {
-                let mut command = Command::new(runner);
-                command.arg(tool);
-                command
-            }
-            _ => Command::new(tool),
-        };
+        let mut command = common::tool();
         command
             .args(words)
             .current_dir(&self.0)
@@ -59,22 +56,6 @@ impl Folder {
         let mut child = command.spawn().unwrap();
         child.stdin.take().unwrap().write_all(input).unwrap();
         Run::of(child.wait_with_output().unwrap())
-    }
-}
-
-struct Run {
-    status: i32,
-    out: String,
-    error: String,
-}
-
-impl Run {
-    fn of(output: Output) -> Run {
-        Run {
-            status: output.status.code().unwrap(),
-            out: String::from_utf8(output.stdout).unwrap(),
-            error: String::from_utf8(output.stderr).unwrap(),
-        }
     }
 }
 
@@ -343,6 +324,11 @@ fn files_of_the_run_tests() {
     let folder = Folder::new("stored");
     let stored = stored();
     assert!(stored.len() > 400);
+    hold_to(&folder, &stored);
+}
+
+/// Checks the files of a folder, `--max 4096`, and holds the breaks of each to those stored.
+fn hold_to(folder: &Folder, stored: &[(&[u8], Vec<String>)]) -> Run {
     for (k, (file, _)) in stored.iter().enumerate() {
         folder.write(&format!("d/{k:04}.mztab"), file);
     }
@@ -355,7 +341,37 @@ fn files_of_the_run_tests() {
         found[k].push(format!("{} {} {rule}", words[1], words[2]));
     }
     for (found, (file, breaks)) in found.iter().zip(stored) {
-        assert_eq!(*found, breaks, "{}", file.escape_ascii());
+        assert_eq!(found, breaks, "{}", file.escape_ascii());
+    }
+    run
+}
+
+#[test]
+fn files_as_programs_export_them() {
+    let folder = Folder::new("exports");
+    let breaks = |export: &Export| export.judged.lines().skip(1).map(str::to_string).collect();
+    let stored: Vec<_> = (EXPORTS.iter())
+        .map(|export| (export.file, breaks(export)))
+        .collect();
+    let run = hold_to(&folder, &stored);
+    assert_eq!(run.status, 1);
+    assert!(
+        run.out
+            .ends_with("4 files: 2 accepted, 2 with breaks, 0 not judged; 75 breaks in all\n"),
+        "{}",
+        run.out
+    );
+    // Each is one that the program `judge` takes, and the accepted ones are split over.
+    assert!(EXPORTS.iter().all(|export| export.file.len() < 60_000));
+    let fees = EXPORTS.iter().map(|export| {
+        let run = folder.run_with_input(&["fee", "-", "1000", "--format", "csv"], export.file);
+        (run.status, run.out.lines().last().map(str::to_string))
+    });
+    let fees: Vec<_> = fees.collect();
+    assert_eq!((fees[0].0, fees[3].0), (1, 1));
+    for (status, last) in &fees[1..3] {
+        assert_eq!(*status, 0);
+        assert!(last.as_ref().unwrap().ends_with(",100000,1000.00"));
     }
 }
 
@@ -639,11 +655,6 @@ study variable  description             weight     share
         (run.status, run.out.as_str(), run.error.as_str()),
         (0, expected, "")
     );
-    let in_readme: String = expected
-        .lines()
-        .map(|line| format!("    {line}\n"))
-        .collect();
-    assert!(include_str!("../../../README.md").contains(&in_readme));
     for amount in ["1000.00", "1000.0", "01000"] {
         assert_eq!(folder.run(&["fee", "fee.mztab", amount]).out, expected);
     }

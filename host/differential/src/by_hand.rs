@@ -1,4 +1,4 @@
-//! The files written by hand from the paper: every rule, stop and kind on either side.
+//! The files written by hand from the paper: every rule, stop and kind on either side; and the exports.
 
 use independent::cases;
 
@@ -13,6 +13,9 @@ pub fn files() -> Vec<(String, Vec<u8>)> {
     }
     for case in cases::weights::all() {
         all.push((case.label.to_string(), case.file));
+    }
+    for export in samples::EXPORTS {
+        all.push((export.name.to_string(), export.file.to_vec()));
     }
     for (value, _) in cases::kinds::all() {
         all.push((

@@ -13,6 +13,7 @@ mod compare;
 mod damage;
 mod fees;
 mod grammar;
+mod shrink;
 mod weights;
 
 use std::env;
@@ -176,16 +177,22 @@ impl Run {
         );
     }
 
-    /// Compares one file, and prints it with both answers where they differ.
+    /// Compares one file; where the answers differ, prints both, and the lines of the file that are enough for a difference.
     fn try_one(&mut self, label: &str, file: &[u8], draws: &mut Draws) {
         if self.different == ENOUGH {
             return;
         }
+        let before = draws.clone();
         let answer = compare(file, draws, &mut self.tried);
-        let differs = answer.is_err();
+        if answer.is_ok() {
+            return;
+        }
         self.note(label, answer);
-        if differs {
-            println!("the file: b\"{}\"", file.escape_ascii());
+        let again = |file: &[u8]| compare(file, &mut before.clone(), &mut Tried::default());
+        let few = shrink::shrunk(file, |file| again(file).is_err());
+        if let Err(difference) = again(&few) {
+            println!("the lines that are enough: b\"{}\"", few.escape_ascii());
+            println!("and of them: {difference}");
         }
     }
 

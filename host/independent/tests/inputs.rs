@@ -4,7 +4,9 @@ use independent::cases;
 
 #[test]
 fn judges() {
-    assert!(include_bytes!("../../../crates/test_judges/stdin") == cases::judges_input().as_slice());
+    assert!(
+        include_bytes!("../../../crates/test_judges/stdin") == cases::judges_input().as_slice()
+    );
 }
 
 #[test]

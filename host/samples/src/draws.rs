@@ -1,5 +1,6 @@
 //! Numbers that look random and depend on the seed alone (splitmix64).
 
+#[derive(Clone)]
 pub struct Draws {
     state: u64,
 }

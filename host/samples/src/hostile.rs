@@ -142,7 +142,9 @@ fn parting_late(k: usize) -> String {
     };
     for last in 0..93 * 93 * 93 {
         let kept = name.len();
-        name.extend([last / 93 / 93, last / 93 % 93, last % 93].map(|b| char::from(b'!' + b as u8)));
+        name.extend(
+            [last / 93 / 93, last / 93 % 93, last % 93].map(|b| char::from(b'!' + b as u8)),
+        );
         if stamp(&name) == 7 {
             break;
         }
@@ -153,5 +155,7 @@ fn parting_late(k: usize) -> String {
 
 /// The place of a name's stamp.
 fn stamp(name: &str) -> u32 {
-    name.bytes().fold(0, |h, b| (h * 33 + u32::from(b)) % 65_536) % 4_096
+    name.bytes()
+        .fold(0, |h, b| (h * 33 + u32::from(b)) % 65_536)
+        % 4_096
 }

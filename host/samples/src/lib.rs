@@ -3,9 +3,11 @@
 #![forbid(unsafe_code)]
 
 mod draws;
+mod exports;
 mod hostile;
 mod ordinary;
 
 pub use draws::Draws;
+pub use exports::{Export, EXPORTS};
 pub use hostile::{hostile, Hostile};
 pub use ordinary::ordinary;
