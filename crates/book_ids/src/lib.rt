@@ -7,8 +7,12 @@ use text::cells::has_code;
 use text::cells::nth_cell;
 use text::lines::line_at;
 use text_bytes::begins_with;
+use value_references::FAMILIES;
+use value_references::INDICES;
 use value_references::index::Index;
 use value_references::index::read_index;
+use value_references::words::word;
+use value_references::words::words;
 ghost use mathlib.Core.Path.{_≡_};
 ghost use Rattle.book.specs.Text.{bookIn, IsBook};
 ghost use Rattle.book_ids.specs.Ids.{indexAfter, idOf, keyId, lineId, marked, Declared};
@@ -37,21 +41,14 @@ fn index_after(word: &[u8], name: &[u8]) -> usize
 pub fn id_of(name: &[u8]) -> Id
     ensures { λ r. ⌜ r ≡ idOf (now (name .entry)) ⌝ }
 {
-    let sample = index_after(b"sample", name);
-    if sample != 0 {
-        return Id::Of(0, sample);
-    }
-    let assay = index_after(b"assay", name);
-    if assay != 0 {
-        return Id::Of(1, assay);
-    }
-    let variable = index_after(b"study_variable", name);
-    if variable != 0 {
-        return Id::Of(2, variable);
-    }
-    let run = index_after(b"ms_run", name);
-    if run != 0 {
-        return Id::Of(3, run);
+    let all = words();
+    let mut f = 0;
+    while f < FAMILIES {
+        let i = index_after(word(&all, f), name);
+        if i != 0 {
+            return Id::Of(f, i);
+        }
+        f += 1;
     }
     Id::Nothing
 }
@@ -95,7 +92,7 @@ pub fn line_id(book: &[u8], line: &[u8]) -> Id
 }
 
 // The flags, with that of the id that the line declares.
-fn mark_line(flags: &mut [[bool; 64]; 4], book: &[u8], line: &[u8])
+fn mark_line(flags: &mut [[bool; INDICES]; FAMILIES], book: &[u8], line: &[u8])
     requires { ⌜ IsBook (now book) ⌝ }
     ensures { λ _. ⌜ now (flags .exit) ≡ marked (now (flags .entry)) (lineId (bookIn (now (book .entry))) (now (line .entry))) ⌝ }
 {
@@ -106,11 +103,11 @@ fn mark_line(flags: &mut [[bool; 64]; 4], book: &[u8], line: &[u8])
 }
 
 // Which ids the file declares: index i of a family at place i - 1. One pass over all lines.
-pub fn declared_ids(book: &[u8], file: &[u8]) -> [[bool; 64]; 4]
+pub fn declared_ids(book: &[u8], file: &[u8]) -> [[bool; INDICES]; FAMILIES]
     requires { ⌜ IsBook (now book) ⌝ }
     ensures { λ r. ⌜ Declared (bookIn (now (book .entry))) r (now (file .entry)) ⌝ }
 {
-    let mut flags = [[false; 64]; 4];
+    let mut flags = [[false; INDICES]; FAMILIES];
     let mut at = 0;
     while at < file.len() {
         let line = line_at(file, at);

@@ -5,6 +5,7 @@ use crate::parts::judge_part;
 use book_ids::declared_ids;
 use numbers::TOO_LONG;
 use text::LIMIT;
+use value_references::INDICES;
 ghost use mathlib.Core.Path.{_≡_};
 ghost use mathlib.Core.Bool.{true};
 ghost use Prim.Native.Nat.{_≤_};
@@ -17,10 +18,10 @@ pub struct Carried {
     pub number: u32,
     pub stand: Stand,
     pub kinds: [u8; 256],
-    pub samples: [bool; 64],
-    pub assays: [bool; 64],
-    pub variables: [bool; 64],
-    pub runs: [bool; 64],
+    pub samples: [bool; INDICES],
+    pub assays: [bool; INDICES],
+    pub variables: [bool; INDICES],
+    pub runs: [bool; INDICES],
 }
 
 // Before the first line; a file over the limit is refused by the number.
@@ -29,7 +30,7 @@ pub fn begin(book: &[u8], file: &[u8]) -> Carried
     ensures { λ r. ⌜ Begun (bookIn (now (book .entry))) (now (file .entry)) r ⌝ }
 {
     let stand = beginning();
-    let none = [false; 64];
+    let none = [false; INDICES];
     if LIMIT < file.len() {
         return Carried {
             number: TOO_LONG,
