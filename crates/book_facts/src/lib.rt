@@ -8,6 +8,8 @@ use text::cells::nth_cell;
 use text::lines::line_at;
 use text_bytes::begins_with;
 use text_bytes::same_bytes;
+use value_references::FAMILIES;
+use value_references::INDICES;
 ghost use mathlib.Core.Path.{_≡_};
 ghost use mathlib.Core.Bool.{true, false, cond, _&&_};
 ghost use Prim.Native.Nat.{_≤_};
@@ -96,7 +98,13 @@ fn note_line(facts: Facts, line: &[u8], n: u32) -> Facts
 }
 
 // What line n says is taken up in the flags and the facts.
-fn survey_line(flags: &mut [[bool; 64]; 4], book: &[u8], facts: Facts, line: &[u8], n: u32) -> Facts
+fn survey_line(
+    flags: &mut [[bool; INDICES]; FAMILIES],
+    book: &[u8],
+    facts: Facts,
+    line: &[u8],
+    n: u32,
+) -> Facts
     requires { ⌜ IsBook (now book) ⌝ }
     ensures { λ r. ⌜ now (flags .exit) ≡ marked (now (flags .entry)) (lineId (bookIn (now (book .entry))) (now (line .entry))) ⌝ }
     ensures { λ r. ⌜ r ≡ noted facts n (now (line .entry)) ⌝ }
@@ -109,7 +117,7 @@ fn survey_line(flags: &mut [[bool; 64]; 4], book: &[u8], facts: Facts, line: &[u
 }
 
 // One pass over all lines: the flags, all false before, say which ids the file declares, index i of a family at place i - 1, and the answer is its facts.
-pub fn survey(flags: &mut [[bool; 64]; 4], book: &[u8], file: &[u8]) -> Facts
+pub fn survey(flags: &mut [[bool; INDICES]; FAMILIES], book: &[u8], file: &[u8]) -> Facts
     requires { ⌜ IsBook (now book) ⌝ }
     requires { ⌜ now flags ≡ replicate 4 (replicate 64 false) ⌝ }
     requires { ⌜ length (now file) ≤ LIMIT ⌝ }

@@ -6,8 +6,12 @@ use text::cells::count_cells;
 use text::cells::has_code;
 use text::cells::nth_cell;
 use text_bytes::begins_with;
+use value_references::FAMILIES;
+use value_references::INDICES;
 use value_references::index::Index;
 use value_references::index::read_index;
+use value_references::words::word;
+use value_references::words::words;
 ghost use mathlib.Core.Path.{_≡_};
 ghost use Rattle.book.specs.Text.{bookIn, IsBook};
 ghost use Rattle.book_ids.specs.Ids.{indexAfter, idOf, keyId, lineId, marked};
@@ -37,21 +41,14 @@ fn index_after(word: &[u8], name: &[u8]) -> usize
 pub fn id_of(name: &[u8]) -> Id
     ensures { λ r. ⌜ r ≡ idOf (now (name .entry)) ⌝ }
 {
-    let sample = index_after(b"sample", name);
-    if sample != 0 {
-        return Id::Of(0, sample);
-    }
-    let assay = index_after(b"assay", name);
-    if assay != 0 {
-        return Id::Of(1, assay);
-    }
-    let variable = index_after(b"study_variable", name);
-    if variable != 0 {
-        return Id::Of(2, variable);
-    }
-    let run = index_after(b"ms_run", name);
-    if run != 0 {
-        return Id::Of(3, run);
+    let all = words();
+    let mut f = 0;
+    while f < FAMILIES {
+        let i = index_after(word(&all, f), name);
+        if i != 0 {
+            return Id::Of(f, i);
+        }
+        f += 1;
     }
     Id::Nothing
 }
@@ -95,7 +92,7 @@ pub fn line_id(book: &[u8], line: &[u8]) -> Id
 }
 
 // The flags, with that of the id that the line declares.
-pub fn mark_line(flags: &mut [[bool; 64]; 4], book: &[u8], line: &[u8])
+pub fn mark_line(flags: &mut [[bool; INDICES]; FAMILIES], book: &[u8], line: &[u8])
     requires { ⌜ IsBook (now book) ⌝ }
     ensures { λ _. ⌜ now (flags .exit) ≡ marked (now (flags .entry)) (lineId (bookIn (now (book .entry))) (now (line .entry))) ⌝ }
 {

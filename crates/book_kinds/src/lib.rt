@@ -5,6 +5,8 @@ use value_parameters::is_parameters;
 use value_references::Named;
 use value_references::reference;
 use value_references::references;
+use value_references::words::word;
+use value_references::words::words;
 use values::is_decimal;
 use values::is_decimals;
 use values::is_null;
@@ -34,26 +36,16 @@ pub fn family_number(family: u8) -> usize
 pub fn reference_to(family: u8, s: &[u8]) -> usize
     ensures { λ r. ⌜ r ≡ refTo (wordOf family) (now (s .entry)) ⌝ }
 {
-    match family {
-        b'S' => reference(b"sample", s),
-        b'A' => reference(b"assay", s),
-        b'V' => reference(b"study_variable", s),
-        b'R' => reference(b"ms_run", s),
-        _ => reference(b"", s),
-    }
+    let all = words();
+    reference(word(&all, family_number(family)), s)
 }
 
 // What the value says as a list of references to the family.
 pub fn references_to(family: u8, s: &[u8]) -> Named
     ensures { λ r. ⌜ Tells (wordOf family) (now (s .entry)) r ⌝ }
 {
-    match family {
-        b'S' => references(b"sample", s),
-        b'A' => references(b"assay", s),
-        b'V' => references(b"study_variable", s),
-        b'R' => references(b"ms_run", s),
-        _ => references(b"", s),
-    }
+    let all = words();
+    references(word(&all, family_number(family)), s)
 }
 
 // Whether the value is text and not `null`.

@@ -6,6 +6,8 @@ use book_facts::Facts;
 use book_facts::survey;
 use numbers::TOO_LONG;
 use text::LIMIT;
+use value_references::FAMILIES;
+use value_references::INDICES;
 ghost use mathlib.Core.Path.{_≡_};
 ghost use mathlib.Core.Bool.{true};
 ghost use Prim.Native.Nat.{_≤_};
@@ -18,10 +20,10 @@ pub struct Carried {
     pub number: u32,
     pub stand: Stand,
     pub kinds: [u8; 256],
-    pub samples: [bool; 64],
-    pub assays: [bool; 64],
-    pub variables: [bool; 64],
-    pub runs: [bool; 64],
+    pub samples: [bool; INDICES],
+    pub assays: [bool; INDICES],
+    pub variables: [bool; INDICES],
+    pub runs: [bool; INDICES],
 }
 
 // Before the first line; a file over the limit is refused by the number.
@@ -29,7 +31,7 @@ pub fn begin(book: &[u8], file: &[u8]) -> Carried
     requires { ⌜ IsBook (now book) ⌝ }
     ensures { λ r. ⌜ Begun (bookIn (now (book .entry))) (now (file .entry)) r ⌝ }
 {
-    let none = [false; 64];
+    let none = [false; INDICES];
     if LIMIT < file.len() {
         let nothing = Facts {
             mode: 0,
@@ -46,7 +48,7 @@ pub fn begin(book: &[u8], file: &[u8]) -> Carried
             runs: none,
         };
     }
-    let mut flags = [[false; 64]; 4];
+    let mut flags = [[false; INDICES]; FAMILIES];
     let facts = survey(&mut flags, book, file);
     Carried {
         number: 0,

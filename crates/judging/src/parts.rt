@@ -7,6 +7,8 @@ use line_head_stamps::ROOM;
 use scan::state::State;
 use scan::state::start;
 use text::lines::line_at;
+use value_references::FAMILIES;
+use value_references::INDICES;
 ghost use mathlib.Core.Path.{_≡_};
 ghost use mathlib.Core.Bool.{true};
 ghost use Prim.Native.Nat.{_≤_};
@@ -52,7 +54,7 @@ pub fn judge_part(
     book: &[u8],
     file: &[u8],
     stand: Stand,
-    flags: &[[bool; 64]; 4],
+    flags: &[[bool; INDICES]; FAMILIES],
     kinds: &mut [u8; 256],
     slots: &mut [bool],
 ) -> Stand

@@ -11,6 +11,8 @@ use scan::state::State;
 use scan::state::after_header;
 use scan::state::after_row;
 use text::cells::count_cells;
+use value_references::FAMILIES;
+use value_references::INDICES;
 ghost use mathlib.Core.Path.{_≡_};
 ghost use Prim.Native.Nat.{_+_, _≤_};
 ghost use lib.ListN.{length};
@@ -56,7 +58,7 @@ pub fn judge_line(
     step: Step,
     book: &[u8],
     line: &[u8],
-    flags: &[[bool; 64]; 4],
+    flags: &[[bool; INDICES]; FAMILIES],
     kinds: &mut [u8; 256],
     slots: &mut [bool],
     stamps: &mut [u32],

@@ -10,6 +10,7 @@ use scan::places::both;
 use scan::places::either;
 use scan::places::put_if;
 use scan::state::State;
+use value_references::FAMILIES;
 use value_references::INDICES;
 ghost use mathlib.Core.Path.{_≡_};
 ghost use mathlib.Core.List.{[]};
@@ -88,7 +89,7 @@ fn judge_ids(
     from: usize,
     asked: bool,
     slots: &[bool],
-    flags: &[[bool; 64]; 4],
+    flags: &[[bool; INDICES]; FAMILIES],
 ) -> u32
     requires { ⌜ d .each < 4 ⌝ }
     requires { ⌜ from + 64 ≤ length (now slots) ⌝ }
@@ -119,7 +120,7 @@ fn judge_demand(
     k: usize,
     line_no: u32,
     slots: &[bool],
-    flags: &[[bool; 64]; 4],
+    flags: &[[bool; INDICES]; FAMILIES],
     told: Told,
 ) -> u32
     requires { ⌜ IsBook (now book) ⌝ }
@@ -152,7 +153,7 @@ fn judge_demands(
     book: &[u8],
     line_no: u32,
     slots: &[bool],
-    flags: &[[bool; 64]; 4],
+    flags: &[[bool; INDICES]; FAMILIES],
     told: Told,
 ) -> u32
     requires { ⌜ IsBook (now book) ⌝ }
@@ -178,7 +179,7 @@ pub fn judge_end(
     book: &[u8],
     line_no: u32,
     slots: &[bool],
-    flags: &[[bool; 64]; 4],
+    flags: &[[bool; INDICES]; FAMILIES],
     facts: Facts,
     state: State,
 ) -> u32

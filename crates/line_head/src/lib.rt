@@ -6,6 +6,8 @@ use scan::places::Tag;
 use scan::places::put_if;
 use text::cells::cell_end;
 use text::cells::count_cells;
+use value_references::FAMILIES;
+use value_references::INDICES;
 ghost use mathlib.Core.Path.{_≡_};
 ghost use mathlib.Core.Bool.{true};
 ghost use Prim.Native.Nat.{_+_, _≤_};
@@ -46,7 +48,7 @@ fn head_names(
     book: &[u8],
     line: &[u8],
     names: Names,
-    flags: &[[bool; 64]; 4],
+    flags: &[[bool; INDICES]; FAMILIES],
     kinds: &mut [u8; 256],
     stamps: &mut [u32],
 ) -> u32
@@ -73,7 +75,7 @@ pub fn judge_head(
     book: &[u8],
     line: &[u8],
     head: Head,
-    flags: &[[bool; 64]; 4],
+    flags: &[[bool; INDICES]; FAMILIES],
     kinds: &mut [u8; 256],
     stamps: &mut [u32],
 ) -> u32

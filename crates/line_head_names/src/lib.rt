@@ -9,6 +9,8 @@ use scan::places::both;
 use scan::places::either;
 use scan::places::put_if;
 use text::cells::cell_end;
+use value_references::FAMILIES;
+use value_references::INDICES;
 ghost use mathlib.Core.Path.{_≡_};
 ghost use Prim.Native.Nat.{_+_, _-_, _≤_, _<_};
 ghost use lib.ListN.{length, drop, set};
@@ -82,7 +84,7 @@ fn last_index(i: usize, j: usize) -> usize
 }
 
 // Whether a known column names an assay, study variable or run that the file does not declare (15).
-fn undeclared(flags: &[[bool; 64]; 4], found: Found) -> bool
+fn undeclared(flags: &[[bool; INDICES]; FAMILIES], found: Found) -> bool
     requires { ⌜ Within found ⌝ }
     ensures { λ r. ⌜ r ≡ columnIn (idsOf (now (flags .entry))) found ⌝ }
 {
@@ -124,7 +126,7 @@ fn name_cell(
     name: &[u8],
     found: Found,
     at: Naming,
-    flags: &[[bool; 64]; 4],
+    flags: &[[bool; INDICES]; FAMILIES],
 ) -> u32
     requires { ⌜ count + NAME-MOST ≤ CEILING ⌝ }
     requires { ⌜ Within found ⌝ }
@@ -145,7 +147,7 @@ fn head_cell(
     name: &[u8],
     section: u32,
     at: Naming,
-    flags: &[[bool; 64]; 4],
+    flags: &[[bool; INDICES]; FAMILIES],
     kinds: &mut [u8; 256],
 ) -> u32
     requires { ⌜ count + NAME-MOST ≤ CEILING ⌝ }
@@ -168,7 +170,7 @@ pub fn head_cells(
     book: &[u8],
     line: &[u8],
     names: Names,
-    flags: &[[bool; 64]; 4],
+    flags: &[[bool; INDICES]; FAMILIES],
     kinds: &mut [u8; 256],
     stamps: &mut [u32],
 ) -> u32

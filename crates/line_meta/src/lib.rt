@@ -6,6 +6,8 @@ use scan::places::Tag;
 use scan::places::put_if;
 use text::cells::cell_end;
 use text::cells::count_cells;
+use value_references::FAMILIES;
+use value_references::INDICES;
 ghost use mathlib.Core.Path.{_≡_};
 ghost use mathlib.Core.Bool.{true, not};
 ghost use mathlib.Core.List.{[]};
@@ -51,7 +53,7 @@ fn judge_three(
     book: &[u8],
     line: &[u8],
     tag: Tag,
-    flags: &[[bool; 64]; 4],
+    flags: &[[bool; INDICES]; FAMILIES],
     slots: &mut [bool],
 ) -> u32
     requires { ⌜ IsBook (now book) ⌝ }
@@ -82,7 +84,7 @@ pub fn judge_meta(
     line: &[u8],
     tag: Tag,
     table: bool,
-    flags: &[[bool; 64]; 4],
+    flags: &[[bool; INDICES]; FAMILIES],
     slots: &mut [bool],
 ) -> u32
     requires { ⌜ IsBook (now book) ⌝ }

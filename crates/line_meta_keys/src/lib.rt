@@ -4,6 +4,7 @@ use book::slots::start_of;
 use book_names::Found;
 use line_meta_values::judge_value;
 use scan::places::both;
+use value_references::FAMILIES;
 use value_references::INDICES;
 ghost use mathlib.Core.Path.{_≡_};
 ghost use Prim.Native.Nat.{_-_, _≤_, _<_};
@@ -60,7 +61,7 @@ pub fn judge_key(
     found: Found,
     key: &[u8],
     value: &[u8],
-    flags: &[[bool; 64]; 4],
+    flags: &[[bool; INDICES]; FAMILIES],
     slots: &[bool],
 ) -> Judgement
     requires { ⌜ IsBook (now book) ⌝ }

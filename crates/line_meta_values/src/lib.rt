@@ -4,6 +4,7 @@ use book_kinds::of_kind;
 use book_kinds::reference_to;
 use book_kinds::references_to;
 use scan::places::both;
+use value_references::FAMILIES;
 use value_references::INDICES;
 ghost use mathlib.Core.Path.{_≡_};
 ghost use Prim.Native.Nat.{_≤_};
@@ -12,9 +13,6 @@ ghost use Rattle.book_ids.specs.Ids.{Flags};
 ghost use Rattle.scan.specs.Machine.{idsOf};
 ghost use Rattle.line_meta_values.specs.Values.{Valued};
 
-// How many families of ids there are.
-const FAMILIES: usize = 4;
-
 // Whether a value is of its kind, and whether it then names an undeclared id.
 pub struct Value {
     pub good: bool,
@@ -22,7 +20,7 @@ pub struct Value {
 }
 
 // Whether the index of the family is declared. None is of what is no family.
-fn is_declared(flags: &[[bool; 64]; 4], family: usize, index: usize) -> bool
+fn is_declared(flags: &[[bool; INDICES]; FAMILIES], family: usize, index: usize) -> bool
     requires { ⌜ Flags (now flags) ⌝ }
     requires { ⌜ (1 ≤ index) × (index ≤ 64) ⌝ }
     ensures { λ r. ⌜ r ≡ idsOf (now (flags .entry)) family index ⌝ }
@@ -34,7 +32,7 @@ fn is_declared(flags: &[[bool; 64]; 4], family: usize, index: usize) -> bool
 }
 
 // A value that is to be one reference to the family.
-fn judge_reference(flags: &[[bool; 64]; 4], family: u8, value: &[u8]) -> Value
+fn judge_reference(flags: &[[bool; INDICES]; FAMILIES], family: u8, value: &[u8]) -> Value
     requires { ⌜ Flags (now flags) ⌝ }
     ensures { λ r. ⌜ Valued (idsOf (now (flags .entry))) reference family (now (value .entry)) r ⌝ }
 {
@@ -53,7 +51,7 @@ fn judge_reference(flags: &[[bool; 64]; 4], family: u8, value: &[u8]) -> Value
 }
 
 // A value that is to be a list of references to the family. One pass over it, then one over the indices.
-fn judge_references(flags: &[[bool; 64]; 4], family: u8, value: &[u8]) -> Value
+fn judge_references(flags: &[[bool; INDICES]; FAMILIES], family: u8, value: &[u8]) -> Value
     requires { ⌜ Flags (now flags) ⌝ }
     ensures { λ r. ⌜ Valued (idsOf (now (flags .entry))) references family (now (value .entry)) r ⌝ }
 {
@@ -83,7 +81,7 @@ fn judge_references(flags: &[[bool; 64]; 4], family: u8, value: &[u8]) -> Value
 }
 
 // The value of a key of the kind and family.
-pub fn judge_value(flags: &[[bool; 64]; 4], kind: u8, family: u8, value: &[u8]) -> Value
+pub fn judge_value(flags: &[[bool; INDICES]; FAMILIES], kind: u8, family: u8, value: &[u8]) -> Value
     requires { ⌜ Flags (now flags) ⌝ }
     ensures { λ r. ⌜ Valued (idsOf (now (flags .entry))) kind family (now (value .entry)) r ⌝ }
 {

@@ -3,7 +3,7 @@ use Prim.Native.Nat.{ℕ, _-_, _≤_}
 use Prim.Native.String.{String}
 use mathlib.Core.Path.{_≡_}
 use mathlib.Core.Bool.{Bool, false, cond, not}
-use mathlib.Core.List.{List, [], _∷_, map}
+use mathlib.Core.List.{List, [], _∷_, _++_, map}
 use lib.ListN.{length, getD, drop}
 use lib.Dec.{eqb}
 use Rattle.text_bytes.specs.Bytes.{Bytes, bytes, begins, any, all, splitOn, COMMA, isSpace}
@@ -18,6 +18,10 @@ families = "sample" ∷ "assay" ∷ "study_variable" ∷ "ms_run" ∷ []
 
 abbrev pub family : ℕ → Bytes
 family f = bytes (getD families f "")
+
+-- all of them, one after the other
+abbrev pub words : Bytes
+words = family 0 ++ family 1 ++ family 2 ++ family 3
 
 -- the index that is read, where it is all of a text of n bytes; else 0
 abbrev pub alone : Index → ℕ → ℕ

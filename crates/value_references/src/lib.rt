@@ -1,5 +1,6 @@
 // References to the ids of a family, and lists of them.
 pub mod index;
+pub mod words;
 
 use crate::index::Index;
 use crate::index::read_index;
@@ -14,7 +15,9 @@ ghost use lib.ListN.{length, drop, set};
 ghost use lib.Dec.{eqb};
 ghost use Rattle.value_references.specs.References.{refTo, trimmed, isIndex, Tells};
 
-// How many indices a family has.
+// How many families of ids there are, and how many indices a family has.
+pub const FAMILIES: usize = 4;
+
 pub const INDICES: usize = 64;
 
 // What a list of references says: whether it is one, and at place i - 1 whether it names the index i.

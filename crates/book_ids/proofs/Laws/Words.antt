@@ -204,6 +204,15 @@ word-of (suc (suc zero)) = refl
 word-of (suc (suc (suc zero))) = refl
 word-of (suc (suc (suc (suc f)))) = refl
 
+-- the words that are left, from family f on
+pub words-from : (f : ℕ) → f < 4 → drop f (map bytes families) ≡ family f ∷ drop (f + 1) (map bytes families)
+unfolding bytes
+words-from zero h = refl
+words-from (suc zero) h = refl
+words-from (suc (suc zero)) h = refl
+words-from (suc (suc (suc zero))) h = refl
+words-from (suc (suc (suc (suc f)))) h = absurd (omega arith)
+
 families-parted : (allParted (map bytes families) ≡ true) × (length (map bytes families) ≡ 4)
 unfolding allParted partedFrom parted bytes
 families-parted = (refl, refl)
