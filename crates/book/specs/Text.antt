@@ -215,14 +215,14 @@ ROWS = 8042
 abbrev pub WANTED : ℕ
 WANTED = 8187
 
-abbrev pub STARTS : ℕ
-STARTS = 8311
+abbrev pub FRONT : ℕ
+FRONT = 8311
 
 abbrev pub LINKS : ℕ
 LINKS = 9738
 
 unfoldable pub directoryText : Bytes
-directoryText = directoryOf mzTab DIRECTORY ROWS STARTS
+directoryText = directoryOf mzTab DIRECTORY ROWS FRONT
 
 -- all that stands in front of the links
 unfoldable pub laidOut : Bytes

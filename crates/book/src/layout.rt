@@ -9,7 +9,7 @@ ghost use mathlib.Core.List.{_++_};
 ghost use Prim.Native.Nat.{_+_, _≤_};
 ghost use lib.ListN.{length, take};
 ghost use Rattle.book.specs.Book.{mzTab};
-ghost use Rattle.book.specs.Text.{STARTS as front-end, LINKS as all-end, tablesOf, allRows, allWanted, allStarts, IsBook, laidOut};
+ghost use Rattle.book.specs.Text.{FRONT as front-end, LINKS as all-end, tablesOf, allRows, allWanted, allStarts, IsBook, laidOut};
 
 // Where the rows, the required columns, the starts of the keys' slots and the links end.
 const ROWS: usize = 8042;

@@ -1,2 +1,2 @@
 -- Laws of the first pass, with no code in them.
-pub mod Noting
+pub mod Surveying

@@ -13,13 +13,13 @@ use Rattle.book_kinds.specs.Kinds.{ofKind}
 use Rattle.book_facts.specs.declared.Facts.{Facts}
 
 -- a, or b where a is 0, which stands for none
-abbrev pub sooner : ℕ → ℕ → ℕ
-sooner a b = cond (eqb a 0) b a
+abbrev pub earlier : ℕ → ℕ → ℕ
+earlier a b = cond (eqb a 0) b a
 
 -- the first that f answers for these lines, of which the first has the number n; 0 where it answers 0 for all
-unfoldable pub soonest : (ℕ → Bytes → ℕ) → ℕ → List Bytes → ℕ
-soonest f n [] = 0
-soonest f n (l ∷ ls) = let later = soonest f (n + 1) ls in sooner (f n l) later
+unfoldable pub earliest : (ℕ → Bytes → ℕ) → ℕ → List Bytes → ℕ
+earliest f n [] = 0
+earliest f n (l ∷ ls) = let later = earliest f (n + 1) ls in earlier (f n l) later
 
 -- the first letter of a value of this kind that stands with this key; 0 for none
 abbrev pub letterAt : String → ℕ → Bytes → Bytes → ℕ
@@ -47,14 +47,14 @@ versionIn n l = cond (isField l) (versionAt n (cell 2 l)) 0
 
 -- OF A FILE: the first valid mode, by its letter, C Complete or S Summary; the first valid type, I Identification or Q Quantification; 0 for none
 unfoldable pub modeOf : List Bytes → ℕ
-modeOf file = soonest modeIn 1 file
+modeOf file = earliest modeIn 1 file
 
 unfoldable pub typeOf : List Bytes → ℕ
-typeOf file = soonest typeIn 1 file
+typeOf file = earliest typeIn 1 file
 
 -- the number of the first line with a version, valid or not; 0 for none
 unfoldable pub versionOf : List Bytes → ℕ
-versionOf file = soonest versionIn 1 file
+versionOf file = earliest versionIn 1 file
 
 -- an answer has them
 pub record FactsOf (file : List Bytes) (r : Facts) : Type 0 where
@@ -64,7 +64,7 @@ pub record FactsOf (file : List Bytes) (r : Facts) : Type 0 where
 
 -- LINE BY LINE: what a field, what a line adds
 abbrev pub notedField : Facts → ℕ → Bytes → Bytes → Facts
-notedField x n key value = record { mode = sooner (x .mode) (modeAt key value); typed = sooner (x .typed) (typeAt key value); version = sooner (x .version) (versionAt n key) }
+notedField x n key value = record { mode = earlier (x .mode) (modeAt key value); typed = earlier (x .typed) (typeAt key value); version = earlier (x .version) (versionAt n key) }
 
 unfoldable pub noted : Facts → ℕ → Bytes → Facts
-noted x n l = record { mode = sooner (x .mode) (modeIn n l); typed = sooner (x .typed) (typeIn n l); version = sooner (x .version) (versionIn n l) }
+noted x n l = record { mode = earlier (x .mode) (modeIn n l); typed = earlier (x .typed) (typeIn n l); version = earlier (x .version) (versionIn n l) }

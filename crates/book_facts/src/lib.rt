@@ -20,7 +20,7 @@ ghost use Rattle.book.specs.Text.{bookIn, IsBook};
 ghost use Rattle.book.specs.Letters.{NONE};
 ghost use Rattle.book_kinds.specs.Kinds.{ofKind};
 ghost use Rattle.book_ids.specs.Ids.{lineId, marked, Declared};
-ghost use Rattle.book_facts.specs.Facts.{sooner, noted, notedField, FactsOf};
+ghost use Rattle.book_facts.specs.Facts.{earlier, noted, notedField, FactsOf};
 
 // The first valid mode, C or S, the first valid type, I or Q, and the number of the first version line; 0 where there is none.
 pub struct Facts {
@@ -30,15 +30,15 @@ pub struct Facts {
 }
 
 // The first of two letters, where 0 is none.
-fn sooner_letter(a: u8, b: u8) -> u8
-    ensures { λ r. ⌜ r ≡ sooner a b ⌝ }
+fn earlier_letter(a: u8, b: u8) -> u8
+    ensures { λ r. ⌜ r ≡ earlier a b ⌝ }
 {
     if a == 0 { b } else { a }
 }
 
 // The first of two numbers of lines, where 0 is none.
-fn sooner_line(a: u32, b: u32) -> u32
-    ensures { λ r. ⌜ r ≡ sooner a b ⌝ }
+fn earlier_line(a: u32, b: u32) -> u32
+    ensures { λ r. ⌜ r ≡ earlier a b ⌝ }
 {
     if a == 0 { b } else { a }
 }
@@ -71,9 +71,9 @@ fn note_field(facts: Facts, key: &[u8], value: &[u8], n: u32) -> Facts
     let typed = letter_in(b't', b"mzTab-type", key, value);
     let version = line_with(b"mzTab-version", key, n);
     Facts {
-        mode: sooner_letter(facts.mode, mode),
-        typed: sooner_letter(facts.typed, typed),
-        version: sooner_line(facts.version, version),
+        mode: earlier_letter(facts.mode, mode),
+        typed: earlier_letter(facts.typed, typed),
+        version: earlier_line(facts.version, version),
     }
 }
 

@@ -46,14 +46,14 @@ pub record Declared (b : Book) (t : List (List Bool)) (file : Bytes) : Type 0 wh
 
 -- WHAT THE CODE FINDS
 
-abbrev pub valueOf : Index → ℕ
-valueOf Not = 0
-valueOf (Bad z w) = 0
-valueOf (Is v w) = v
+abbrev pub indexIn : Index → ℕ
+indexIn Not = 0
+indexIn (Bad z w) = 0
+indexIn (Is v w) = v
 
 -- the index that stands after a word at the front of a name, 0 for none
 unfoldable pub indexAfter : Bytes → Bytes → ℕ
-indexAfter w name = cond (begins w name) (valueOf (indexAt (drop (length w) name))) 0
+indexAfter w name = cond (begins w name) (indexIn (indexAt (drop (length w) name))) 0
 
 -- the id that a name begins with; f numbers the words
 unfoldable pub idIn : ℕ → List Bytes → Bytes → Id

@@ -5,7 +5,7 @@ use mathlib.Core.List.{List, [], _∷_}
 use Rattle.text_bytes.specs.Bytes.{Bytes, bytes, same, begins, isEmpty, all, onFirst, splitOn, isSpace}
 use Rattle.value_references.specs.Index.{digits, number, bracketed, indexAt}
 use Rattle.values.specs.Values.{areDigits, unsigned, dotted, isNumeral, isText, isWhole, isDecimal, isDecimals, isWindow, isNull}
-use Rattle.value_parameters.specs.Parameters.{quotedAfter, cut, hasFields, isParameter}
+use Rattle.value_parameters.specs.Parameters.{quotedAfter, cutOutside, hasFields, isParameter}
 use Rattle.value_references.specs.References.{family, refTo, isIndex}
 use Rattle.book_kinds.specs.Kinds.{familyNumber, isKept, isFixed, ofKind, cellOfKind}
 
@@ -49,7 +49,7 @@ cases =
     ∷ []
 
 pub all-hold : all agrees cases ≡ true
-unfolding cases all bytes same begins isEmpty onFirst splitOn digits number bracketed indexAt areDigits unsigned dotted isNumeral isWhole isDecimal isDecimals isWindow quotedAfter cut isSpace hasFields isParameter refTo
+unfolding cases all bytes same begins isEmpty onFirst splitOn digits number bracketed indexAt areDigits unsigned dotted isNumeral isWhole isDecimal isDecimals isWindow quotedAfter cutOutside isSpace hasFields isParameter refTo
 all-hold = refl
 
 -- values: a reference to a sample, a version, and `null`, which stands for missing save in a column that is never null

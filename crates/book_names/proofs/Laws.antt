@@ -3,7 +3,7 @@ pub mod Flaws
 pub mod Turns
 pub mod Known
 pub mod Missing
-pub mod Apart
+pub mod Distinct
 pub mod Alike
 pub mod Lengths
 pub mod Lasts

@@ -38,10 +38,10 @@ pub record Place (s : Bytes) (v w : ℕ) (z : Flaw) : Type 0 where
   pub flaw : z ≡ flawIn (indexAt s)
 
 -- what a name is that has the flaw z, Form for none, in front of a rest that is m
-abbrev pub marked : Flaw → Match → Match
-marked Form m = m
-marked Zero m = missing Zero m
-marked Over m = missing Over m
+abbrev pub flawed : Flaw → Match → Match
+flawed Form m = m
+flawed Zero m = missing Zero m
+flawed Over m = missing Over m
 
 -- the flaw that a name has against a pattern, Form for none
 abbrev pub flawOf : Match → Flaw

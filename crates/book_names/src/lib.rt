@@ -16,7 +16,7 @@ ghost use Prim.Native.Nat.{_≤_, _<_};
 ghost use lib.ListN.{length, getD, drop};
 ghost use Rattle.text_bytes.specs.Bytes.{SPACE as space};
 ghost use Rattle.book_names.specs.Names.{pieces, fits as fitsIn, lookupIn, sooner as soonerOf};
-ghost use Rattle.book_names.specs.Steps.{Place, marked, flawOf, mayFit, mayEnd, extent as extentFrom, closeAt};
+ghost use Rattle.book_names.specs.Steps.{Place, flawed, flawOf, mayFit, mayEnd, extent as extentFrom, closeAt};
 ghost use Rattle.book_names.specs.Table.{entries};
 ghost use Rattle.book_names.specs.Links.{Linked};
 ghost use Rattle.book_names.specs.declared.Match.the-variants.{Differs};
@@ -94,7 +94,7 @@ fn sooner(first: Flaw, second: Flaw) -> Flaw
 
 // Where the pattern has ended: a name that goes on differs, and one that ends there fits, or misses where an index had a flaw.
 fn ended(s: &[u8], b: usize, i: usize, j: usize, flaw: Flaw) -> Match
-    ensures { λ r. ⌜ r ≡ marked flaw (fitsIn [] (drop b (now (s .entry))) i j) ⌝ }
+    ensures { λ r. ⌜ r ≡ flawed flaw (fitsIn [] (drop b (now (s .entry))) i j) ⌝ }
 {
     if b < s.len() {
         return Match::Differs;

@@ -10,16 +10,16 @@ use Rattle.text_bytes.specs.Bytes.{Bytes}
 use Rattle.text.specs.Lines.{LIMIT, lines}
 use Rattle.rules.specs.Breaks.{Break}
 use Rattle.rules.specs.Rules.{breaks}
-use Rattle.judging.specs.Parts.{total}
-use Rattle.judging.specs.Calls.{numberOf, Going}
+use Rattle.judging.specs.Parts.{putSoFar}
+use Rattle.judging.specs.Calls.{lengthNumber, Going}
 use Rattle.faults.specs.declared.Fault.{Fault}
 use Rattle.faults.specs.declared.steps.Progress.{Progress}
 use Rattle.faults.specs.Records.{faultOf}
 use Rattle.book.specs.Book.{bookOf}
 
 -- the places of a part: 4,096 breaks
-abbrev pub ROOM : ℕ
-ROOM = 12288
+abbrev pub PLACES : ℕ
+PLACES = 12288
 
 abbrev pub fault : ℕ → ℕ → ℕ → Fault
 fault r l c = record { rule = r; line = l; cell = c }
@@ -34,23 +34,23 @@ records ps j zero = []
 records ps j (suc t) = recordAt ps j ∷ records ps (j + 3) t
 
 -- what is reported of a file: nothing where it is too long
-unfoldable pub found : Bytes → List Break
-found file = cond (ltb LIMIT (length file)) [] (breaks file)
+unfoldable pub reported : Bytes → List Break
+reported file = cond (ltb LIMIT (length file)) [] (breaks file)
 
 -- the records that are still to come
 abbrev pub remaining : Bytes → Progress → List Fault
-remaining file s = map faultOf (drop (s .count) (found file))
+remaining file s = map faultOf (drop (s .count) (reported file))
 
 -- it grows smaller with each step
 unfoldable pub away : Bytes → Progress → ℕ
 away file s = cond (s .more) (suc (length file - s .carried .stand .at)) 0
 
 -- what holds between two steps
-pub record Good (file : Bytes) (s : Progress) (slots : List Bool) : Type 0 where
-  pub number : s .number ≡ numberOf file
-  pub counted : s .count ≡ total (s .carried .stand)
+pub record Between (file : Bytes) (s : Progress) (slots : List Bool) : Type 0 where
+  pub number : s .number ≡ lengthNumber file
+  pub counted : s .count ≡ putSoFar (s .carried .stand)
   pub going : s .more ≡ true → Going (bookOf (lines file)) file (s .carried) slots
-  pub done : s .more ≡ false → s .count ≡ length (found file)
+  pub done : s .more ≡ false → s .count ≡ length (reported file)
 
 -- a step from s to r: the places hold records, of which the list has room for `fit`, from `from` on; with them and those to come it is what it was to be
 pub record Moves (file : Bytes) (s r : Progress) (places : List ℕ) : Type 0 where

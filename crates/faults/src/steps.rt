@@ -8,7 +8,7 @@ ghost use Prim.Native.Nat.{min};
 ghost use lib.ListN.{length, replicate};
 ghost use Rattle.book.specs.Book.{SLOTS as all-slots};
 ghost use Rattle.book.specs.Text.{IsBook};
-ghost use Rattle.faults.specs.Steps.{ROOM, Good, Moves};
+ghost use Rattle.faults.specs.Steps.{PLACES, Between, Moves};
 
 // The places of a part: three for each of 4,096 breaks.
 pub const PLACES: usize = 12288;
@@ -31,7 +31,7 @@ pub struct Progress {
 // Before the first line; nothing is to judge of a file over the limit.
 pub fn begin(book: &[u8], file: &[u8], cap: usize) -> Progress
     requires { ⌜ IsBook (now book) ⌝ }
-    ensures { λ r. ⌜ Good (now (file .entry)) r (replicate all-slots false) ⌝ }
+    ensures { λ r. ⌜ Between (now (file .entry)) r (replicate all-slots false) ⌝ }
     ensures { λ r. ⌜ (r .cap ≡ cap) × (r .count ≡ 0) ⌝ }
 {
     let carried = judging::calls::begin(book, file);
@@ -62,12 +62,12 @@ pub fn next(
     places: &mut [u32; PLACES],
 ) -> Progress
     requires { ⌜ IsBook (now book) ⌝ }
-    requires { ⌜ Good (now file) s (now slots) ⌝ }
+    requires { ⌜ Between (now file) s (now slots) ⌝ }
     requires { ⌜ s .more ≡ true ⌝ }
-    requires { ⌜ length (now places) ≡ ROOM ⌝ }
-    ensures { λ r. ⌜ Good (now (file .entry)) r (now (slots .exit)) ⌝ }
+    requires { ⌜ length (now places) ≡ PLACES ⌝ }
+    ensures { λ r. ⌜ Between (now (file .entry)) r (now (slots .exit)) ⌝ }
     ensures { λ r. ⌜ Moves (now (file .entry)) s r (now (places .exit)) ⌝ }
-    ensures { λ r. ⌜ length (now (places .exit)) ≡ ROOM ⌝ }
+    ensures { λ r. ⌜ length (now (places .exit)) ≡ PLACES ⌝ }
 {
     let carried = next_part(places, FULL, book, file, s.carried, slots);
     let stand = carried.stand;

@@ -14,8 +14,8 @@ use Rattle.judging.specs.Parts.{beginning, Midway}
 use Rattle.judging.specs.declared.calls.Carried.{Carried}
 
 -- the number of a call: 1 where the file is too long
-unfoldable pub numberOf : Bytes → ℕ
-numberOf file = cond (ltb LIMIT (length file)) TOO-LONG 0
+unfoldable pub lengthNumber : Bytes → ℕ
+lengthNumber file = cond (ltb LIMIT (length file)) TOO-LONG 0
 
 abbrev pub flagsOf : Carried → List (List Bool)
 flagsOf s = s .samples ∷ s .assays ∷ s .variables ∷ s .runs ∷ []
@@ -30,6 +30,6 @@ pub record Going (b : Book) (file : Bytes) (s : Carried) (slots : List Bool) : T
 
 -- before the first line, where no key has come
 pub record Begun (b : Book) (file : Bytes) (s : Carried) : Type 0 where
-  pub number : s .number ≡ numberOf file
+  pub number : s .number ≡ lengthNumber file
   pub stand : s .stand ≡ beginning (s .stand .facts)
   pub going : s .number ≡ 0 → Going b file s (replicate SLOTS false)

@@ -15,8 +15,8 @@ use Rattle.judging.specs.declared.parts.Stand.{Stand}
 use Rattle.book.specs.Book.{Book}
 
 -- how many breaks were put up to here
-abbrev pub total : Stand → ℕ
-total s = s .before + s .held
+abbrev pub putSoFar : Stand → ℕ
+putSoFar s = s .before + s .held
 
 -- before the first line
 abbrev pub beginning : Facts → Stand
@@ -26,16 +26,16 @@ beginning x = record { more = true; at = 0; lines = 0; before = 0; held = 0; sta
 pub record Midway (b : Book) (file : Bytes) (s : Stand) (kinds : List ℕ) (slots : List Bool) : Type 0 where
   pub scan : Scan b file (s .at) (s .lines) (s .state) kinds slots
   pub facts : FactsOf (lines file) (s .facts)
-  pub most : total s ≤ length (breaksBy b (lines file))
-  pub left : drop (total s) (breaksBy b (lines file)) ≡ from b (lines file) (s .lines) ++ last b (lines file)
+  pub most : putSoFar s ≤ length (breaksBy b (lines file))
+  pub left : drop (putSoFar s) (breaksBy b (lines file)) ≡ from b (lines file) (s .lines) ++ last b (lines file)
 
 -- from s to r: the next breaks of the file are put from the first place on, more than `room` of them only by a line's and the end's; it ends before the last
 -- break only where the room is full, and a line further
 pub record Parts (b : Book) (file : Bytes) (room : ℕ) (s r : Stand) (places places' : List ℕ) : Type 0 where
-  pub before : r .before ≡ total s
-  pub most : total r ≤ length (breaksBy b (lines file))
-  pub puts : lent places' (r .held) ≡ putAll (lent places 0) (take (r .held) (drop (total s) (breaksBy b (lines file))))
+  pub before : r .before ≡ putSoFar s
+  pub most : putSoFar r ≤ length (breaksBy b (lines file))
+  pub puts : lent places' (r .held) ≡ putAll (lent places 0) (take (r .held) (drop (putSoFar s) (breaksBy b (lines file))))
   pub fits : r .held ≤ room + (LINE-MOST + END-MOST)
   pub full : r .more ≡ true → room ≤ r .held
   pub further : r .more ≡ true → s .at < r .at
-  pub all : r .more ≡ false → total r ≡ length (breaksBy b (lines file))
+  pub all : r .more ≡ false → putSoFar r ≡ length (breaksBy b (lines file))

@@ -1,4 +1,4 @@
 -- Laws over plain lists, with no code in them.
-pub mod Marking
-pub mod Asking
+pub mod Flagging
+pub mod Lettered
 pub mod Wanting

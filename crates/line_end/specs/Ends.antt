@@ -14,8 +14,8 @@ use Rattle.book_facts.specs.declared.Facts.{Facts}
 use Rattle.line_end.specs.declared.Told.{Told}
 
 -- what was found of the file
-abbrev pub found : List Bool → List (List Bool) → Facts → State → Seen
-found slots flags facts state = record { slots = slots; flags = flags; mode = facts .mode; typed = facts .typed; present = state .present }
+abbrev pub seenBy : List Bool → List (List Bool) → Facts → State → Seen
+seenBy slots flags facts state = record { slots = slots; flags = flags; mode = facts .mode; typed = facts .typed; present = state .present }
 
 -- the same, of which the last three are told
 abbrev pub seen : List Bool → List (List Bool) → Told → Seen

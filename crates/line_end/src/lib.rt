@@ -22,7 +22,7 @@ ghost use Rattle.book_ids.specs.Ids.{Flags};
 ghost use Rattle.rules.specs.Rules.{asks};
 ghost use Rattle.scan.specs.Places.{CEILING, END-MOST, lent, Puts};
 ghost use Rattle.scan.specs.Machine.{isMarked, wantBreaks, endBreaks};
-ghost use Rattle.line_end.specs.Ends.{seen, Whole, found, idBreaks};
+ghost use Rattle.line_end.specs.Ends.{seen, Whole, seenBy, idBreaks};
 
 // The family of assays.
 const ASSAYS: usize = 1;
@@ -187,7 +187,7 @@ pub fn judge_end(
     requires { ⌜ length (now slots) ≡ SLOTS ⌝ }
     requires { ⌜ Flags (now flags) ⌝ }
     requires { ⌜ count + END-MOST ≤ CEILING ⌝ }
-    ensures { λ r. ⌜ Puts (endBreaks (bookIn (now (book .entry))) (found (now (slots .entry)) (now (flags .entry)) facts state) «line_no») END-MOST (lent (now (places .entry)) count) (lent (now (places .exit)) r) ⌝ }
+    ensures { λ r. ⌜ Puts (endBreaks (bookIn (now (book .entry))) (seenBy (now (slots .entry)) (now (flags .entry)) facts state) «line_no») END-MOST (lent (now (places .entry)) count) (lent (now (places .exit)) r) ⌝ }
 {
     let assays = flags[ASSAYS];
     let assay = any_marked(&assays, 0, INDICES);

@@ -16,7 +16,7 @@ pub record Kept (b : Book) (section : ℕ) (names : List Bytes) (kinds stamps : 
   pub stamp-places : length stamps ≡ ROOM
 
 -- the same of a header, where it has not over 256 cells
-pub record Keeps (b : Book) (section : ℕ) (line : Bytes) (kinds stamps : List ℕ) : Type 0 where
+pub record KeepsKinds (b : Book) (section : ℕ) (line : Bytes) (kinds stamps : List ℕ) : Type 0 where
   pub columns : length (cells line) ≤ 256 → KindsOf b section (drop 1 (cells line)) kinds
   pub kind-places : length kinds ≡ 256
   pub stamp-places : length stamps ≡ ROOM

@@ -18,7 +18,7 @@ ghost use Rattle.book.specs.Text.{bookIn, IsBook};
 ghost use Rattle.scan.specs.Places.{CEILING, HEADED-MOST, LINE-MOST, lent, Puts};
 ghost use Rattle.scan.specs.Machine.{idsOf, headBreaks, headFirst, nameBreaks};
 ghost use Rattle.line_head_stamps.specs.Stamps.{ROOM as room};
-ghost use Rattle.line_head.specs.Heads.{Kept, Keeps};
+ghost use Rattle.line_head.specs.Heads.{Kept, KeepsKinds};
 
 const MOST_CELLS: usize = 256;
 
@@ -86,7 +86,7 @@ pub fn judge_head(
     requires { ⌜ length (now stamps) ≡ room ⌝ }
     requires { ⌜ length (now line) ≤ LIMIT ⌝ }
     ensures { λ r. ⌜ Puts (headBreaks (bookIn (now (book .entry))) (head .section) (head .again) (head .later) (idsOf (now (flags .entry))) (head .tag .control) (head .tag .line) (cells (now (line .entry)))) LINE-MOST (lent (now (places .entry)) count) (lent (now (places .exit)) r) ⌝ }
-    ensures { λ r. ⌜ Keeps (bookIn (now (book .entry))) (head .section) (now (line .entry)) (now (kinds .exit)) (now (stamps .exit)) ⌝ }
+    ensures { λ r. ⌜ KeepsKinds (bookIn (now (book .entry))) (head .section) (now (line .entry)) (now (kinds .exit)) (now (stamps .exit)) ⌝ }
 {
     let wide = MOST_CELLS < count_cells(line);
     let tag = head.tag;

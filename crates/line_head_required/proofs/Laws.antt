@@ -1,2 +1,2 @@
 -- Laws over plain lists, with no code in them.
-pub mod Wanting
+pub mod Requiring

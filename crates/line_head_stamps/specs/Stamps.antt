@@ -46,23 +46,23 @@ unfoldable pub hashOf : Bytes → ℕ
 hashOf name = hashFrom 0 name % DOORS
 
 -- WHAT A FORK ASKS: the code at a place is the byte and one more, 0 past the end
-unfoldable pub codeAt : Bytes → ℕ → ℕ
-codeAt [] place = 0
-codeAt (x ∷ xs) zero = x + 1
-codeAt (x ∷ xs) (suc place) = codeAt xs place
+unfoldable pub byteCode : Bytes → ℕ → ℕ
+byteCode [] place = 0
+byteCode (x ∷ xs) zero = x + 1
+byteCode (x ∷ xs) (suc place) = byteCode xs place
 
 -- 16 times a place and a shift ask for four bits of the code there, and these are the side of a name
 unfoldable pub sideOf : ℕ → Bytes → ℕ
-sideOf ask name = codeAt name (ask / 16) / 2 ^ (ask % 16) % 16
+sideOf ask name = byteCode name (ask / 16) / 2 ^ (ask % 16) % 16
 
 -- WHAT IS WRITTEN: n places from one on hold a number
-unfoldable pub filled : List ℕ → ℕ → ℕ → ℕ → List ℕ
-filled t from zero held = t
-filled t from (suc n) held = set (filled t from n held) (from + n) held
+unfoldable pub covered : List ℕ → ℕ → ℕ → ℕ → List ℕ
+covered t from zero held = t
+covered t from (suc n) held = set (covered t from n held) (from + n) held
 
 -- name number m stands from a place up to another, and is behind all doors of its fork
 unfoldable pub entered : List ℕ → ℕ → ℕ → ℕ → List ℕ
-entered t m start end = filled (set (set t (STARTS + m) start) (ENDS + m) end) (BRANCHES + 16 * m) 16 m
+entered t m start end = covered (set (set t (STARTS + m) start) (ENDS + m) end) (BRANCHES + 16 * m) 16 m
 
 -- a door leads to fork m, where on one side is what the door held
 unfoldable pub forked : List ℕ → ℕ → ℕ → ℕ → ℕ → List ℕ

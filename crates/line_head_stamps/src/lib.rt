@@ -8,7 +8,7 @@ ghost use Prim.Native.Nat.{_+_, _*_, _/_, _%_, _^_, _≤_, _<_};
 ghost use lib.ListN.{length};
 ghost use Rattle.text_bytes.specs.Places.{part};
 ghost use Rattle.text.specs.Lines.{LIMIT};
-ghost use Rattle.line_head_stamps.specs.Stamps.{ROOM as room, IsDoor, BRANCHES as branches, hashOf, codeAt, sideOf, filled, entered, forked};
+ghost use Rattle.line_head_stamps.specs.Stamps.{ROOM as room, IsDoor, BRANCHES as branches, hashOf, byteCode, sideOf, covered, entered, forked};
 ghost use Rattle.line_head_stamps.specs.Ways.{Astray, Doors, FindsDoor, Noted, Adds};
 
 // The list that is lent has so many places: the stamps, and from the places below on their doors, the doors of each fork, what each fork asks, and where each
@@ -68,7 +68,7 @@ fn code(x: u8) -> u32
 
 // The code of the byte at a place; 0 past the end.
 fn code_at(name: &[u8], place: usize) -> u32
-    ensures { λ r. ⌜ (r ≡ codeAt (now (name .entry)) place) × (r ≤ 256) ⌝ }
+    ensures { λ r. ⌜ (r ≡ byteCode (now (name .entry)) place) × (r ≤ 256) ⌝ }
 {
     if place < name.len() {
         return code(name[place]);
@@ -118,7 +118,7 @@ fn last_door(stamps: &[u32], line_no: u32, count: u32, h: usize, name: &[u8]) ->
 
 // The first place where the two differ, or the end of the shorter.
 fn first_difference(a: &[u8], b: &[u8]) -> usize
-    ensures { λ r. ⌜ (r ≤ length (now (a .entry))) × (codeAt (now (a .entry)) r ≡ codeAt (now (b .entry)) r → now (a .entry) ≡ now (b .entry)) ⌝ }
+    ensures { λ r. ⌜ (r ≤ length (now (a .entry))) × (byteCode (now (a .entry)) r ≡ byteCode (now (b .entry)) r → now (a .entry) ≡ now (b .entry)) ⌝ }
 {
     let mut i = 0;
     while i < a.len() {
@@ -161,7 +161,7 @@ fn question(a: &[u8], b: &[u8]) -> u32
 fn fill_doors(stamps: &mut [u32], count: usize)
     requires { ⌜ length (now stamps) ≡ room ⌝ }
     requires { ⌜ count ≤ 254 ⌝ }
-    ensures { λ r. ⌜ now (stamps .exit) ≡ filled (now (stamps .entry)) (branches + 16 * count) 16 count ⌝ }
+    ensures { λ r. ⌜ now (stamps .exit) ≡ covered (now (stamps .entry)) (branches + 16 * count) 16 count ⌝ }
 {
     let mut k = 0;
     while k < SIDES {

@@ -1,3 +1,3 @@
 -- Laws over plain lists, with no code in them.
-pub mod Keeping
-pub mod Lining
+pub mod Slotted
+pub mod Fielding

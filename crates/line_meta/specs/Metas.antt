@@ -9,6 +9,6 @@ use Rattle.scan.specs.Machine.{hasSlot}
 use Rattle.book.specs.Book.{SLOTS, Book}
 
 -- the slots after a line say which keys came before, the line's own too
-pub record Keeps (b : Book) (l : Bytes) (slots slots' : List Bool) : Type 0 where
+pub record KeepsKeys (b : Book) (l : Bytes) (slots slots' : List Bool) : Type 0 where
   pub keys : (i : ℕ) → i < SLOTS → getD slots' i false ≡ (getD slots i false || hasSlot b i l)
   pub places : length slots' ≡ SLOTS

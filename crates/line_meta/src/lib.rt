@@ -20,8 +20,8 @@ ghost use Rattle.book.specs.Text.{bookIn, IsBook};
 ghost use Rattle.rules.specs.Breaks.{breakAt, when};
 ghost use Rattle.scan.specs.Places.{CEILING, LINE-MOST, lent, Puts};
 ghost use Rattle.scan.specs.Machine.{controlAt, eachCell, metaCell, metaBreaks, idsOf};
-ghost use Rattle.line_meta_keys.specs.Keys.{marked};
-ghost use Rattle.line_meta.specs.Metas.{Keeps};
+ghost use Rattle.line_meta_keys.specs.Keys.{slotted};
+ghost use Rattle.line_meta.specs.Metas.{KeepsKeys};
 
 // The cells of a metadata line whose key and value are judged.
 const CELLS: usize = 3;
@@ -62,7 +62,7 @@ fn judge_three(
     requires { ⌜ length (cells (now line)) ≡ 3 ⌝ }
     requires { ⌜ count + 6 ≤ CEILING ⌝ }
     ensures { λ r. ⌜ Puts (eachCell (metaCell (bookIn (now (book .entry))) (now (slots .entry)) (idsOf (now (flags .entry))) (getD (cells (now (line .entry))) 1 []) (getD (cells (now (line .entry))) 2 []) (tag .control) (tag .line)) 2 (drop 1 (cells (now (line .entry))))) 6 (lent (now (places .entry)) count) (lent (now (places .exit)) r) ⌝ }
-    ensures { λ r. ⌜ now (slots .exit) ≡ marked (bookIn (now (book .entry))) (now (slots .entry)) (keyOf (bookIn (now (book .entry))) (getD (cells (now (line .entry))) 1 [])) ⌝ }
+    ensures { λ r. ⌜ now (slots .exit) ≡ slotted (bookIn (now (book .entry))) (now (slots .entry)) (keyOf (bookIn (now (book .entry))) (getD (cells (now (line .entry))) 1 [])) ⌝ }
 {
     let e = cell_end(line, 0);
     let a = e + 1;
@@ -93,7 +93,7 @@ pub fn judge_meta(
     requires { ⌜ isMeta (now line) ≡ true ⌝ }
     requires { ⌜ count + LINE-MOST ≤ CEILING ⌝ }
     ensures { λ r. ⌜ Puts (metaBreaks (bookIn (now (book .entry))) table (now (slots .entry)) (idsOf (now (flags .entry))) (tag .control) (tag .line) (cells (now (line .entry)))) LINE-MOST (lent (now (places .entry)) count) (lent (now (places .exit)) r) ⌝ }
-    ensures { λ r. ⌜ Keeps (bookIn (now (book .entry))) (now (line .entry)) (now (slots .entry)) (now (slots .exit)) ⌝ }
+    ensures { λ r. ⌜ KeepsKeys (bookIn (now (book .entry))) (now (line .entry)) (now (slots .entry)) (now (slots .exit)) ⌝ }
 {
     let n = count_cells(line);
     let k1 = put_if(places, count, tag.control == 1, 1, tag.line, 1);

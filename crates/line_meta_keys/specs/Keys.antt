@@ -26,6 +26,6 @@ InSlots b (Unknown w) = Unit
 InSlots b (Known e k f i j) = (e ≤ length (keyEntries b)) × (slotOf (keyEntries b) e i j < SLOTS)
 
 -- the slots with a known key's one set
-abbrev pub marked : Book → List Bool → Found → List Bool
-marked b slots (Unknown w) = slots
-marked b slots (Known e k f i j) = set slots (slotOf (keyEntries b) e i j) true
+abbrev pub slotted : Book → List Bool → Found → List Bool
+slotted b slots (Unknown w) = slots
+slotted b slots (Known e k f i j) = set slots (slotOf (keyEntries b) e i j) true

@@ -14,7 +14,7 @@ ghost use Rattle.book_names.specs.Names.{among, slotOf};
 ghost use Rattle.book.specs.Book.{SLOTS, keyEntries};
 ghost use Rattle.book.specs.Text.{bookIn, IsBook};
 ghost use Rattle.scan.specs.Machine.{idsOf};
-ghost use Rattle.line_meta_keys.specs.Keys.{Judged, InSlots, marked};
+ghost use Rattle.line_meta_keys.specs.Keys.{Judged, InSlots, slotted};
 
 // Of a key: whether the book has it, and whether it came before where it may not. Of a known key's value: whether it is not of its kind, and whether it names
 // an undeclared id.
@@ -103,7 +103,7 @@ pub fn mark(slots: &mut [bool], book: &[u8], found: Found)
     requires { ⌜ IsBook (now book) ⌝ }
     requires { ⌜ InSlots (bookIn (now book)) found ⌝ }
     requires { ⌜ length (now slots) ≡ SLOTS ⌝ }
-    ensures { λ _. ⌜ now (slots .exit) ≡ marked (bookIn (now (book .entry))) (now (slots .entry)) found ⌝ }
+    ensures { λ _. ⌜ now (slots .exit) ≡ slotted (bookIn (now (book .entry))) (now (slots .entry)) found ⌝ }
 {
     match found {
         Found::Unknown(_) => {}

@@ -1,4 +1,4 @@
 -- Laws over plain lists, with no code in them: a file for each thing that they speak of.
-pub mod Naming
+pub mod Referring
 pub mod Ids
 pub mod Valuing

@@ -14,7 +14,7 @@ ghost use Rattle.scan.specs.Machine.{idsOf};
 ghost use Rattle.line_meta_values.specs.Values.{Valued};
 
 // Whether a value is of its kind, and whether it then names an undeclared id.
-pub struct Value {
+pub struct Verdict {
     pub good: bool,
     pub undeclared: bool,
 }
@@ -32,32 +32,32 @@ fn is_declared(flags: &[[bool; INDICES]; FAMILIES], family: usize, index: usize)
 }
 
 // A value that is to be one reference to the family.
-fn judge_reference(flags: &[[bool; INDICES]; FAMILIES], family: u8, value: &[u8]) -> Value
+fn judge_reference(flags: &[[bool; INDICES]; FAMILIES], family: u8, value: &[u8]) -> Verdict
     requires { ⌜ Flags (now flags) ⌝ }
     ensures { λ r. ⌜ Valued (idsOf (now (flags .entry))) reference family (now (value .entry)) r ⌝ }
 {
     let index = reference_to(family, value);
     if index == 0 {
-        return Value {
+        return Verdict {
             good: false,
             undeclared: false,
         };
     }
     let declared = is_declared(flags, family_number(family), index);
-    Value {
+    Verdict {
         good: true,
         undeclared: !declared,
     }
 }
 
 // A value that is to be a list of references to the family. One pass over it, then one over the indices.
-fn judge_references(flags: &[[bool; INDICES]; FAMILIES], family: u8, value: &[u8]) -> Value
+fn judge_references(flags: &[[bool; INDICES]; FAMILIES], family: u8, value: &[u8]) -> Verdict
     requires { ⌜ Flags (now flags) ⌝ }
     ensures { λ r. ⌜ Valued (idsOf (now (flags .entry))) references family (now (value .entry)) r ⌝ }
 {
     let told = references_to(family, value);
     if !told.good {
-        return Value {
+        return Verdict {
             good: false,
             undeclared: false,
         };
@@ -67,28 +67,33 @@ fn judge_references(flags: &[[bool; INDICES]; FAMILIES], family: u8, value: &[u8
     let mut i = 1;
     while i <= INDICES {
         if both(named[i - 1], !is_declared(flags, number, i)) {
-            return Value {
+            return Verdict {
                 good: true,
                 undeclared: true,
             };
         }
         i += 1;
     }
-    Value {
+    Verdict {
         good: true,
         undeclared: false,
     }
 }
 
 // The value of a key of the kind and family.
-pub fn judge_value(flags: &[[bool; INDICES]; FAMILIES], kind: u8, family: u8, value: &[u8]) -> Value
+pub fn judge_value(
+    flags: &[[bool; INDICES]; FAMILIES],
+    kind: u8,
+    family: u8,
+    value: &[u8],
+) -> Verdict
     requires { ⌜ Flags (now flags) ⌝ }
     ensures { λ r. ⌜ Valued (idsOf (now (flags .entry))) kind family (now (value .entry)) r ⌝ }
 {
     match kind {
         b'r' => judge_reference(flags, family, value),
         b'l' => judge_references(flags, family, value),
-        _ => Value {
+        _ => Verdict {
             good: of_kind(kind, family, value),
             undeclared: false,
         },

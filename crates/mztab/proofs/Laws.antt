@@ -1,4 +1,4 @@
 -- Laws over plain lists and positions, with no code in them.
-pub mod Placing
+pub mod Locating
 pub mod Counting
 pub mod Judging

@@ -11,7 +11,7 @@ use Rattle.numbers.specs.Numbers.{TOO-LONG, NO-SECTION, NO-ROW, NO-CELL}
 use Rattle.text_bytes.specs.Bytes.{Bytes, is}
 use Rattle.text_bytes.specs.Places.{part, after}
 use Rattle.text.specs.Lines.{LIMIT, TAB, LF, lines}
-use Rattle.rows.specs.Rows.{Line, rowOf, columnOf}
+use Rattle.rows.specs.Rows.{Line, rowOf, cellAt}
 use Rattle.mztab.specs.declared.cells.Place.{Place}
 use Rattle.book.specs.Book.{isSection, bookOf}
 
@@ -28,8 +28,8 @@ abbrev pub refused : ℕ → Sought
 refused n = record { number = n; line = 0; cell = 0; start = 0; view = [] }
 
 -- a row's line begins after the LF of the lines above it, and column c of it after c tabs
-abbrev pub startOf : Bytes → Line → ℕ → ℕ
-startOf file l column = after LF (l .line - 1) file + after TAB column (l .text)
+abbrev pub cellStart : Bytes → Line → ℕ → ℕ
+cellStart file l column = after LF (l .line - 1) file + after TAB column (l .text)
 
 abbrev pub soughtCell : ℕ → ℕ → ℕ → Option Bytes → Sought
 soughtCell n c start none = refused NO-CELL
@@ -37,7 +37,7 @@ soughtCell n c start (some b) = record { number = 0; line = n; cell = c; start =
 
 abbrev pub soughtRow : Bytes → Option Line → ℕ → Sought
 soughtRow file none column = refused NO-ROW
-soughtRow file (some l) column = soughtCell (l .line) (column + 1) (startOf file l column) (columnOf (l .text) column)
+soughtRow file (some l) column = soughtCell (l .line) (column + 1) (cellStart file l column) (cellAt (l .text) column)
 
 -- the cell asked for by section, row and column: 1 file too long, 2 no such section, 3 no such row, 4 no such cell, tried in this order
 unfoldable pub sought : Bytes → ℕ → ℕ → ℕ → Sought

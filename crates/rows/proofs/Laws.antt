@@ -1,2 +1,2 @@
 -- Laws over plain lists and positions, with no code in them.
-pub mod Rowing
+pub mod Finding

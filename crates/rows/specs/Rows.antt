@@ -59,8 +59,8 @@ abbrev pub columnNamed : Bytes → Bytes → ℕ
 columnNamed header name = placeOf 1 name (drop 1 (cells header))
 
 -- column c is cell c + 1; column 0 is refused
-unfoldable pub columnOf : Bytes → ℕ → Option Bytes
-columnOf line column = cond (eqb column 0) none (getElem? (cells line) column)
+unfoldable pub cellAt : Bytes → ℕ → Option Bytes
+cellAt line column = cond (eqb column 0) none (getElem? (cells line) column)
 
 -- a line's number and part of the file are the row that is meant, or there is none
 abbrev pub FindsRow : Bytes → Option Line → Row → Type 0
@@ -69,5 +69,5 @@ FindsRow file o Absent = o ≡ none
 
 -- a part of a line is the column that is meant, or there is none
 abbrev pub FindsColumn : Bytes → ℕ → Part → Type 0
-FindsColumn line column (At a e) = (a ≤ e) × (e ≤ length line) × (a ≡ after TAB column line) × (columnOf line column ≡ some (part a e line))
-FindsColumn line column Nothing = columnOf line column ≡ none
+FindsColumn line column (At a e) = (a ≤ e) × (e ≤ length line) × (a ≡ after TAB column line) × (cellAt line column ≡ some (part a e line))
+FindsColumn line column Nothing = cellAt line column ≡ none

@@ -86,11 +86,11 @@ columnUndeclared b file (Unknown w) = false
 columnUndeclared b file (Known e k f i j) = not (eqb f NONE) && isUndeclared b file (familyNumber f) (lastIndex i j)
 
 -- a required column stands among the names
-abbrev pub among : List Bytes → String → Bool
-among ns r = any (same (bytes r)) ns
+abbrev pub hasColumn : List Bytes → String → Bool
+hasColumn ns r = any (same (bytes r)) ns
 
 unfoldable pub lacksColumn : Book → ℕ → List Bytes → Bool
-lacksColumn b section ns = not (all (among ns) ((sectionOf b section) .required))
+lacksColumn b section ns = not (all (hasColumn ns) ((sectionOf b section) .required))
 
 -- the nearest header above, the empty line where there is none
 abbrev pub nearer : Book → Bytes → Bytes → Bytes

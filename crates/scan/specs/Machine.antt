@@ -184,7 +184,7 @@ pub record Seen : Type 0 where
   pub present : List Bool
 
 -- it says what the file has
-pub record Tells (b : Book) (file : List Bytes) (x : Seen) : Type 0 where
+pub record SeenOf (b : Book) (file : List Bytes) (x : Seen) : Type 0 where
   pub slots : Slots b file (x .slots)
   pub ids : Declares b file (idsOf (x .flags))
   pub mode : x .mode ≡ modeOf file

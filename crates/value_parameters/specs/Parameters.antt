@@ -30,16 +30,16 @@ abbrev pub separates : ℕ → Bool → ℕ → Bool
 separates sep quoted b = not quoted && eqb b sep
 
 -- the pieces between the separators that stand outside quotation marks
-unfoldable pub cut : ℕ → Bool → Bytes → List Bytes
-cut sep quoted [] = [] ∷ []
-cut sep quoted (b ∷ bs) =
-    let rest = cut sep (turn quoted b) bs in
+unfoldable pub cutOutside : ℕ → Bool → Bytes → List Bytes
+cutOutside sep quoted [] = [] ∷ []
+cutOutside sep quoted (b ∷ bs) =
+    let rest = cutOutside sep (turn quoted b) bs in
     cond (separates sep quoted b) ([] ∷ rest) (onFirst b rest)
 
 -- exactly three commas outside quotation marks, so four fields; no quotation open at the end; the third field holds something besides spaces
 unfoldable pub hasFields : Bytes → Bool
 hasFields b =
-    eqb (length (cut COMMA false b)) 4 && not (quotedAfter false b) && not (all isSpace (getD (cut COMMA false b) 2 []))
+    eqb (length (cutOutside COMMA false b)) 4 && not (quotedAfter false b) && not (all isSpace (getD (cutOutside COMMA false b) 2 []))
 
 -- first byte `[`, last byte a `]` of its own, so that there are two at least, and the fields between them
 unfoldable pub isParameter : Bytes → Bool
@@ -48,4 +48,4 @@ isParameter b =
 
 -- one or more; each `|` outside quotation marks separates
 unfoldable pub isParameters : Bytes → Bool
-isParameters b = all isParameter (cut BAR false b)
+isParameters b = all isParameter (cutOutside BAR false b)

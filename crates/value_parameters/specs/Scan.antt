@@ -16,8 +16,8 @@ abbrev pub start : ℕ → Scan
 start i = state i 0 false false
 
 -- one comma more, up to four: more than three are too many, however many
-abbrev pub more : ℕ → ℕ
-more n = cond (ltb n 4) (n + 1) n
+abbrev pub oneMore : ℕ → ℕ
+oneMore n = cond (ltb n 4) (n + 1) n
 
 -- whether the third field holds something besides spaces, with b in the field after n commas
 abbrev pub held : ℕ → Bool → ℕ → Bool
@@ -26,7 +26,7 @@ held n f b = f || (eqb n 2 && not (eqb b SPACE))
 abbrev pub step : Scan → ℕ → Scan
 step st b =
     state (st .at + 1)
-    (cond (separates COMMA (st .quoted) b) (more (st .commas)) (st .commas))
+    (cond (separates COMMA (st .quoted) b) (oneMore (st .commas)) (st .commas))
     (turn (st .quoted) b)
     (cond (separates COMMA (st .quoted) b) (st .filled) (held (st .commas) (st .filled) b))
 

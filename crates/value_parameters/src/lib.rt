@@ -10,7 +10,7 @@ ghost use lib.Dec.{eqb};
 ghost use Rattle.text_bytes.specs.Places.{part};
 ghost use Rattle.text_bytes.specs.Bytes.{BAR as bar, COMMA as comma};
 ghost use Rattle.value_parameters.specs.Parameters.{isParameter, isParameters};
-ghost use Rattle.value_parameters.specs.Scan.{state, start, more, held, run};
+ghost use Rattle.value_parameters.specs.Scan.{state, start, oneMore, held, run};
 
 pub const MARK: u8 = b'"';
 
@@ -32,7 +32,7 @@ pub struct Scan {
 
 // The commas, with b if it is one; the count stops at 4.
 fn counted(commas: u32, b: u8) -> u32
-    ensures { λ r. ⌜ r ≡ cond (eqb b comma) (more commas) commas ⌝ }
+    ensures { λ r. ⌜ r ≡ cond (eqb b comma) (oneMore commas) commas ⌝ }
 {
     if b != COMMA {
         return commas;

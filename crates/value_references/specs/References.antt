@@ -59,11 +59,11 @@ unfoldable pub isReferences : Bytes → Bytes → Bool
 isReferences word b = all isIndex (refsTo word b)
 
 -- whether a list names an index
-abbrev pub names : ℕ → Bytes → Bytes → Bool
-names i word b = any (eqb i) (refsTo word b)
+abbrev pub refersTo : ℕ → Bytes → Bytes → Bool
+refersTo i word b = any (eqb i) (refsTo word b)
 
 -- an answer says whether b is a list of references, and of each index from 1 to 64 whether b names it
 pub record Tells (word b : Bytes) (r : Named) : Type 0 where
   pub width : length (r .named) ≡ 64
   pub good : r .good ≡ isReferences word b
-  pub named : (i : ℕ) → 1 ≤ i → i ≤ 64 → getD (r .named) (i - 1) false ≡ names i word b
+  pub named : (i : ℕ) → 1 ≤ i → i ≤ 64 → getD (r .named) (i - 1) false ≡ refersTo i word b

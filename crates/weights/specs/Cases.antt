@@ -4,7 +4,7 @@ use Rattle.text_bytes.specs.Bytes.{Bytes, bytes, same, onFirst, splitOn, count}
 use Rattle.text.specs.Lines.{lines, startsLf, coded}
 use Rattle.book.specs.Book.{codeFor, bookOf, isSection, mzTab, sectionOf}
 use Rattle.value_references.specs.Index.{written}
-use Rattle.rows.specs.Rows.{numbered, having, rowOf, placeOf, columnOf}
+use Rattle.rows.specs.Rows.{numbered, having, rowOf, placeOf, cellAt}
 use Rattle.weights.specs.Weights.{hasIn, weightOf}
 
 file : Bytes
@@ -14,15 +14,15 @@ file =
 
 -- a value counts, also zero, and `null` does not; rows of another section do not
 second : weightOf file 2 ≡ 2
-unfolding weightOf file bytes lines onFirst startsLf splitOn same rowOf codeFor isSection sectionOf bookOf mzTab numbered having coded columnOf placeOf written hasIn count
+unfolding weightOf file bytes lines onFirst startsLf splitOn same rowOf codeFor isSection sectionOf bookOf mzTab numbered having coded cellAt placeOf written hasIn count
 second = refl
 
 -- `NaN` is a value; the index is that of the name, not of the column
 tenth : weightOf file 10 ≡ 1
-unfolding weightOf file bytes lines onFirst startsLf splitOn same rowOf codeFor isSection sectionOf bookOf mzTab numbered having coded columnOf placeOf written hasIn count
+unfolding weightOf file bytes lines onFirst startsLf splitOn same rowOf codeFor isSection sectionOf bookOf mzTab numbered having coded cellAt placeOf written hasIn count
 tenth = refl
 
 -- no such column
 first : weightOf file 1 ≡ 0
-unfolding weightOf file bytes lines onFirst startsLf splitOn same rowOf codeFor isSection sectionOf bookOf mzTab numbered having coded columnOf placeOf written hasIn count
+unfolding weightOf file bytes lines onFirst startsLf splitOn same rowOf codeFor isSection sectionOf bookOf mzTab numbered having coded cellAt placeOf written hasIn count
 first = refl

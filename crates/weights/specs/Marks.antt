@@ -17,20 +17,20 @@ use Rattle.weights.specs.declared.Marks.{Marks}
 unfoldable pub variableOf : Bytes → ℕ
 variableOf name = refTo WORD name
 
-abbrev pub MOST : ℕ
-MOST = 256
+abbrev pub COLUMNS : ℕ
+COLUMNS = 256
 
 -- marks that a walk can use: one for each of 256 columns, none from `width` on
-pub record Good (marks : List ℕ) (width : ℕ) : Type 0 where
-  pub long : length marks ≡ MOST
-  pub inside : width ≤ MOST
+pub record IsMarks (marks : List ℕ) (width : ℕ) : Type 0 where
+  pub long : length marks ≡ COLUMNS
+  pub inside : width ≤ COLUMNS
   pub low : (j : ℕ) → getD marks j 0 ≤ VARIABLES
   pub none : (j : ℕ) → width ≤ j → getD marks j 0 ≡ 0
 
 -- the marks of a header
 pub record Marked (header : Bytes) (m : Marks) : Type 0 where
-  pub good : Good (m .of) (m .width)
-  pub says : (j : ℕ) → j < MOST → getD (m .of) j 0 ≡ variableOf (getD (cells header) j [])
+  pub good : IsMarks (m .of) (m .width)
+  pub says : (j : ℕ) → j < COLUMNS → getD (m .of) j 0 ≡ variableOf (getD (cells header) j [])
 
 -- a cell counts for its column's study variable where it is not `null`
 abbrev pub isCounted : ℕ → Bytes → Bool
@@ -61,6 +61,6 @@ pub record Room (f : ℕ → ℕ) (ws : List ℕ) : Type 0 where
   pub long : length ws ≡ VARIABLES
   pub fits : (i : ℕ) → i < VARIABLES → getD ws i 0 + f (suc i) ≤ LIMIT
 
-pub record Adds (f : ℕ → ℕ) (ws ws' : List ℕ) : Type 0 where
+pub record Raises (f : ℕ → ℕ) (ws ws' : List ℕ) : Type 0 where
   pub long : length ws' ≡ length ws
   pub each : (i : ℕ) → i < VARIABLES → getD ws' i 0 ≡ getD ws i 0 + f (suc i)

@@ -11,7 +11,7 @@ use Rattle.text_bytes.specs.Bytes.{Bytes, bytes, is, count}
 use Rattle.text.specs.Lines.{LIMIT, lines, coded}
 use Rattle.book.specs.Book.{rowCode, mzTab}
 use Rattle.value_references.specs.Index.{written}
-use Rattle.rows.specs.Rows.{headerOf, columnNamed, columnOf}
+use Rattle.rows.specs.Rows.{headerOf, columnNamed, cellAt}
 use Rattle.rules.specs.Rules.{isAccepted}
 use Rattle.fee.specs.Sums.{listTo}
 
@@ -33,7 +33,7 @@ isGiven (some cell) = not (is cell "null")
 
 -- a protein row with such a cell in column c
 unfoldable pub hasIn : ℕ → Bytes → Bool
-hasIn c l = coded (rowCode mzTab PROTEIN) l && isGiven (columnOf l c)
+hasIn c l = coded (rowCode mzTab PROTEIN) l && isGiven (cellAt l c)
 
 -- THE WEIGHT of study variable i: the protein rows whose cell under its column is not `null`; none where the header has no such column
 unfoldable pub weightOf : Bytes → ℕ → ℕ

@@ -19,7 +19,7 @@ ghost use lib.ListN.{length, getD};
 ghost use Rattle.text.specs.Lines.{LIMIT as limit, lines, cells};
 ghost use Rattle.rows.specs.Rows.{headerOf};
 ghost use Rattle.weights.specs.Weights.{PROTEIN as protein, refusal, outcome, weighed};
-ghost use Rattle.weights.specs.Marks.{variableOf, Good, Marked, withCell, adds, marks as marked, lineAdds, linesAdd, Room, Adds};
+ghost use Rattle.weights.specs.Marks.{variableOf, IsMarks, Marked, withCell, adds, marks as marked, lineAdds, linesAdd, Room, Raises};
 
 // How many study variables there are: a weight stands for each.
 pub const VARIABLES: usize = 64;
@@ -102,9 +102,9 @@ fn count_cell(weights: &mut [u32], mark: u8, cell: &[u8])
 
 // The cells of a protein row, no further than marks go.
 fn count_row(weights: &mut [u32], line: &[u8], marks: &[u8; 256], width: usize)
-    requires { ⌜ Good (now marks) width ⌝ }
+    requires { ⌜ IsMarks (now marks) width ⌝ }
     requires { ⌜ Room (λ i. adds (marked (now marks) i) 0 (cells (now line))) (now weights) ⌝ }
-    ensures { λ _. ⌜ Adds (λ i. adds (marked (now (marks .entry)) i) 0 (cells (now (line .entry)))) (now (weights .entry)) (now (weights .exit)) ⌝ }
+    ensures { λ _. ⌜ Raises (λ i. adds (marked (now (marks .entry)) i) 0 (cells (now (line .entry)))) (now (weights .entry)) (now (weights .exit)) ⌝ }
 {
     let mut at = 0;
     let mut k = 0;
@@ -121,9 +121,9 @@ fn count_row(weights: &mut [u32], line: &[u8], marks: &[u8; 256], width: usize)
 
 // A line counts where it is a protein row.
 fn count_line(weights: &mut [u32], line: &[u8], marks: &[u8; 256], width: usize)
-    requires { ⌜ Good (now marks) width ⌝ }
+    requires { ⌜ IsMarks (now marks) width ⌝ }
     requires { ⌜ Room (λ i. lineAdds (now marks) i (now line)) (now weights) ⌝ }
-    ensures { λ _. ⌜ Adds (λ i. lineAdds (now (marks .entry)) i (now (line .entry))) (now (weights .entry)) (now (weights .exit)) ⌝ }
+    ensures { λ _. ⌜ Raises (λ i. lineAdds (now (marks .entry)) i (now (line .entry))) (now (weights .entry)) (now (weights .exit)) ⌝ }
 {
     if has_code(line, b"PRT") {
         count_row(weights, line, marks, width);
@@ -132,9 +132,9 @@ fn count_line(weights: &mut [u32], line: &[u8], marks: &[u8; 256], width: usize)
 
 // All lines of the file, one after the other.
 fn count_lines(weights: &mut [u32], file: &[u8], marks: &[u8; 256], width: usize)
-    requires { ⌜ Good (now marks) width ⌝ }
+    requires { ⌜ IsMarks (now marks) width ⌝ }
     requires { ⌜ Room (λ i. linesAdd (now marks) i (lines (now file))) (now weights) ⌝ }
-    ensures { λ _. ⌜ Adds (λ i. linesAdd (now (marks .entry)) i (lines (now (file .entry)))) (now (weights .entry)) (now (weights .exit)) ⌝ }
+    ensures { λ _. ⌜ Raises (λ i. linesAdd (now (marks .entry)) i (lines (now (file .entry)))) (now (weights .entry)) (now (weights .exit)) ⌝ }
 {
     let mut at = 0;
     while at < file.len() {

@@ -4,7 +4,7 @@ use mathlib.Core.Path.{_≡_, refl}
 use mathlib.Core.Bool.{true}
 use Rattle.text_bytes.specs.Bytes.{Bytes, bytes, all}
 use Rattle.book_names.specs.Names.{piecesFrom, entryOf}
-use Rattle.book_names.proofs.Laws.Apart.{apart, apartFrom, allApart}
+use Rattle.book_names.proofs.Laws.Distinct.{apart, apartFrom, allApart}
 use Rattle.book.specs.Keys.{keys}
 use Rattle.book.specs.Columns.{proteinColumns, peptideColumns, psmColumns, moleculeColumns}
 use Rattle.book.specs.Book.{keyEntries, columnEntries, mzTab}

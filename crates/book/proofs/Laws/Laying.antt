@@ -22,7 +22,7 @@ use Rattle.book_names.proofs.Laws.Linking.{entry-count, linked-part}
 use Rattle.book.specs.Keys.{keys}
 use Rattle.book.specs.Columns.{proteinColumns, peptideColumns, psmColumns, moleculeColumns, proteinRequired, peptideRequired, psmRequired, moleculeRequired}
 use Rattle.book.specs.Book.{Section, Demand, noDemand, demands, noSection, codeIn, entriesOf, keyEntries, mzTab, hasForm}
-use Rattle.book.specs.Text.{DIRECTORY, ROWS, WANTED, STARTS, LINKS, numberAt, rowsAt, wantedAt, linksAt, rowsOf, wantedOf, startsAt, codeAt, IsDirectory, Holds, Wants, Starts, bookIn, IsBook, padded, laid, tabbed, tablesOf, allRows, allWanted, allStarts, entriesFrom, directoryOf, directoryText, laidOut, CODES, STEP, entryFor, SIZE, demandAt, Demands, demandRows}
+use Rattle.book.specs.Text.{DIRECTORY, ROWS, WANTED, FRONT, LINKS, numberAt, rowsAt, wantedAt, linksAt, rowsOf, wantedOf, startsAt, codeAt, IsDirectory, Holds, Wants, Starts, bookIn, IsBook, padded, laid, tabbed, tablesOf, allRows, allWanted, allStarts, entriesFrom, directoryOf, directoryText, laidOut, CODES, STEP, entryFor, SIZE, demandAt, Demands, demandRows}
 use Rattle.book.proofs.Laws.Starting.{number-behind, starts-read, starts-length}
 use Rattle.book.proofs.Laws.Demanded.{RowAt, row-behind, rows-read}
 
@@ -58,18 +58,18 @@ tableOf k = getD (tablesOf mzTab) k noSection
 record Table (k : ℕ) : Type 0 where
   lines : entries (rowsOf laidOut k) ≡ entriesOf ((tableOf k) .columns)
   rows-start : rowsAt laidOut k ≤ rowsAt laidOut (k + 1)
-  rows-end : rowsAt laidOut (k + 1) ≤ STARTS
+  rows-end : rowsAt laidOut (k + 1) ≤ FRONT
   few : (rowsAt laidOut (k + 1) - rowsAt laidOut k) / 54 < 256
-  behind : STARTS ≤ linksAt laidOut k
+  behind : FRONT ≤ linksAt laidOut k
   room : linksAt laidOut k + 256 + (rowsAt laidOut (k + 1) - rowsAt laidOut k) / 54 ≤ linksAt laidOut (k + 1)
   links-end : linksAt laidOut (k + 1) ≤ LINKS
   wanted-start : wantedAt laidOut k ≤ wantedAt laidOut (k + 1)
-  wanted-end : wantedAt laidOut (k + 1) ≤ STARTS
+  wanted-end : wantedAt laidOut (k + 1) ≤ FRONT
 
-tested : (k : ℕ) → entries (rowsOf laidOut k) ≡ entriesOf ((tableOf k) .columns) → leb (rowsAt laidOut k) (rowsAt laidOut (k + 1)) ≡ true → leb (rowsAt laidOut (k + 1)) STARTS ≡ true
-    → ltb ((rowsAt laidOut (k + 1) - rowsAt laidOut k) / 54) 256 ≡ true → leb STARTS (linksAt laidOut k) ≡ true
+tested : (k : ℕ) → entries (rowsOf laidOut k) ≡ entriesOf ((tableOf k) .columns) → leb (rowsAt laidOut k) (rowsAt laidOut (k + 1)) ≡ true → leb (rowsAt laidOut (k + 1)) FRONT ≡ true
+    → ltb ((rowsAt laidOut (k + 1) - rowsAt laidOut k) / 54) 256 ≡ true → leb FRONT (linksAt laidOut k) ≡ true
     → leb (linksAt laidOut k + 256 + (rowsAt laidOut (k + 1) - rowsAt laidOut k) / 54) (linksAt laidOut (k + 1)) ≡ true → leb (linksAt laidOut (k + 1)) LINKS ≡ true
-    → leb (wantedAt laidOut k) (wantedAt laidOut (k + 1)) ≡ true → leb (wantedAt laidOut (k + 1)) STARTS ≡ true → Table k
+    → leb (wantedAt laidOut k) (wantedAt laidOut (k + 1)) ≡ true → leb (wantedAt laidOut (k + 1)) FRONT ≡ true → Table k
 tested k l a b c d e f g h =
     record {
       lines = l;
@@ -100,7 +100,7 @@ required = four (λ j. cells (wantedOf laidOut (suc j)) ≡ map bytes ((getD (mz
 
 -- the demands stand behind the entries of the tables
 tops : Bytes
-tops = mzTab .first ∷ length (mzTab .sections) ∷ entriesFrom (length (mzTab .demands)) DIRECTORY ROWS STARTS (tablesOf mzTab)
+tops = mzTab .first ∷ length (mzTab .sections) ∷ entriesFrom (length (mzTab .demands)) DIRECTORY ROWS FRONT (tablesOf mzTab)
 
 rest : Bytes
 rest = allRows (tablesOf mzTab) ++ (allWanted (tablesOf mzTab) ++ allStarts mzTab)
@@ -109,7 +109,7 @@ laid-tops : laidOut ≡ tops ++ (demandRows (mzTab .keys) (mzTab .demands) ++ re
 unfolding laidOut directoryText directoryOf tops rest
 laid-tops =
     ap (λ (l : Bytes). mzTab .first ∷ length (mzTab .sections) ∷ l)
-    (append-assoc (entriesFrom (length (mzTab .demands)) DIRECTORY ROWS STARTS (tablesOf mzTab)) (demandRows (mzTab .keys) (mzTab .demands)) rest)
+    (append-assoc (entriesFrom (length (mzTab .demands)) DIRECTORY ROWS FRONT (tablesOf mzTab)) (demandRows (mzTab .keys) (mzTab .demands)) rest)
 
 tops-size : length tops ≡ 74
 unfolding tops mzTab demands entriesFrom tabbed bytes keys proteinColumns peptideColumns psmColumns moleculeColumns proteinRequired peptideRequired psmRequired moleculeRequired
@@ -152,7 +152,7 @@ laid-before : laidOut ≡ before ++ startsText
 unfolding laidOut before
 laid-before = simp append-assoc
 
-laid-size : length laidOut ≡ STARTS
+laid-size : length laidOut ≡ FRONT
 laid-size = ap length laid-before ∙ omega (arith, length-append before startsText, before-size, starts-size)
 
 sections : getD laidOut 1 0 ≡ 4
@@ -182,7 +182,7 @@ start-laid e h =
     ∙ starts-read (keyEntries mzTab) 0 e (omega (arith, key-count))
     ∙ omega arith
 
-code-end : (row : Bool) (j : ℕ) → j < length (mzTab .sections) → codeAt row j + 3 ≤ STARTS
+code-end : (row : Bool) (j : ℕ) → j < length (mzTab .sections) → codeAt row j + 3 ≤ FRONT
 unfolding mzTab
 code-end true j h = omega arith
 code-end false j h = omega arith
@@ -190,29 +190,29 @@ code-end false j h = omega arith
 -- the four parts laid one after the other are the front
 pub front-laid : (head lines names slots t1 t2 t3 t4 : Bytes) → head ≡ directoryText → lines ≡ allRows (tablesOf mzTab) → names ≡ allWanted (tablesOf mzTab) → slots ≡ allStarts mzTab
     → take (0 + length head) t1 ≡ head → take (DIRECTORY + length lines) t2 ≡ take DIRECTORY t1 ++ lines → take (ROWS + length names) t3 ≡ take ROWS t2 ++ names
-    → take (WANTED + length slots) t4 ≡ take WANTED t3 ++ slots → take STARTS t4 ≡ laidOut
+    → take (WANTED + length slots) t4 ≡ take WANTED t3 ++ slots → take FRONT t4 ≡ laidOut
 unfolding laidOut
 front-laid head lines names slots t1 t2 t3 t4 h r w s a b c d =
     let x : 0 + length head ≡ DIRECTORY = omega (arith, ap length h, front-sizes .0) in
     let y : DIRECTORY + length lines ≡ ROWS = omega (arith, ap length r, front-sizes .1) in
     let z : ROWS + length names ≡ WANTED = omega (arith, ap length w, front-sizes .2) in
-    let u : WANTED + length slots ≡ STARTS = omega (arith, ap length s, starts-size) in
+    let u : WANTED + length slots ≡ FRONT = omega (arith, ap length s, starts-size) in
     let a′ : take DIRECTORY t1 ≡ head = ap (λ (n : ℕ). take n t1) (sym x) ∙ a in
     let b′ : take ROWS t2 ≡ head ++ lines = ap (λ (n : ℕ). take n t2) (sym y) ∙ b ∙ ap (λ (l : Bytes). l ++ lines) a′ in
     let c′ : take WANTED t3 ≡ (head ++ lines) ++ names = ap (λ (n : ℕ). take n t3) (sym z) ∙ c ∙ ap (λ (l : Bytes). l ++ names) b′ in
     ap (λ (n : ℕ). take n t4) (sym u) ∙ d ∙ ap (λ (l : Bytes). l ++ slots) c′ ∙ append-assoc (head ++ lines) names slots ∙ append-assoc head lines (names ++ slots) ∙ rw (h, r, w, s)
 
 -- A TEXT THAT BEGINS SO has the same bytes, numbers and parts there
-module _ (t : Bytes) (begins : take STARTS t ≡ laidOut) where
-  byte-same : (i : ℕ) → i < STARTS → getD t i 0 ≡ getD laidOut i 0
-  byte-same i h = sym (getD-take STARTS t i 0 h) ∙ ap (λ (l : Bytes). getD l i 0) begins
+module _ (t : Bytes) (begins : take FRONT t ≡ laidOut) where
+  byte-same : (i : ℕ) → i < FRONT → getD t i 0 ≡ getD laidOut i 0
+  byte-same i h = sym (getD-take FRONT t i 0 h) ∙ ap (λ (l : Bytes). getD l i 0) begins
 
-  number-same : (i : ℕ) → i + 1 < STARTS → numberAt t i ≡ numberAt laidOut i
+  number-same : (i : ℕ) → i + 1 < FRONT → numberAt t i ≡ numberAt laidOut i
   number-same i h = omega (arith, byte-same i (omega arith), byte-same (i + 1) h)
 
-  part-same : (a a′ e e′ : ℕ) → a ≡ a′ → e ≡ e′ → e′ ≤ STARTS → part a e t ≡ part a′ e′ laidOut
+  part-same : (a a′ e e′ : ℕ) → a ≡ a′ → e ≡ e′ → e′ ≤ FRONT → part a e t ≡ part a′ e′ laidOut
   part-same a a′ e e′ p q h =
-      rw (p, q) (sym (drop-take t a′ e′) ∙ ap (drop a′) (sym (take-take e′ STARTS t h) ∙ ap (take e′) begins) ∙ drop-take laidOut a′ e′)
+      rw (p, q) (sym (drop-take t a′ e′) ∙ ap (drop a′) (sym (take-take e′ FRONT t h) ∙ ap (take e′) begins) ∙ drop-take laidOut a′ e′)
 
   rows-at : (k : ℕ) → k < 6 → rowsAt t k ≡ rowsAt laidOut k
   rows-at k h = number-same (8 + 12 * k) (omega arith)
@@ -226,7 +226,7 @@ module _ (t : Bytes) (begins : take STARTS t ≡ laidOut) where
   rows-same : (k : ℕ) → k < 5 → rowsOf t k ≡ rowsOf laidOut k
   rows-same k h = part-same _ _ _ _ (rows-at k (omega arith)) (rows-at (k + 1) (omega arith)) (table k h .rows-end)
 
-  directory-same : STARTS ≤ length t → IsDirectory mzTab t
+  directory-same : FRONT ≤ length t → IsDirectory mzTab t
   directory-same l =
       record {
         first = byte-same 0 (omega arith) ∙ directory .first;
@@ -235,7 +235,7 @@ module _ (t : Bytes) (begins : take STARTS t ≡ laidOut) where
         codes = λ row j h. part-same _ _ _ _ refl refl (code-end row j h) ∙ directory .codes row j h;
       }
 
-  wants : (j : ℕ) → j < 4 → STARTS ≤ length t → Wants t (suc j) ((getD (mzTab .sections) j noSection) .required)
+  wants : (j : ℕ) → j < 4 → FRONT ≤ length t → Wants t (suc j) ((getD (mzTab .sections) j noSection) .required)
   wants j h l =
       let a = wanted-at (suc j) (omega arith) in
       let e = wanted-at (suc j + 1) (omega arith) in
@@ -249,7 +249,7 @@ module _ (t : Bytes) (begins : take STARTS t ≡ laidOut) where
   starts-at : startsAt t ≡ WANTED
   starts-at = ap (λ (n : ℕ). wantedAt t (n + 1)) (byte-same 1 (omega arith) ∙ sections) ∙ wanted-at 5 (omega arith) ∙ starts-place
 
-  starts-same : STARTS ≤ length t → Starts t (keyEntries mzTab)
+  starts-same : FRONT ≤ length t → Starts t (keyEntries mzTab)
   starts-same l =
       record {
         ends = omega (arith, starts-at, key-count);
@@ -259,7 +259,7 @@ module _ (t : Bytes) (begins : take STARTS t ≡ laidOut) where
   demand-at : (k : ℕ) → demandAt t k ≡ 74 + SIZE * k
   demand-at k = ap (λ (n : ℕ). CODES + STEP * (n + 1) + SIZE * k) (byte-same 1 (omega arith) ∙ sections)
 
-  demands-same : STARTS ≤ length t → Demands t mzTab
+  demands-same : FRONT ≤ length t → Demands t mzTab
   demands-same l =
       record {
         many = ap (λ (n : ℕ). getD t (CODES + STEP * n) 0) (byte-same 1 (omega arith) ∙ sections) ∙ byte-same 62 (omega arith) ∙ demand-count .1 ∙ sym (demand-count .0);
@@ -284,7 +284,7 @@ pub record TableAt (front : Bytes) (k from to at : ℕ) : Type 0 where
   pub behind : at ≡ linksAt laidOut k
   pub lines : part from to front ≡ rowsOf laidOut k
 
-pub table-at : (front : Bytes) (k from to at : ℕ) → k < 5 → length front ≡ LINKS → take STARTS front ≡ laidOut → from ≡ rowsAt front k → to ≡ rowsAt front (k + 1) → at ≡ linksAt front k
+pub table-at : (front : Bytes) (k from to at : ℕ) → k < 5 → length front ≡ LINKS → take FRONT front ≡ laidOut → from ≡ rowsAt front k → to ≡ rowsAt front (k + 1) → at ≡ linksAt front k
     → TableAt front k from to at
 table-at front k from to at h long b f t a =
     let p = f ∙ rows-at front b k (omega arith) in
@@ -305,10 +305,10 @@ table-at front k from to at h long b f t a =
 -- THE LINKS of the first k tables are written
 pub record Midway (t : Bytes) (k : ℕ) : Type 0 where
   pub long : length t ≡ LINKS
-  pub begins : take STARTS t ≡ laidOut
+  pub begins : take FRONT t ≡ laidOut
   pub done : (j : ℕ) → j < k → (linksAt laidOut (j + 1) ≤ linksAt laidOut k) × Linked 0 (entries (rowsOf laidOut j)) (part (linksAt laidOut j) (linksAt laidOut (j + 1)) t)
 
-pub midway-start : (t : Bytes) → length t ≡ LINKS → take STARTS t ≡ laidOut → Midway t 0
+pub midway-start : (t : Bytes) → length t ≡ LINKS → take FRONT t ≡ laidOut → Midway t 0
 midway-start t l b = record { long = l; begins = b; done = below-none _ }
 
 fewer : (n m : ℕ) (b b′ : Bytes) → take n b′ ≡ take n b → m ≤ n → take m b′ ≡ take m b
@@ -330,7 +330,7 @@ module _ (front t t′ : Bytes) (k from to at : ℕ) (m : Midway t k) (x : Table
       let y = table k (x .below) in
       record {
         long = l .long ∙ m .long;
-        begins = fewer at STARTS t t′ (l .kept) (omega (arith, x .behind, y .behind)) ∙ m .begins;
+        begins = fewer at FRONT t t′ (l .kept) (omega (arith, x .behind, y .behind)) ∙ m .begins;
         done =
             below-more _ k
             (λ j h. let d = m .done j h in (omega (arith, d .0, y .room), rw (kept _ (linksAt laidOut (j + 1)) t t′ (fewer at (linksAt laidOut (j + 1)) t t′ (l .kept) (omega (arith, x .behind, d .0)))) (d .1)))

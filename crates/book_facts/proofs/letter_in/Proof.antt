@@ -6,7 +6,7 @@ use mathlib.Core.Path.{_≡_, sym, _∙_}
 use lib.ListN.{getD, List·getD-eq-default}
 use Rattle.text_bytes.specs.Bytes.{same}
 use Rattle.book_kinds.specs.Kinds.{ofKind}
-use Rattle.book_facts.proofs.Laws.Noting.{letter-key, letter-kind, letter-both}
+use Rattle.book_facts.proofs.Laws.Surveying.{letter-key, letter-kind, letter-both}
 use Rattle.book_facts.proofs.letter_in.Statement.{statement}
 use Rattle.book_facts.proofs.letter_in.Tie as tie
 

@@ -12,7 +12,7 @@ returns c =
     let v = m .before in
     let u = v .before .before in
     let s = u .before .before in
-    rw (c .sooner-line .ensures, t .sooner-letter2 .ensures, m .sooner-letter .ensures, v .line-with .ensures, u .letter-in2 .ensures, s .letter-in .ensures)
+    rw (c .earlier-line .ensures, t .earlier-letter2 .ensures, m .earlier-letter .ensures, v .line-with .ensures, u .letter-in2 .ensures, s .letter-in .ensures)
 
 pub note-field-spec : {M : Type 1} → statement M
 note-field-spec =

@@ -10,8 +10,8 @@ use lib.ListN.{length, getD, getElem?}
 use Rattle.text_bytes.specs.Bytes.{Bytes, bytes, begins}
 use Rattle.text_bytes.specs.Places.{part}
 use Rattle.text.specs.Lines.{cells, cell}
-use Rattle.text.proofs.Laws.Parts.{found, missing}
-use Rattle.book_facts.proofs.Laws.Noting.{nth-some, nth-none, no-field, is-field, noted-none, noted-other, noted-field}
+use Rattle.text.proofs.Laws.CellParts.{found, missing}
+use Rattle.book_facts.proofs.Laws.Surveying.{nth-some, nth-none, no-field, is-field, noted-none, noted-other, noted-field}
 use Rattle.book_facts.proofs.note_line.Statement.{statement}
 use Rattle.book_facts.proofs.note_line.Tie as tie
 

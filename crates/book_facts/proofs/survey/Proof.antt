@@ -13,7 +13,7 @@ use Rattle.book.specs.Text.{bookIn}
 use Rattle.book_ids.specs.Ids.{Flags, lineId}
 use Rattle.book_ids.proofs.Laws.Marks.{Left as IdsLeft, start-flags, left-start as ids-start, left-next as ids-next, left-done as ids-done, marked-flags, line-range}
 use Rattle.book_facts.specs.declared.Facts.{Facts}
-use Rattle.book_facts.proofs.Laws.Noting.{Left, left-start, left-next, left-done}
+use Rattle.book_facts.proofs.Laws.Surveying.{Left, left-start, left-next, left-done}
 use Rattle.book_facts.proofs.survey.Statement.{statement}
 use Rattle.book_facts.proofs.survey.Tie as tie
 

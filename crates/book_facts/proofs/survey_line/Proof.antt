@@ -5,7 +5,7 @@ use mathlib.Core.Path.{_≡_, sym, ap, _∙_}
 use Rattle.text_bytes.specs.Bytes.{bytes}
 use Rattle.book_ids.specs.Ids.{marked}
 use Rattle.book_ids.proofs.Laws.Marks.{line-other}
-use Rattle.book_facts.proofs.Laws.Noting.{other-code, noted-none}
+use Rattle.book_facts.proofs.Laws.Surveying.{other-code, noted-none}
 use Rattle.book_facts.proofs.survey_line.Statement.{statement}
 use Rattle.book_facts.proofs.survey_line.Tie as tie
 

@@ -14,7 +14,7 @@ use Rattle.value_references.specs.declared.index.Index.{Index}
 use Rattle.value_references.specs.declared.index.Index.the-variants.{Not, Bad, Is}
 use Rattle.value_references.specs.References.{families, family}
 use Rattle.value_references.proofs.Laws.Indices.{index-read, index-written}
-use Rattle.book_ids.specs.Ids.{valueOf, indexAfter, idIn, idOf}
+use Rattle.book_ids.specs.Ids.{indexIn, indexAfter, idIn, idOf}
 use Rattle.book_ids.specs.declared.Id.{Id}
 use Rattle.book_ids.specs.declared.Id.the-variants.{Nothing, Of}
 use Rattle.text_bytes.proofs.Laws.Tests.{absurd-bool, and-both}
@@ -55,16 +55,16 @@ module _ (w s : List ℕ) where
   unfolding indexAfter
   after-none h = rw h
 
-  pub after-some : begins w s ≡ true → indexAfter w s ≡ valueOf (indexAt (drop (length w) s))
+  pub after-some : begins w s ≡ true → indexAfter w s ≡ indexIn (indexAt (drop (length w) s))
   unfolding indexAfter
   after-some h = rw h
 
-value-read : (x : Index) (s : List ℕ) → indexAt s ≡ x → (valueOf x ≡ 0 → ⊥) → indexAt s ≡ Is (valueOf x) (length (written (valueOf x)))
+value-read : (x : Index) (s : List ℕ) → indexAt s ≡ x → (indexIn x ≡ 0 → ⊥) → indexAt s ≡ Is (indexIn x) (length (written (indexIn x)))
 value-read Not s e n = absurd (n refl)
 value-read (Bad z w) s e n = absurd (n refl)
 value-read (Is v w) s e n = e ∙ ap (Is v) (index-read s v w e .width)
 
-value-high : (x : Index) (s : List ℕ) → indexAt s ≡ x → valueOf x ≤ 64
+value-high : (x : Index) (s : List ℕ) → indexAt s ≡ x → indexIn x ≤ 64
 value-high Not s e = omega arith
 value-high (Bad z w) s e = omega arith
 value-high (Is v w) s e = index-read s v w e .high
@@ -77,19 +77,19 @@ after-high w s = go (begins w s) refl
     go false e = omega (arith, after-none w s e)
 
 -- an index as it is written stands at the front where it is read there
-written-read : (i : ℕ) (s : List ℕ) → 1 ≤ i → i ≤ 64 → begins (written i) s ≡ eqb (valueOf (indexAt s)) i
+written-read : (i : ℕ) (s : List ℕ) → 1 ≤ i → i ≤ 64 → begins (written i) s ≡ eqb (indexIn (indexAt s)) i
 written-read i s lo hi = go (begins (written i) s) refl
   where
-    go : (t : Bool) → begins (written i) s ≡ t → t ≡ eqb (valueOf (indexAt s)) i
+    go : (t : Bool) → begins (written i) s ≡ t → t ≡ eqb (indexIn (indexAt s)) i
     go true e =
         let r = drop (length (written i)) s in
         let q : indexAt s ≡ Is i (length (written i)) = ap indexAt (begins-is (written i) s e) ∙ index-written i r lo hi in
-        sym (eq-eqb (valueOf (indexAt s)) i (ap valueOf q))
+        sym (eq-eqb (indexIn (indexAt s)) i (ap indexIn q))
     go false e =
-        sym (ne-eqb (valueOf (indexAt s)) i (λ (x : valueOf (indexAt s) ≡ i).
-        let q = value-read (indexAt s) s refl (λ (z : valueOf (indexAt s) ≡ 0). omega arith) in
-        let t = index-read s (valueOf (indexAt s)) (length (written (valueOf (indexAt s)))) q .text in
-        let b : begins (written (valueOf (indexAt s))) s ≡ true = ap (begins (written (valueOf (indexAt s)))) t ∙ begins-self (written (valueOf (indexAt s))) _ in
+        sym (ne-eqb (indexIn (indexAt s)) i (λ (x : indexIn (indexAt s) ≡ i).
+        let q = value-read (indexAt s) s refl (λ (z : indexIn (indexAt s) ≡ 0). omega arith) in
+        let t = index-read s (indexIn (indexAt s)) (length (written (indexIn (indexAt s)))) q .text in
+        let b : begins (written (indexIn (indexAt s))) s ≡ true = ap (begins (written (indexIn (indexAt s)))) t ∙ begins-self (written (indexIn (indexAt s))) _ in
         absurd-bool (sym e ∙ subst (λ (v : ℕ). begins (written v) s ≡ true) x b)))
 
 pub id-begins : (w s : List ℕ) (i : ℕ) → 1 ≤ i → i ≤ 64 → begins (w ++ written i) s ≡ eqb (indexAfter w s) i

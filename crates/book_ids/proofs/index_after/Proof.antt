@@ -7,7 +7,7 @@ use Prim.Native.Nat.{ℕ, _-_, _≤_}
 use lib.ListN.{length, drop, take, length-drop}
 use lib.Seq.{take-all}
 use Rattle.value_references.specs.Index.{indexAt}
-use Rattle.book_ids.specs.Ids.{valueOf, indexAfter}
+use Rattle.book_ids.specs.Ids.{indexIn, indexAfter}
 use Rattle.text_bytes.proofs.Laws.Begins.{begins-within}
 use Rattle.book_ids.proofs.Laws.Words.{after-none, after-some}
 use Rattle.book_ids.proofs.index_after.Statement.{statement}
@@ -24,23 +24,23 @@ within : (c : tie.Then1) → length (word (c .before)) ≤ length (name (c .befo
 within c = begins-within (word (c .before)) (name (c .before)) (sym (c .before .begins-with .ensures) ∙ c .if1 .taken)
 
 -- what was read after it
-reading : (c : tie.After-read-index) → let b = c .before .before .before in indexAfter (word b) (name b) ≡ valueOf (c .read-index .result)
+reading : (c : tie.After-read-index) → let b = c .before .before .before in indexAfter (word b) (name b) ≡ indexIn (c .read-index .result)
 reading c =
     let t = c .before .before in
     let b = t .before in
     let s = name b in
     let a = length (word b) in
     let e : take (length s - a) (drop a s) ≡ drop a s = take-all (length s - a) (drop a s) (omega (arith, length-drop a s)) in
-    after-some (word b) s (sym (b .begins-with .ensures) ∙ t .if1 .taken) ∙ ap valueOf (sym (c .read-index .ensures ∙ ap indexAt e))
+    after-some (word b) s (sym (b .begins-with .ensures) ∙ t .if1 .taken) ∙ ap indexIn (sym (c .read-index .ensures ∙ ap indexAt e))
 
 returns : tie.Need-returns
-returns c = sym (reading (c .before .before) ∙ ap valueOf (c .enum-told .given .1))
+returns c = sym (reading (c .before .before) ∙ ap indexIn (c .enum-told .given .1))
 
 returns-2 : tie.Need-returns-2
-returns-2 c = sym (reading (c .before .before) ∙ ap valueOf (c .enum-told2 .given .1))
+returns-2 c = sym (reading (c .before .before) ∙ ap indexIn (c .enum-told2 .given .1))
 
 returns-3 : tie.Need-returns-3
-returns-3 c = sym (reading (c .before .before .before) ∙ ap valueOf (c .before .v .given .1))
+returns-3 c = sym (reading (c .before .before .before) ∙ ap indexIn (c .before .v .given .1))
 
 returns-4 : tie.Need-returns-4
 returns-4 c = let b = c .before in sym (after-none (word b) (name b) (sym (b .begins-with .ensures) ∙ c .if1 .left))

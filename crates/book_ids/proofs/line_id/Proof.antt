@@ -10,7 +10,7 @@ use borrow.Author.Tests.{not-true, not-false}
 use Rattle.text_bytes.specs.Bytes.{bytes}
 use Rattle.text_bytes.specs.Places.{part}
 use Rattle.text.specs.Lines.{cells}
-use Rattle.text.proofs.Laws.Parts.{found, missing}
+use Rattle.text.proofs.Laws.CellParts.{found, missing}
 use Rattle.book_ids.specs.Ids.{keyId}
 use Rattle.book_ids.proofs.Laws.Marks.{line-other, line-cells, line-key, second-none, second-some}
 use Rattle.book_ids.proofs.line_id.Statement.{statement}

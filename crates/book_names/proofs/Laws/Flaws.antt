@@ -11,7 +11,7 @@ use Rattle.value_references.specs.declared.index.Flaw.{Flaw}
 use Rattle.value_references.specs.declared.index.Flaw.the-variants.{Form, Zero, Over}
 use Rattle.value_references.proofs.Laws.Indices.{Holds, index-holds}
 use Rattle.book_names.specs.Names.{missing, onIndex, sooner, misses, onMatch}
-use Rattle.book_names.specs.Steps.{widthIn, takenIn, flawIn, Place, marked, flawOf}
+use Rattle.book_names.specs.Steps.{widthIn, takenIn, flawIn, Place, flawed, flawOf}
 use Rattle.book_names.specs.declared.Match.{Match}
 use Rattle.book_names.specs.declared.Match.the-variants.{Differs, Misses, Fits}
 use Rattle.book_names.specs.declared.Found.{Found}
@@ -23,7 +23,7 @@ sooner-none Zero = refl
 sooner-none Over = refl
 
 -- A NAME with a flaw in front of its rest
-pub marked-differs : (z : Flaw) → marked z Differs ≡ Differs
+pub marked-differs : (z : Flaw) → flawed z Differs ≡ Differs
 marked-differs Form = refl
 marked-differs Zero = refl
 marked-differs Over = refl
@@ -33,25 +33,25 @@ missing-again f z Differs = refl
 missing-again f z (Misses w) = refl
 missing-again f z (Fits i j) = refl
 
-missing-marked : (f z : Flaw) (m : Match) → missing f (marked z m) ≡ missing f m
+missing-marked : (f z : Flaw) (m : Match) → missing f (flawed z m) ≡ missing f m
 missing-marked f Form m = refl
 missing-marked f Zero m = missing-again f Zero m
 missing-marked f Over m = missing-again f Over m
 
-pub marked-again : (f z : Flaw) (m : Match) → marked f (marked z m) ≡ marked (sooner f z) m
+pub marked-again : (f z : Flaw) (m : Match) → flawed f (flawed z m) ≡ flawed (sooner f z) m
 marked-again Form z m = refl
 marked-again Zero z m = missing-marked Zero z m
 marked-again Over z m = missing-marked Over z m
 
 -- one turn more of a name whose flaw so far is f: it differs, or the flaw z comes after
-module _ (f : Flaw) {x m : Match} (so : x ≡ marked f m) where
+module _ (f : Flaw) {x m : Match} (so : x ≡ flawed f m) where
   pub turn-differs : m ≡ Differs → x ≡ Differs
-  turn-differs e = so ∙ ap (marked f) e ∙ marked-differs f
+  turn-differs e = so ∙ ap (flawed f) e ∙ marked-differs f
 
-  pub turn-flaw : (z g : Flaw) (n : Match) → m ≡ marked z n → g ≡ sooner f z → x ≡ marked g n
-  turn-flaw z g n e h = so ∙ ap (marked f) e ∙ rw h (marked-again f z n)
+  pub turn-flaw : (z g : Flaw) (n : Match) → m ≡ flawed z n → g ≡ sooner f z → x ≡ flawed g n
+  turn-flaw z g n e h = so ∙ ap (flawed f) e ∙ rw h (marked-again f z n)
 
-missing-is : (z : Flaw) (m : Match) → (z ≡ Form → ⊥) → missing z m ≡ marked z m
+missing-is : (z : Flaw) (m : Match) → (z ≡ Form → ⊥) → missing z m ≡ flawed z m
 missing-is Form m h = absurd (h refl)
 missing-is Zero m h = refl
 missing-is Over m h = refl
@@ -67,11 +67,11 @@ module _ (s : List ℕ) (v w : ℕ) (z : Flaw) (p : Place s v w z) (f : ℕ → 
       go (Bad z w) h e = absurd (omega (arith, h .0 .some))
       go (Is v w) h e = absurd (omega (arith, h .0 .some))
 
-  pub on-some : (w ≡ 0 → ⊥) → onIndex (indexAt s) f ≡ marked z (f v w)
+  pub on-some : (w ≡ 0 → ⊥) → onIndex (indexAt s) f ≡ flawed z (f v w)
   unfolding Holds
   on-some n = rw (p .width, p .taken, p .flaw) (go (indexAt s) (index-holds s (indexAt s) refl) (λ (e : widthIn (indexAt s) ≡ 0). n (p .width ∙ e)))
     where
-      go : (x : Index) → Holds s x → (widthIn x ≡ 0 → ⊥) → onIndex x f ≡ marked (flawIn x) (f (takenIn x) (widthIn x))
+      go : (x : Index) → Holds s x → (widthIn x ≡ 0 → ⊥) → onIndex x f ≡ flawed (flawIn x) (f (takenIn x) (widthIn x))
       go Not h n = absurd (n refl)
       go (Bad z w) h n = missing-is z (f 1 w) (h .1)
       go (Is v w) h n = refl

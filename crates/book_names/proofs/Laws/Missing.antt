@@ -19,7 +19,7 @@ use Rattle.value_references.specs.declared.index.Flaw.{Flaw}
 use Rattle.value_references.specs.declared.index.Flaw.the-variants.{Form, Zero, Over}
 use Rattle.value_references.proofs.Laws.Indices.{Bracket, index-read, index-zero, index-over, index-is}
 use Rattle.book_names.specs.Names.{Piece, byte, place, Entry, kindOf, familyOf, formOf, sooner, misses, onMatch, fits, firstOf}
-use Rattle.book_names.specs.Steps.{widthIn, takenIn, flawIn, Place, marked, flawOf}
+use Rattle.book_names.specs.Steps.{widthIn, takenIn, flawIn, Place, flawed, flawOf}
 use Rattle.book_names.specs.declared.Match.{Match}
 use Rattle.book_names.specs.declared.Match.the-variants.{Differs, Misses, Fits}
 use Rattle.book_names.specs.declared.Found.{Found}
@@ -173,7 +173,7 @@ room (suc n) = 0
 
 -- it fits but for the flaw
 Fit : List Piece → List ℕ → ℕ → ℕ → Flaw → Type 0
-Fit ps s i j z = (a : ℕ) × (b : ℕ) × (fits ps s i j ≡ marked z (Fits a b))
+Fit ps s i j z = (a : ℕ) × (b : ℕ) × (fits ps s i j ≡ flawed z (Fits a b))
 
 room-read : (v : ℕ) → 1 ≤ v → room v ≡ 0
 unfolding room
@@ -188,8 +188,8 @@ fit-place ps d r i j z h t o rest =
     let k = go i j o rest in (
       k .0,
       k .1,
-      place-fits ps s i j ∙ on-some s v w f (p .2) _ (λ (e : w ≡ 0). omega arith) ∙ ap (marked f) (k .2) ∙ marked-again f z (Fits (k .0) (k .1))
-          ∙ ap (λ (l : List ℕ). marked (sooner (digitsFlaw l) z) (Fits (k .0) (k .1))) (digits-closed d r t),
+      place-fits ps s i j ∙ on-some s v w f (p .2) _ (λ (e : w ≡ 0). omega arith) ∙ ap (flawed f) (k .2) ∙ marked-again f z (Fits (k .0) (k .1))
+          ∙ ap (λ (l : List ℕ). flawed (sooner (digitsFlaw l) z) (Fits (k .0) (k .1))) (digits-closed d r t),
     )
   where
     s : List ℕ
@@ -213,7 +213,7 @@ fit-place ps d r i j z h t o rest =
         ap (λ (n : ℕ). drop n s) e ∙ drop-append-add d (93 ∷ r) 1
 
     go : (i j : ℕ) → 1 ≤ room i + room j → ((a b : ℕ) → 1 + (room a + room b) ≡ room i + room j → Fit ps r a b z)
-        → (a : ℕ) × (b : ℕ) × (onPlace ps s i j v w ≡ marked z (Fits a b))
+        → (a : ℕ) × (b : ℕ) × (onPlace ps s i j v w ≡ flawed z (Fits a b))
     go zero j o rest =
         let k = rest v j (omega (arith, room-read v (p .1))) in
         (k .0, k .1, ap (λ (l : List ℕ). fits ps l v j) behind ∙ k .2)
@@ -234,7 +234,7 @@ fit-all (place ∷ ps) (d ∷ ds) i j c e h =
 
 -- THE LAW: a pattern with digits at its places fits, or misses for their first flaw
 pub spelled-fits : (ps : List Piece) (ds : List (List ℕ)) → holes ps ≤ 2 → length ds ≡ holes ps → Digits ds
-    → (a : ℕ) × (b : ℕ) × (fits ps (spelled ps ds) 0 0 ≡ marked (firstFlaw ds) (Fits a b))
+    → (a : ℕ) × (b : ℕ) × (fits ps (spelled ps ds) 0 0 ≡ flawed (firstFlaw ds) (Fits a b))
 unfolding Fit room
 spelled-fits ps ds h c e = fit-all ps ds 0 0 c e h
 

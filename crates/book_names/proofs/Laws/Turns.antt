@@ -14,7 +14,7 @@ use Rattle.value_references.specs.declared.index.Flaw.{Flaw}
 use Rattle.value_references.proofs.Laws.Indices.{index-unopened}
 use Rattle.text_bytes.proofs.Laws.Tests.{absurd-bool}
 use Rattle.book_names.specs.Names.{Piece, byte, place, pieces, piecesFrom, onIndex, fits}
-use Rattle.book_names.specs.Steps.{Place, marked, mayFit}
+use Rattle.book_names.specs.Steps.{Place, flawed, mayFit}
 use Rattle.book_names.specs.Links.{headOf}
 use Rattle.book_names.specs.declared.Match.{Match}
 use Rattle.book_names.specs.declared.Match.the-variants.{Differs, Fits}
@@ -108,13 +108,13 @@ module _ (p s : List ℕ) (a b i j : ℕ) where
     rest-none h = rw (at-place p a ha e) (place-fits _ (drop b s) i j ∙ on-none (drop b s) v w z r _ h)
 
     module _ (h : w ≡ 0 → ⊥) where
-      some : rest p s a b i j ≡ marked z (onPlace (pieces (drop (a + 3) p)) (drop b s) i j v w)
+      some : rest p s a b i j ≡ flawed z (onPlace (pieces (drop (a + 3) p)) (drop b s) i j v w)
       some = rw (at-place p a ha e) (place-fits _ (drop b s) i j ∙ on-some (drop b s) v w z r _ h)
 
-      pub rest-first : i ≡ 0 → rest p s a b i j ≡ marked z (rest p s (a + 3) (b + w) v j)
+      pub rest-first : i ≡ 0 → rest p s a b i j ≡ flawed z (rest p s (a + 3) (b + w) v j)
       rest-first hi = some ∙ rw (eq-eqb i 0 hi, drop-drop w b s)
 
-      pub rest-second : (i ≡ 0 → ⊥) → j ≡ 0 → rest p s a b i j ≡ marked z (rest p s (a + 3) (b + w) i v)
+      pub rest-second : (i ≡ 0 → ⊥) → j ≡ 0 → rest p s a b i j ≡ flawed z (rest p s (a + 3) (b + w) i v)
       rest-second hi hj = some ∙ rw (ne-eqb i 0 hi, eq-eqb j 0 hj, drop-drop w b s)
 
       pub rest-third : (i ≡ 0 → ⊥) → (j ≡ 0 → ⊥) → rest p s a b i j ≡ Differs

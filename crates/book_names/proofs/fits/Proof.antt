@@ -6,14 +6,14 @@ use mathlib.Core.List.{List}
 use Prim.Native.Nat.{ℕ, _+_, _-_, _≤_, _<_}
 use lib.ListN.{length, drop, length-drop}
 use Rattle.book_names.specs.Names.{pieces, fits as fitsIn}
-use Rattle.book_names.specs.Steps.{marked}
+use Rattle.book_names.specs.Steps.{flawed}
 use Rattle.book_names.proofs.Laws.Flaws.{turn-differs, turn-flaw, place-within}
 use Rattle.book_names.proofs.Laws.Turns.{rest, inside, rest-end, rest-space, rest-byte, rest-other, rest-none, rest-first, rest-second, rest-third}
 use Rattle.book_names.proofs.fits.Statement.{statement}
 use Rattle.book_names.proofs.fits.Tie as tie
 
 abbrev Inv-loop : tie.InvT-loop
-Inv-loop p from s a₀ b₀ i₀ j₀ flaw₀ a b i j flaw = (b ≤ length s) × (fitsIn (pieces (drop from p)) s 0 0 ≡ marked flaw (rest p s a b i j))
+Inv-loop p from s a₀ b₀ i₀ j₀ flaw₀ a b i j flaw = (b ≤ length s) × (fitsIn (pieces (drop from p)) s 0 0 ≡ flawed flaw (rest p s a b i j))
 
 abbrev μ-loop : tie.MeasureT-loop
 μ-loop p from s a₀ b₀ i₀ j₀ flaw₀ a b i j flaw = length p - a
@@ -37,7 +37,7 @@ returns : tie.Need-returns Inv-loop μ-loop
 returns c =
     let l = c .before .before .before .before in
     c .ended .ensures
-    ∙ sym (l .loop .inv .1 ∙ ap (marked (l .loop .flaw)) (rest-space (row l) (name l) (l .loop .a) (l .loop .b) (l .loop .i) (l .loop .j) (search needs) (c .before .if1 .taken)))
+    ∙ sym (l .loop .inv .1 ∙ ap (flawed (l .loop .flaw)) (rest-space (row l) (name l) (l .loop .a) (l .loop .b) (l .loop .i) (l .loop .j) (search needs) (c .before .if1 .taken)))
 
 returns-2 : tie.Need-returns-2 Inv-loop μ-loop
 returns-2 c =
@@ -94,14 +94,14 @@ loop-again-3 c =
     let o = c .before .before in
     let l = o .before .before .before .before in (
       omega (arith, stands c),
-      l .loop .inv .1 ∙ ap (marked (l .loop .flaw))
+      l .loop .inv .1 ∙ ap (flawed (l .loop .flaw))
           (rest-byte (row l) (name l) (l .loop .a) (l .loop .b) (l .loop .i) (l .loop .j) (search needs) (o .before .if1 .left) (o .if2 .left) (sym (c .before .byte-of .ensures) ∙ c .if6 .left)),
     )
 
 returns-5 : tie.Need-returns-5 Inv-loop μ-loop
 returns-5 c =
     let l = c .before .before in
-    c .ended2 .ensures ∙ sym (l .loop .inv .1 ∙ ap (marked (l .loop .flaw)) (rest-end (row l) (name l) (l .loop .a) (l .loop .b) (l .loop .i) (l .loop .j) (c .before .loop-test .left)))
+    c .ended2 .ensures ∙ sym (l .loop .inv .1 ∙ ap (flawed (l .loop .flaw)) (rest-end (row l) (name l) (l .loop .a) (l .loop .b) (l .loop .i) (l .loop .j) (c .before .loop-test .left)))
 
 pub fits-spec : {M : Type 1} → statement M
 fits-spec =

@@ -15,12 +15,12 @@ use Rattle.rules.specs.Breaks.{Break, breakAt}
 use Rattle.rules.specs.Rules.{breaksBy, breaks}
 use Rattle.scan.specs.Places.{Lent, lent, putAll}
 use Rattle.scan.proofs.Laws.Placing.{Holds, placed-at}
-use Rattle.judging.specs.Parts.{total, Parts}
+use Rattle.judging.specs.Parts.{putSoFar, Parts}
 use Rattle.judging.specs.declared.parts.Stand.{Stand}
 use Rattle.faults.specs.declared.Fault.{Fault}
 use Rattle.faults.specs.declared.steps.Progress.{Progress}
 use Rattle.faults.specs.Records.{faultOf}
-use Rattle.faults.specs.Steps.{recordAt, records, found, away}
+use Rattle.faults.specs.Steps.{recordAt, records, reported, away}
 use Rattle.book.specs.Book.{bookOf}
 
 -- A RUN OF STORES
@@ -80,13 +80,13 @@ records-put bs ys (suc t) i e h =
 -- WHAT IS REPORTED of a file, by the limit
 module _ (file : Bytes) where
   module _ (h : length file ≤ LIMIT) where
-    pub found-all : found file ≡ breaksBy (bookOf (lines file)) (lines file)
-    unfolding found breaks
+    pub found-all : reported file ≡ breaksBy (bookOf (lines file)) (lines file)
+    unfolding reported breaks
     found-all = rw (le-ltb LIMIT (length file) h)
 
   module _ (h : LIMIT < length file) where
-    pub found-none : found file ≡ []
-    unfolding found
+    pub found-none : reported file ≡ []
+    unfolding reported
     found-none = rw (lt-ltb LIMIT (length file) h)
 
 -- A STEP: the places hold the breaks of a part
@@ -94,18 +94,18 @@ module _ (file : Bytes) where
 module _ {file : Bytes} {room : ℕ} {s r : Stand} {ps ps' : List ℕ} (p : Parts (bookOf (lines file)) file room s r ps ps') (fits : 3 * r .held ≤ length ps) where
   -- the breaks of the part, and those after it
   abbrev now : List Break
-  now = take (r .held) (drop (total s) (breaksBy (bookOf (lines file)) (lines file)))
+  now = take (r .held) (drop (putSoFar s) (breaksBy (bookOf (lines file)) (lines file)))
 
   abbrev later : List Break
-  later = drop (total r) (breaksBy (bookOf (lines file)) (lines file))
+  later = drop (putSoFar r) (breaksBy (bookOf (lines file)) (lines file))
 
   as-many : length now ≡ r .held
-  as-many = length-take-le (r .held) (drop (total s) (breaksBy (bookOf (lines file)) (lines file))) (omega (arith, length-drop (total s) (breaksBy (bookOf (lines file)) (lines file)), p .most, p .before))
+  as-many = length-take-le (r .held) (drop (putSoFar s) (breaksBy (bookOf (lines file)) (lines file))) (omega (arith, length-drop (putSoFar s) (breaksBy (bookOf (lines file)) (lines file)), p .most, p .before))
 
-  cut : drop (total s) (breaksBy (bookOf (lines file)) (lines file)) ≡ now ++ later
+  cut : drop (putSoFar s) (breaksBy (bookOf (lines file)) (lines file)) ≡ now ++ later
   cut =
-      let z : total s + r .held ≡ total r = omega (arith, p .before) in
-      sym (take-append-drop (r .held) (drop (total s) (breaksBy (bookOf (lines file)) (lines file)))) ∙ ap (λ (xs : List Break). now ++ xs) (drop-drop (r .held) (total s) (breaksBy (bookOf (lines file)) (lines file)) ∙ ap (λ (n : ℕ). drop n (breaksBy (bookOf (lines file)) (lines file))) z)
+      let z : putSoFar s + r .held ≡ putSoFar r = omega (arith, p .before) in
+      sym (take-append-drop (r .held) (drop (putSoFar s) (breaksBy (bookOf (lines file)) (lines file)))) ∙ ap (λ (xs : List Break). now ++ xs) (drop-drop (r .held) (putSoFar s) (breaksBy (bookOf (lines file)) (lines file)) ∙ ap (λ (n : ℕ). drop n (breaksBy (bookOf (lines file)) (lines file))) z)
 
   read : records ps' 0 (r .held) ≡ map faultOf now
   read =
@@ -113,21 +113,21 @@ module _ {file : Bytes} {room : ℕ} {s r : Stand} {ps ps' : List ℕ} (p : Part
       ∙ records-put now ps (r .held) 0 (omega (arith, as-many)) (omega (arith, as-many))
 
   step-writes : (cap : ℕ) (ys : List Fault) → length ys ≡ cap
-      → sets ys (total s) (map faultOf (drop (total s) (breaksBy (bookOf (lines file)) (lines file))))
-      ≡ sets (sets ys (min (r .before) cap) (records ps' 0 (min (r .held) (cap - min (r .before) cap)))) (total r) (map faultOf (drop (total r) (breaksBy (bookOf (lines file)) (lines file))))
+      → sets ys (putSoFar s) (map faultOf (drop (putSoFar s) (breaksBy (bookOf (lines file)) (lines file))))
+      ≡ sets (sets ys (min (r .before) cap) (records ps' 0 (min (r .held) (cap - min (r .before) cap)))) (putSoFar r) (map faultOf (drop (putSoFar r) (breaksBy (bookOf (lines file)) (lines file))))
   step-writes cap ys e =
-      let T = total s in
+      let T = putSoFar s in
       let from = min (r .before) cap in
       let stored : sets ys from (records ps' 0 (min (r .held) (cap - from))) ≡ sets ys T (map faultOf now) =
       ap (sets ys from) (records-take ps' 0 (r .held) (cap - from) ∙ ap (take (cap - from)) read) ∙ sets-clip (map faultOf now) ys (r .before) cap e
       ∙ ap (λ (n : ℕ). sets ys n (map faultOf now)) (p .before) in
-      let z : T + length (map faultOf now) ≡ total r = omega (arith, length-map now faultOf, as-many, p .before) in
+      let z : T + length (map faultOf now) ≡ putSoFar r = omega (arith, length-map now faultOf, as-many, p .before) in
       ap (λ (xs : List Break). sets ys T (map faultOf xs)) cut ∙ ap (sets ys T) (map-append faultOf now later) ∙ sets-append (map faultOf now) (map faultOf later) ys T
-      ∙ ap (λ (n : ℕ). sets (sets ys T (map faultOf now)) n (map faultOf later)) z ∙ ap (λ (xs : List Fault). sets xs (total r) (map faultOf later)) (sym stored)
+      ∙ ap (λ (n : ℕ). sets (sets ys T (map faultOf now)) n (map faultOf later)) z ∙ ap (λ (xs : List Fault). sets xs (putSoFar r) (map faultOf later)) (sym stored)
 
   -- the same in the words of a step
-  pub step-moves : {n cap from fit : ℕ} → length file ≤ LIMIT → n ≡ total s → from ≡ min (r .before) cap → fit ≡ min (r .held) (cap - from) → (ys : List Fault) → length ys ≡ cap
-      → sets ys n (map faultOf (drop n (found file))) ≡ sets (sets ys from (records ps' 0 fit)) (total r) (map faultOf (drop (total r) (found file)))
+  pub step-moves : {n cap from fit : ℕ} → length file ≤ LIMIT → n ≡ putSoFar s → from ≡ min (r .before) cap → fit ≡ min (r .held) (cap - from) → (ys : List Fault) → length ys ≡ cap
+      → sets ys n (map faultOf (drop n (reported file))) ≡ sets (sets ys from (records ps' 0 fit)) (putSoFar r) (map faultOf (drop (putSoFar r) (reported file)))
   step-moves {cap = cap} h n-is from-is fit-is ys e = rw (found-all file h, n-is, fit-is, from-is) (step-writes cap ys e)
 
 -- the way left grows shorter

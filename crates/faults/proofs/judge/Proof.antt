@@ -58,9 +58,9 @@ use Rattle.book.specs.Text.{LINKS, IsBook}
 use Rattle.faults.specs.declared.Fault.{Fault}
 use Rattle.faults.specs.declared.steps.Progress.{Progress}
 use Rattle.faults.specs.Records.{outcome, judged}
-use Rattle.faults.specs.Steps.{ROOM, records, remaining, away, Good, Moves}
+use Rattle.faults.specs.Steps.{PLACES, records, remaining, away, Between, Moves}
 use Rattle.walks.proofs.Again.{LentAgain, lends-again, comes-back}
-use Rattle.faults.proofs.Laws.Ending.{whole as final-of, ahead-first, ahead-next, ended}
+use Rattle.faults.proofs.Laws.Closing.{whole as final-of, ahead-first, ahead-next, ended}
 use Rattle.walks.proofs.Lent.{facts4, says-all, big-lit, init-times, times-in, array-room, lends-all, all-back}
 use Rattle.walks.proofs.Locals.{room, full, away as gone, env-of, here}
 use Rattle.faults.proofs.Fault as T
@@ -99,7 +99,7 @@ abbrev Slots : RattleType
 Slots = Array bool SLOTS
 
 abbrev Places : RattleType
-Places = Array u32 ROOM
+Places = Array u32 PLACES
 
 -- ---- the contracts that the proof cites
 module _ {M : Type 1} (𝓤 : URA M) (H : Heap 𝓤) (A : Atoms 𝓤) (mem′ : Memory → SProp 𝓤) (run : Routine → Fun 𝓤) where
@@ -213,8 +213,8 @@ module _ {M : Type 1} (𝓤 : URA M) (H : Heap 𝓤) (A : Atoms 𝓤) (W : Given
         nothing ! $ owned ! usize (Is usize) (uint-makes 𝓤 H A W w64) (length ys) _ (refl, F .rooms .0) $ fjoin ! $ move ! (1 ∷ 0 ∷ []) $ fjoin ! $ move ! (1 ∷ 0 ∷ []) $ fjoin ! $ done !) $
         frame ! $ done !
 
-    said-begin : (r : Progress) → ent 𝓤 (ensured 𝓤 H A begin.ended (begin.clauses 𝓤 H A mem′ run) BeginLfts begin-args tt r) (sep 𝓤 (fact 𝓤 (Good (p .now) r (replicate SLOTS false))) (fact 𝓤 (Begun r)))
-    said-begin r = exE 𝓤 _ (λ ws. snd∗ 𝓤 (sem 𝓤 H A (lasts begin.ended BeginLfts begin-args ws)) (sep 𝓤 (fact 𝓤 (Good (p .now) r (replicate SLOTS false))) (fact 𝓤 (Begun r))))
+    said-begin : (r : Progress) → ent 𝓤 (ensured 𝓤 H A begin.ended (begin.clauses 𝓤 H A mem′ run) BeginLfts begin-args tt r) (sep 𝓤 (fact 𝓤 (Between (p .now) r (replicate SLOTS false))) (fact 𝓤 (Begun r)))
+    said-begin r = exE 𝓤 _ (λ ws. snd∗ 𝓤 (sem 𝓤 H A (lasts begin.ended BeginLfts begin-args ws)) (sep 𝓤 (fact 𝓤 (Between (p .now) r (replicate SLOTS false))) (fact 𝓤 (Begun r))))
 
   -- ---- the call of `next`: the book is lent as to `begin`; the slots at l₅ and the places at l₆ are lent for the lifetimes ν and ν′ under the names δ and δ′
   -- a state as the machine has it
@@ -240,7 +240,7 @@ module _ {M : Type 1} (𝓤 : URA M) (H : Heap 𝓤) (A : Atoms 𝓤) (W : Given
     abbrev to-next : Next 𝓤 H A mem′ run .Ghost
     to-next = ((NextLfts, (fullShare, (q, (fullShare, (fullShare, tt)))), tt, next-args, (sliceVal (l₄, 0) (length rs) ∷ [], (v ∷ [], (S′.lowered t ∷ [], (vptr l₅ 0 ∷ [], (vptr l₆ 0 ∷ [], tt)))))), tt)
 
-    ask-next : IsBook rs → IsS t → Good (p .now) t ls → t .more ≡ true → length lp ≡ ROOM
+    ask-next : IsBook rs → IsS t → Between (p .now) t ls → t .more ≡ true → length lp ≡ PLACES
         → ent 𝓤 (⋆ 𝓤 H A (‵ (flft (α ∷ []) fullShare) ∷ ‵ (RowsSlice l₄ α ε rs) ∷ ‵ (flft κ q) ∷ ‵ Own ∷ ‵ (flft (ν ∷ []) fullShare) ∷ ‵ SlotsRef ∷ ‵ (flft (ν′ ∷ []) fullShare) ∷ ‵ PlacesRef ∷ [])) (sep 𝓤 (Next 𝓤 H A mem′ run .pre to-next) (sem 𝓤 H A Own))
     ask-next book is g e len =
         qed W (‵ (flft (α ∷ []) fullShare) ∷ ‵ (RowsSlice l₄ α ε rs) ∷ ‵ (flft κ q) ∷ ‵ Own ∷ ‵ (flft (ν ∷ []) fullShare) ∷ ‵ SlotsRef ∷ ‵ (flft (ν′ ∷ []) fullShare) ∷ ‵ PlacesRef ∷ []) ∵
@@ -289,8 +289,8 @@ module _ {M : Type 1} (𝓤 : URA M) (H : Heap 𝓤) (A : Atoms 𝓤) (W : Given
     pub places : List ℕ
     pub cur : List Fault
     pub is : IsS st
-    pub good : Good (p .now) st slots
-    pub room-is : length places ≡ ROOM
+    pub good : Between (p .now) st slots
+    pub room-is : length places ≡ PLACES
     pub cap-is : st .cap ≡ length ys
     pub long : length cur ≡ length ys
     pub ahead : sets cur (st .count) (remaining (p .now) st) ≡ final-of (p .now) ys
@@ -302,7 +302,7 @@ module _ {M : Type 1} (𝓤 : URA M) (H : Heap 𝓤) (A : Atoms 𝓤) (W : Given
   less-wf = InvImage·wf (λ (z : Turn). away (p .now) (z .st)) (Nat·lt-wfRel .wf)
 
   -- the next turn, once a part is judged and written
-  abbrev moved : (z : Turn) (r : Progress) (ls : List Bool) (lp : List ℕ) (zs : List Fault) → IsS r → Good (p .now) r ls → Moves (p .now) (z .st) r lp → length lp ≡ ROOM → length zs ≡ length (z .cur) → Copied lp r (z .cur) zs → Turn
+  abbrev moved : (z : Turn) (r : Progress) (ls : List Bool) (lp : List ℕ) (zs : List Fault) → IsS r → Between (p .now) r ls → Moves (p .now) (z .st) r lp → length lp ≡ PLACES → length zs ≡ length (z .cur) → Copied lp r (z .cur) zs → Turn
   moved z r ls lp zs is g h len l e = record {
     st = r;
     slots = ls;
@@ -357,7 +357,7 @@ module _ {M : Type 1} (𝓤 : URA M) (H : Heap 𝓤) (A : Atoms 𝓤) (W : Given
           -- [number's obs; its borrow; its token; what faults owns; its token; the token; what file owns; slots; places; the book; _21; …]
           assigns ! (of-opd ! (load ! (from ! (fld ! refl (stop !))) (look-in ! 38 (sub ! 2 refl (whole !))))) (from ! (stop !)) (init ! 49 refl (tt, record { fits = count-fits })) $
           returns ! (look ! 49 refl) $
-          move ! (7 ∷ []) $ use1 W (‵ (froom (tyArray tyBool SLOTS) l₅ 0)) (array-room 𝓤 H A W bool SLOTS l₅ (z .slots)) $ move ! (8 ∷ []) $ use1 W (‵ (froom (tyArray (tyInt w32) ROOM) l₆ 0)) (array-room 𝓤 H A W u32 ROOM l₆ (z .places)) $
+          move ! (7 ∷ []) $ use1 W (‵ (froom (tyArray tyBool SLOTS) l₅ 0)) (array-room 𝓤 H A W bool SLOTS l₅ (z .slots)) $ move ! (8 ∷ []) $ use1 W (‵ (froom (tyArray (tyInt w32) PLACES) l₆ 0)) (array-room 𝓤 H A W u32 PLACES l₆ (z .places)) $
           move ! (9 ∷ []) $ use1 W (‵ (froom (tyArray (tyInt w8) LINKS) l₄ 0)) (array-room 𝓤 H A W u8 LINKS l₄ rs) $
           -- [room for the book; room for places; room for slots; number's obs; …; _21; …]
           forget ! 28 refl $ forget ! 38 refl $ forget ! 43 refl $ forget ! 45 refl $ forget ! 47 refl $ forget ! 49 refl $
@@ -374,7 +374,7 @@ module _ {M : Type 1} (𝓤 : URA M) (H : Heap 𝓤) (A : Atoms 𝓤) (W : Given
 
       -- a turn that judges a part and writes its records
       more : (z : Turn) (X : SProp 𝓤) → z .st .more ≡ true
-          → ((r : Progress) (ls : List Bool) (lp : List ℕ) (zs : List Fault) (is : IsS r) (g : Good (p .now) r ls) (h : Moves (p .now) (z .st) r lp) (len : length lp ≡ ROOM) (l : length zs ≡ length (z .cur)) (e : Copied lp r (z .cur) zs)
+          → ((r : Progress) (ls : List Bool) (lp : List ℕ) (zs : List Fault) (is : IsS r) (g : Between (p .now) r ls) (h : Moves (p .now) (z .st) r lp) (len : length lp ≡ PLACES) (l : length zs ≡ length (z .cur)) (e : Copied lp r (z .cur) zs)
           → ent 𝓤 (⋆ 𝓤 H A (I (moved z r ls lp zs is g h len l e))) X) → ent 𝓤 (⋆ 𝓤 H A (I z)) (Wp 𝓤 H C Λ En M′.turn-1 (afterTurn 𝓤 H X Left))
       unfolding afterTurn
       more z X e next′ =
@@ -401,8 +401,8 @@ module _ {M : Type 1} (𝓤 : URA M) (H : Heap 𝓤) (A : Atoms 𝓤) (W : Given
           calls-at ! fm (Next 𝓤 H A mem′ run) known-next (to-next l₄ l₅ l₆ α ν ν′ ε δ δ′ rs (z .st) (z .slots) (z .places)) (and-then ! (load ! (from ! (stop !)) (look ! 23 refl)) (and-then ! (load ! (from ! (stop !)) (look ! 46 refl)) (and-then ! (load ! (from ! (stop !)) (look ! 37 refl)) (and-then ! (load ! (from ! (stop !)) (look ! 21 refl)) (and-then ! (load ! (from ! (stop !)) (look ! 19 refl)) (no-more !)))))) (λ u.
           use1 W (later (some (λ (r : Progress). ((‵ (flft (α ∷ []) fullShare) ⊛ ‵ (flft κ q) ⊛ ‵ (flft (ν ∷ []) fullShare) ⊛ ‵ (flft (ν′ ∷ []) fullShare) ⊛ ‵ ftrue) ⊛ ‵ (S.the-row .own r (u ∷ []))) ⊛ raw (ensured 𝓤 H A next.ended (next.clauses 𝓤 H A mem′ run) (α ∷ [], (κ, (ν ∷ [], (ν′ ∷ [], tt)))) (next-args l₄ l₅ l₆ α ν ν′ ε δ δ′ rs (z .st) (z .slots) (z .places)) tt r)))) (id⊢ 𝓤 _) $ await ! tt $ pick ! (λ r.
           split ! $ move ! (1 ∷ []) $
-          use1 W (some (λ (ws : Unit {0} × (Unit {0} × (Unit {0} × (List Bool × (List ℕ × Unit {0}))))). ‵ (lasts next.ended (α ∷ [], (κ, (ν ∷ [], (ν′ ∷ [], tt)))) (next-args l₄ l₅ l₆ α ν ν′ ε δ δ′ rs (z .st) (z .slots) (z .places)) ws) ⊛ raw (fact 𝓤 (Good (p .now) r (ws .1 .1 .1 .0))) ⊛ raw (fact 𝓤 (Moves (p .now) (z .st) r (ws .1 .1 .1 .1 .0))) ⊛ raw (fact 𝓤 (length (ws .1 .1 .1 .1 .0) ≡ ROOM)))) (id⊢ 𝓤 _) $ pick ! (λ ws.
-          split ! $ move ! (1 ∷ []) $ split ! $ heard ! (Good (p .now) r (ws .1 .1 .1 .0)) (λ g. split ! $ heard ! (Moves (p .now) (z .st) r (ws .1 .1 .1 .1 .0)) (λ h. heard ! (length (ws .1 .1 .1 .1 .0) ≡ ROOM) (λ len.
+          use1 W (some (λ (ws : Unit {0} × (Unit {0} × (Unit {0} × (List Bool × (List ℕ × Unit {0}))))). ‵ (lasts next.ended (α ∷ [], (κ, (ν ∷ [], (ν′ ∷ [], tt)))) (next-args l₄ l₅ l₆ α ν ν′ ε δ δ′ rs (z .st) (z .slots) (z .places)) ws) ⊛ raw (fact 𝓤 (Between (p .now) r (ws .1 .1 .1 .0))) ⊛ raw (fact 𝓤 (Moves (p .now) (z .st) r (ws .1 .1 .1 .1 .0))) ⊛ raw (fact 𝓤 (length (ws .1 .1 .1 .1 .0) ≡ PLACES)))) (id⊢ 𝓤 _) $ pick ! (λ ws.
+          split ! $ move ! (1 ∷ []) $ split ! $ heard ! (Between (p .now) r (ws .1 .1 .1 .0)) (λ g. split ! $ heard ! (Moves (p .now) (z .st) r (ws .1 .1 .1 .1 .0)) (λ h. heard ! (length (ws .1 .1 .1 .1 .0) ≡ PLACES) (λ len.
           -- what is said of the last values
           fsplit ! $ drop ! $ fsplit ! $ drop ! $ fsplit ! $ drop ! $ fsplit ! $ move ! (1 ∷ []) $ fsplit ! $ move ! (1 ∷ []) $ drop ! $
           -- [places' last value; slots'; the tokens and the result; what file owns; the book's lender's part; places'; slots'; what faults owns; its token; number's token; number; _21; …]
@@ -424,7 +424,7 @@ module _ {M : Type 1} (𝓤 : URA M) (H : Heap 𝓤) (A : Atoms 𝓤) (W : Given
           rewrite ! 9 (λ (n : ℕ). ‵ (fat fullShare (sliceTy (tyRef erased mut (pointee (T.the-row .written)))) l₂₁ 0 (sliceVal (b, o) n))) (sym (z .long)) refl $
           -- the places are lent, and the list is lent again
           move ! (1 ∷ []) $ lft-new ! tt (λ α′. move ! (1 ∷ []) $
-          use1 W (later (some (λ (ε′ : GName). ‵ (PlacesSlice l₆ α′ α′ ε′ ε′ (ws .1 .1 .1 .1 .0) (z .cur) r) ⊛ ‵ (flent (α′ ∷ []) (arr-parts (shares u32) (length (ws .1 .1 .1 .1 .0)) .part fullShare (ws .1 .1 .1 .1 .0) l₆ 0))))) (lends-all 𝓤 H A W u32 ROOM l₆ tt (named 0) (α′ ∷ []) (ws .1 .1 .1 .1 .0) (place-room (ws .1 .1 .1 .1 .0) len)) $ await ! tt $ pick ! (λ ε′. split ! $
+          use1 W (later (some (λ (ε′ : GName). ‵ (PlacesSlice l₆ α′ α′ ε′ ε′ (ws .1 .1 .1 .1 .0) (z .cur) r) ⊛ ‵ (flent (α′ ∷ []) (arr-parts (shares u32) (length (ws .1 .1 .1 .1 .0)) .part fullShare (ws .1 .1 .1 .1 .0) l₆ 0))))) (lends-all 𝓤 H A W u32 PLACES l₆ tt (named 0) (α′ ∷ []) (ws .1 .1 .1 .1 .0) (place-room (ws .1 .1 .1 .1 .0) len)) $ await ! tt $ pick ! (λ ε′. split ! $
           lft-new ! tt (λ β. move ! (7 ∷ 8 ∷ []) $
           use2 W (later (some (λ (ζ : GName). ‵ (FaultsSlice l₆ α′ β ε′ ζ (ws .1 .1 .1 .1 .0) (z .cur) r) ⊛ ‵ (LentAgain T.the-row κ′ (β ∷ []) q′ γ b o ζ (z .cur))))) (lends-again T.the-row κ′ (β ∷ []) q′ γ b o 𝓤 H A W (named 1) (named 1) (z .cur)) $ await ! tt $ pick ! (λ ζ. split ! $
           -- [the list; what is kept of it; its token; the places; their lender's part; their token; slots; the token; what file owns; number's token; number; the book; _21; …]
@@ -441,7 +441,7 @@ module _ {M : Type 1} (𝓤 : URA M) (H : Heap 𝓤) (A : Atoms 𝓤) (W : Given
           use3 W (later (‵ (MutSlice (named 1) κ′ T.the-row .own (x γ (zs .1 .0)) (sliceVal (b, o) (length (z .cur)) ∷ [])) ⊛ ‵ (flft κ′ q′))) (comes-back T.the-row κ′ (β ∷ []) q′ γ b o 𝓤 H A W (named 1) (named 1) (z .cur) ζ (zs .1 .0) rooms l) $ await ! tt $ split ! $
           rewrite ! 0 (λ (n : ℕ). ‵ (MutSlice (named 1) κ′ T.the-row .own (x γ (zs .1 .0)) (sliceVal (b, o) n ∷ []))) (sym l) refl $
           move ! (2 ∷ []) $ drop ! $ move ! (3 ∷ []) $ drop ! $ move ! (2 ∷ []) $ lft-end ! tt $ move ! (0 ∷ 3 ∷ []) $
-          use2 W (later (‵ (partAt Places fullShare (ws .1 .1 .1 .1 .0) l₆ 0))) (all-back 𝓤 H A W u32 ROOM l₆ (α′ ∷ []) (ws .1 .1 .1 .1 .0) len) $ await ! tt $
+          use2 W (later (‵ (partAt Places fullShare (ws .1 .1 .1 .1 .0) l₆ 0))) (all-back 𝓤 H A W u32 PLACES l₆ (α′ ∷ []) (ws .1 .1 .1 .1 .0) len) $ await ! tt $
           -- [places; what faults owns; its token; slots; the token; what file owns; number's token; number; the book; _21; …]
           move ! (1 ∷ 2 ∷ 4 ∷ 5 ∷ 6 ∷ 7 ∷ 3 ∷ 0 ∷ []) $
           land-last ! (from ! (stop !)) (init ! 17 refl (subst (λ (k : Val). Holds (hasTy tyUnit k) × WT k) (sym (ap only e₀)) (tt, tt))) $
@@ -454,7 +454,7 @@ module _ {M : Type 1} (𝓤 : URA M) (H : Heap 𝓤) (A : Atoms 𝓤) (W : Given
           row-room : Room u8 (length rs)
           row-room = subst (Room u8) (sym wide) (lit< tt, lit< tt)
 
-          place-room : (lp : List ℕ) → length lp ≡ ROOM → Room u32 (length lp)
+          place-room : (lp : List ℕ) → length lp ≡ PLACES → Room u32 (length lp)
           place-room lp len = subst (Room u32) (sym len) (lit< tt, lit< tt)
 
           inside : (r : Progress) {lp : List ℕ} → Moves (p .now) (z .st) r lp → r .from + r .fit ≤ length (z .cur)
@@ -494,13 +494,13 @@ module _ {M : Type 1} (𝓤 : URA M) (H : Heap 𝓤) (A : Atoms 𝓤) (W : Given
         forget ! 33 refl $ move ! (41 ∷ 0 ∷ []) $ use2 W (‵ (partAt Rows fullShare rs l₄ 0)) (part-in 𝓤 H A W Rows refl fullShare rs l₄ 0 u₀) $
         -- [the book; number's token; faults' token; the token; number; what faults owns; what file owns; _21; …]: the arrays are filled
         assigns ! (rep ! SLOTS (false-lit !)) (from ! (stop !)) (init-times ! 39 bool (bool-lawful 𝓤 H A W) SLOTS false (vbool false) refl refl) $
-        assigns ! (rep ! ROOM (lit ! tt)) (from ! (stop !)) (init-times ! 37 u32 (uint-lawful 𝓤 H A W w32) ROOM 0 (vint w32 0) (refl, lit< tt) refl) $
+        assigns ! (rep ! PLACES (lit ! tt)) (from ! (stop !)) (init-times ! 37 u32 (uint-lawful 𝓤 H A W w32) PLACES 0 (vint w32 0) (refl, lit< tt) refl) $
         assigns ! (addr ! (from ! (stop !))) (from ! (stop !)) (init ! 31 refl (tt, tt)) $
         assigns ! (agg ! (and-then ! (load ! (from ! (stop !)) (look ! 31 refl)) (and-then ! (big-lit ! (record { fits = lit< tt })) (no-more !)))) (from ! (stop !)) (init ! 29 refl (tt, (tt, (record { fits = lit< tt }, tt)))) $
         rewrite ! 29 (λ (n : ℕ). ‵ (fat fullShare (sliceTy (tyRef erased imm (pointee (u8 .written)))) l₁₀ 0 (sliceVal (l₄, 0) n))) (sym (are .1 .0 .1)) refl $
         assigns ! (of-opd ! (load ! (from ! (fld ! refl (stop !))) (look-in ! 44 (sub ! 1 refl (whole !))))) (from ! (stop !)) (init ! 27 refl (tt, record { fits = F .rooms .0 })) $
         move ! (39 ∷ []) $ use1 W (‵ (partAt Slots fullShare (replicate SLOTS false) l₅ 0)) (times-in 𝓤 H A W bool SLOTS l₅ (bool-makes 𝓤 H A W) (bool-copy 𝓤 H A W) false (vbool false) refl) $
-        move ! (38 ∷ []) $ use1 W (‵ (partAt Places fullShare (replicate ROOM 0) l₆ 0)) (times-in 𝓤 H A W u32 ROOM l₆ (uint-makes 𝓤 H A W w32) (uint-copy 𝓤 H A W w32) 0 (vint w32 0) (refl, lit< tt)) $
+        move ! (38 ∷ []) $ use1 W (‵ (partAt Places fullShare (replicate PLACES 0) l₆ 0)) (times-in 𝓤 H A W u32 PLACES l₆ (uint-makes 𝓤 H A W w32) (uint-copy 𝓤 H A W w32) 0 (vint w32 0) (refl, lit< tt)) $
         -- [places; slots; the book; number's token; faults' token; the token; number; what faults owns; what file owns; _21; …]: the book is lent to `begin`
         move ! (2 ∷ []) $ lft-new ! tt (λ α. move ! (1 ∷ []) $
         use1 W (later (some (λ (ε : GName). ‵ (RowsSlice l₄ α ε rs) ⊛ ‵ (flent (α ∷ []) (arr-parts (shares u8) (length rs) .part fullShare rs l₄ 0))))) (lends-all 𝓤 H A W u8 LINKS l₄ tt (named 0) (α ∷ []) rs (subst (Room u8) (sym (are .1 .0 .1)) (lit< tt, lit< tt))) $ await ! tt $ pick ! (λ ε. split ! $
@@ -509,7 +509,7 @@ module _ {M : Type 1} (𝓤 : URA M) (H : Heap 𝓤) (A : Atoms 𝓤) (W : Given
         -- [what `begin` asks; what file owns; the book's lender's part; places; slots; number's token; faults' token; number; what faults owns; _21; …]
         calls-at ! fm (Begin 𝓤 H A mem′ run) known-begin (to-begin l₄ α ε rs) (and-then ! (load ! (from ! (stop !)) (look ! 31 refl)) (and-then ! (load ! (from ! (stop !)) (look ! 46 refl)) (and-then ! (load ! (from ! (stop !)) (look ! 29 refl)) (no-more !)))) (λ u.
         use1 W (later (some (λ (r : Progress). ((‵ (flft (α ∷ []) fullShare) ⊛ ‵ (flft κ q) ⊛ ‵ ftrue) ⊛ ‵ (S.the-row .own r (u ∷ []))) ⊛ raw (ensured 𝓤 H A begin.ended (begin.clauses 𝓤 H A mem′ run) (α ∷ [], (κ, tt)) (begin-args l₄ α ε rs) tt r)))) (id⊢ 𝓤 _) $ await ! tt $ pick ! (λ r.
-        split ! $ move ! (1 ∷ []) $ use1 W (raw (fact 𝓤 (Good (p .now) r (replicate SLOTS false))) ⊛ raw (fact 𝓤 (Begun r))) (said-begin l₄ α ε rs r) $ split ! $ heard ! (Good (p .now) r (replicate SLOTS false)) (λ g. heard ! (Begun r) (λ h. split ! $ move ! (1 ∷ []) $
+        split ! $ move ! (1 ∷ []) $ use1 W (raw (fact 𝓤 (Between (p .now) r (replicate SLOTS false))) ⊛ raw (fact 𝓤 (Begun r))) (said-begin l₄ α ε rs r) $ split ! $ heard ! (Between (p .now) r (replicate SLOTS false)) (λ g. heard ! (Begun r) (λ h. split ! $ move ! (1 ∷ []) $
         peeks ! S.the-row (Is S.the-row) (shows 𝓤 H A S.the-row) r (u ∷ []) (λ is.
         land ! (from ! (stop !)) (init ! 38 refl (LL.lawful S.the-type S′.the-laws 𝓤 H A W .typed r _ is .0)) $
         drop ! $ split ! $ move ! (1 ∷ []) $ split ! $ move ! (1 ∷ []) $ drop ! $
@@ -522,11 +522,11 @@ module _ {M : Type 1} (𝓤 : URA M) (H : Heap 𝓤) (A : Atoms 𝓤) (W : Given
         by ! (looped l₀ l₁ l₂ l₃ l₄ l₅ l₆ l₇ l₈ l₉ l₁₀ l₁₁ l₁₂ l₁₃ l₁₄ l₁₅ l₁₆ l₁₇ l₁₈ l₁₉ l₂₀ l₂₁ rs (are .1 .0 .1) book (record {
           st = r;
           slots = replicate SLOTS false;
-          places = replicate ROOM 0;
+          places = replicate PLACES 0;
           cur = ys;
           is = subst (Is S.the-row r) (S′.lowers .val-is r _ is) is;
           good = g;
-          room-is = length-replicate {A = ℕ} ROOM 0;
+          room-is = length-replicate {A = ℕ} PLACES 0;
           cap-is = h .0;
           long = refl;
           ahead = ahead-first (p .now) r ys (h .1);

@@ -7,7 +7,7 @@ use lib.ListN.{length}
 use Rattle.fee.specs.Places.{plain}
 use Rattle.fee.specs.Steps.{Granted}
 use Rattle.fee.proofs.Laws.Calls.{granted, refused, shared}
-use Rattle.fee.proofs.Laws.Parts.{floors-most}
+use Rattle.fee.proofs.Laws.Halves.{floors-most}
 use Rattle.fee.proofs.split_places.Statement.{statement}
 use Rattle.fee.proofs.split_places.Tie as tie
 

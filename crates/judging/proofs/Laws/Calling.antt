@@ -11,19 +11,19 @@ use borrow.Author.Tests.{le-ltb, lt-ltb, ltb-true, ltb-false}
 use Rattle.numbers.specs.Numbers.{TOO-LONG}
 use Rattle.text_bytes.specs.Bytes.{Bytes}
 use Rattle.text.specs.Lines.{LIMIT}
-use Rattle.judging.specs.Calls.{numberOf}
+use Rattle.judging.specs.Calls.{lengthNumber}
 
 module _ (file : Bytes) where
-  pub number-none : length file ≤ LIMIT → numberOf file ≡ 0
-  unfolding numberOf
+  pub number-none : length file ≤ LIMIT → lengthNumber file ≡ 0
+  unfolding lengthNumber
   number-none h = rw (le-ltb LIMIT (length file) h)
 
-  pub number-one : LIMIT < length file → numberOf file ≡ TOO-LONG
-  unfolding numberOf
+  pub number-one : LIMIT < length file → lengthNumber file ≡ TOO-LONG
+  unfolding lengthNumber
   number-one h = rw (lt-ltb LIMIT (length file) h)
 
   -- only a file over the limit is refused
-  pub refused : (numberOf file ≡ 0 → ⊥) → LIMIT < length file
+  pub refused : (lengthNumber file ≡ 0 → ⊥) → LIMIT < length file
   refused h = go (ltb LIMIT (length file)) refl
     where
       go : (t : Bool) → ltb LIMIT (length file) ≡ t → LIMIT < length file

@@ -16,7 +16,7 @@ use Rattle.scan.specs.Places.{FILE-MOST, Lent, lent, putAll, Puts}
 use Rattle.scan.proofs.Laws.Putting.{put-append, put-count}
 use Rattle.scan.proofs.Laws.Following.{stands-start}
 use Rattle.scan.proofs.Laws.Scanning.{scan-start, breaks-left, breaks-bound}
-use Rattle.judging.specs.Parts.{total, beginning, Midway, Parts}
+use Rattle.judging.specs.Parts.{putSoFar, beginning, Midway, Parts}
 use Rattle.judging.specs.declared.parts.Stand.{Stand}
 use Rattle.book.specs.Book.{Book}
 use Rattle.book.proofs.Laws.Sized.{Sized}
@@ -76,7 +76,7 @@ part-whole {b} sized {file} {s = s} {r = r} {ys = ys} e p limit far =
     let bs = breaksBy b (lines file) in
     p .puts ∙ ap (λ (n : ℕ). putAll (lent ys 0) (take (r .held) (drop n bs))) none ∙ ap (putAll (lent ys 0)) (take-all (r .held) bs (all (r .more) refl))
   where
-    none : total s ≡ 0
+    none : putSoFar s ≡ 0
     none = rw e
 
     all : (t : Bool) → r .more ≡ t → length (breaksBy b (lines file)) ≤ r .held

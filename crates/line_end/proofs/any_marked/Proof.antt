@@ -5,7 +5,7 @@ use native.Mathlib.Omega.{arith}
 use borrow.Author.Needs.{needs}
 use lib.ListN.{length}
 use Rattle.scan.specs.Machine.{isMarked}
-use Rattle.line_end.proofs.Laws.Marking.{left, mark-here, mark-next, mark-none}
+use Rattle.line_end.proofs.Laws.Flagging.{left, mark-here, mark-next, mark-none}
 use Rattle.line_end.proofs.any_marked.Statement.{statement}
 use Rattle.line_end.proofs.any_marked.Tie as tie
 

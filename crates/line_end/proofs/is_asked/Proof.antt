@@ -4,7 +4,7 @@ use mathlib.Core.Path.{_≡_, _∙_}
 use mathlib.Core.Bool.{Bool}
 use Prim.Native.Nat.{ℕ}
 use Rattle.rules.specs.Rules.{asks}
-use Rattle.line_end.proofs.Laws.Asking.{ask-always, ask-no-mode, ask-no-type, by, ask-key, ask-rest}
+use Rattle.line_end.proofs.Laws.Lettered.{ask-always, ask-no-mode, ask-no-type, by, ask-key, ask-rest}
 use Rattle.line_end.proofs.is_asked.Statement.{statement}
 use Rattle.line_end.proofs.is_asked.Tie as tie
 

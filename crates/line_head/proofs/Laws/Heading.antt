@@ -11,7 +11,7 @@ use Rattle.rules.specs.Breaks.{breakAt, when}
 use Rattle.scan.specs.Places.{HEADED-MOST, LINE-MOST, Lent, Puts}
 use Rattle.scan.specs.Machine.{Ids, eachCell, plainRest, headBreaks, headFirst, nameBreaks}
 use Rattle.scan.proofs.Laws.Putting.{puts2}
-use Rattle.line_head_required.proofs.Laws.Wanting.{lacks-none}
+use Rattle.line_head_required.proofs.Laws.Requiring.{lacks-none}
 use Rattle.book.specs.Book.{Book, isSection}
 use Rattle.book.specs.Text.{bookIn}
 

@@ -8,7 +8,7 @@ use Rattle.text_bytes.specs.Bytes.{Bytes}
 use Rattle.book.specs.Book.{Book}
 use Rattle.book.specs.Text.{IsText, bookIn}
 use Rattle.book.proofs.Laws.Directing.{section-within}
-use Rattle.line_head_required.proofs.Laws.Wanting.{wanted-within, lacks-wanted}
+use Rattle.line_head_required.proofs.Laws.Requiring.{wanted-within, lacks-wanted}
 use Rattle.line_head_required.proofs.lacks.Statement.{statement}
 use Rattle.line_head_required.proofs.lacks.Tie as tie
 

@@ -8,7 +8,7 @@ use lib.ListN.{length, take, drop}
 use Rattle.text_bytes.specs.Bytes.{all}
 use Rattle.text.specs.Lines.{cells}
 use Rattle.line_head_required.specs.Wanted.{isIn}
-use Rattle.line_head_required.proofs.Laws.Wanting.{all-miss, all-next, all-last}
+use Rattle.line_head_required.proofs.Laws.Requiring.{all-miss, all-next, all-last}
 use Rattle.line_head_required.proofs.lacks_any.Statement.{statement}
 use Rattle.line_head_required.proofs.lacks_any.Tie as tie
 

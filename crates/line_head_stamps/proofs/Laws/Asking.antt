@@ -11,7 +11,7 @@ use borrow.Author.Tests.{ltb-true, ltb-false}
 use Rattle.text_bytes.specs.Bytes.{Bytes, same}
 use Rattle.text_bytes.proofs.Laws.Pieces.{drop-step}
 use Rattle.text_bytes.proofs.Laws.Same.{same-equal, same-end}
-use Rattle.line_head_stamps.specs.Stamps.{DOORS, hashFrom, hashOf, codeAt, sideOf}
+use Rattle.line_head_stamps.specs.Stamps.{DOORS, hashFrom, hashOf, byteCode, sideOf}
 
 -- THE HASH
 
@@ -30,20 +30,20 @@ hash-below name = mod-lt (hashFrom 0 name) (omega arith)
 
 -- CODES
 
-pub code-here : (name : Bytes) (place : ℕ) → place < length name → codeAt name place ≡ getD name place 0 + 1
-unfolding codeAt
+pub code-here : (name : Bytes) (place : ℕ) → place < length name → byteCode name place ≡ getD name place 0 + 1
+unfolding byteCode
 code-here [] place l = absurd (not-suc-le-zero l)
 code-here (x ∷ xs) zero l = refl
 code-here (x ∷ xs) (suc place) l = code-here xs place (le-of-suc-le-suc l)
 
-pub code-past : (name : Bytes) (place : ℕ) → length name ≤ place → codeAt name place ≡ 0
-unfolding codeAt
+pub code-past : (name : Bytes) (place : ℕ) → length name ≤ place → byteCode name place ≡ 0
+unfolding byteCode
 code-past [] place l = refl
 code-past (x ∷ xs) zero l = absurd (not-suc-le-zero l)
 code-past (x ∷ xs) (suc place) l = code-past xs place (le-of-suc-le-suc l)
 
 -- two texts with the same bytes up to the end of the first are equal, if the second ends there too
-pub codes-end : (a b : Bytes) (i : ℕ) → length a ≤ i → same (drop i a) (drop i b) ≡ same a b → codeAt a i ≡ codeAt b i → a ≡ b
+pub codes-end : (a b : Bytes) (i : ℕ) → length a ≤ i → same (drop i a) (drop i b) ≡ same a b → byteCode a i ≡ byteCode b i → a ≡ b
 codes-end a b i l left e = go (ltb i (length b)) refl
   where
     go : (t : Bool) → ltb i (length b) ≡ t → a ≡ b
@@ -54,9 +54,9 @@ codes-end a b i l left e = go (ltb i (length b)) refl
 
 pub side-below : (ask : ℕ) (name : Bytes) → sideOf ask name < 16
 unfolding sideOf
-side-below ask name = mod-lt (codeAt name (ask / 16) / 2 ^ (ask % 16)) (omega arith)
+side-below ask name = mod-lt (byteCode name (ask / 16) / 2 ^ (ask % 16)) (omega arith)
 
-side-at : (place shift : ℕ) (name : Bytes) → shift < 16 → sideOf (16 * place + shift) name ≡ codeAt name place / 2 ^ shift % 16
+side-at : (place shift : ℕ) (name : Bytes) → shift < 16 → sideOf (16 * place + shift) name ≡ byteCode name place / 2 ^ shift % 16
 unfolding sideOf
 side-at place shift name l =
     let p : (16 * place + shift) / 16 ≡ place = omega arith in
@@ -64,8 +64,8 @@ side-at place shift name l =
     rw (p, s)
 
 -- where the codes at a place decide whether two names are equal, and four bits whether the codes are, the sides decide
-pub side-decides : (a b : Bytes) (place shift x y : ℕ) → shift ≤ 8 → x ≡ codeAt a place → y ≡ codeAt b place → (x / 2 ^ shift % 16 ≡ y / 2 ^ shift % 16 → x ≡ y)
-    → (codeAt a place ≡ codeAt b place → a ≡ b) → sideOf (16 * place + shift) a ≡ sideOf (16 * place + shift) b → a ≡ b
+pub side-decides : (a b : Bytes) (place shift x y : ℕ) → shift ≤ 8 → x ≡ byteCode a place → y ≡ byteCode b place → (x / 2 ^ shift % 16 ≡ y / 2 ^ shift % 16 → x ≡ y)
+    → (byteCode a place ≡ byteCode b place → a ≡ b) → sideOf (16 * place + shift) a ≡ sideOf (16 * place + shift) b → a ≡ b
 side-decides a b place shift x y l p q f g e =
     let few : shift < 16 = omega arith in
     let s : x / 2 ^ shift % 16 ≡ y / 2 ^ shift % 16 = rw (p, q) (sym (side-at place shift a few) ∙ e ∙ side-at place shift b few) in

@@ -8,35 +8,35 @@ use native.Mathlib.Numerals.{add-one}
 use native.Mathlib.Omega.{arith}
 use lib.Seq.{getD-set-same, getD-set-other}
 use lib.ListN.{length, getD, set, length-set}
-use Rattle.line_head_stamps.specs.Stamps.{BRANCHES, ASKS, STARTS, ENDS, ROOM, branch, filled, entered, forked}
+use Rattle.line_head_stamps.specs.Stamps.{BRANCHES, ASKS, STARTS, ENDS, ROOM, branch, covered, entered, forked}
 
 -- PLACES FILLED
 module _ (t : List ℕ) (from held : ℕ) where
-  pub filled-none : filled t from 0 held ≡ t
-  unfolding filled
+  pub filled-none : covered t from 0 held ≡ t
+  unfolding covered
   filled-none = refl
 
-  pub filled-next : (n : ℕ) → set (filled t from n held) (from + n) held ≡ filled t from (n + 1) held
-  unfolding filled
+  pub filled-next : (n : ℕ) → set (covered t from n held) (from + n) held ≡ covered t from (n + 1) held
+  unfolding covered
   filled-next n = rw (add-one n)
 
-  pub filled-length : (n : ℕ) → length (filled t from n held) ≡ length t
-  unfolding filled
+  pub filled-length : (n : ℕ) → length (covered t from n held) ≡ length t
+  unfolding covered
   filled-length zero = refl
-  filled-length (suc n) = length-set (filled t from n held) (from + n) held ∙ filled-length n
+  filled-length (suc n) = length-set (covered t from n held) (from + n) held ∙ filled-length n
 
-  filled-other : (n i : ℕ) → (from ≤ i → from + n ≤ i) → getD (filled t from n held) i 0 ≡ getD t i 0
-  unfolding filled
+  filled-other : (n i : ℕ) → (from ≤ i → from + n ≤ i) → getD (covered t from n held) i 0 ≡ getD t i 0
+  unfolding covered
   filled-other zero i out = refl
   filled-other (suc n) i out =
-      getD-set-other (filled t from n held) (from + n) i held 0 (λ e. omega (arith, e, out (omega (arith, e)))) ∙ filled-other n i (λ l. omega (arith, out l))
+      getD-set-other (covered t from n held) (from + n) i held 0 (λ e. omega (arith, e, out (omega (arith, e)))) ∙ filled-other n i (λ l. omega (arith, out l))
 
-  filled-there : (n s : ℕ) → s < n → from + n ≤ length t → getD (filled t from n held) (from + s) 0 ≡ held
-  unfolding filled
+  filled-there : (n s : ℕ) → s < n → from + n ≤ length t → getD (covered t from n held) (from + s) 0 ≡ held
+  unfolding covered
   filled-there zero s l room = absurd (not-suc-le-zero l)
   filled-there (suc n) s l room =
-      ⊎-elim (λ (q : s ≡ n). rw q (getD-set-same (filled t from n held) (from + n) held 0 (omega (arith, filled-length n))))
-      (λ (q : s < n). getD-set-other (filled t from n held) (from + n) (from + s) held 0 (omega arith) ∙ filled-there n s q (omega arith))
+      ⊎-elim (λ (q : s ≡ n). rw q (getD-set-same (covered t from n held) (from + n) held 0 (omega (arith, filled-length n))))
+      (λ (q : s < n). getD-set-other (covered t from n held) (from + n) (from + s) held 0 (omega arith) ∙ filled-there n s q (omega arith))
       (eq-or-lt-of-le (le-of-suc-le-suc l))
 
 -- A NAME ENTERED

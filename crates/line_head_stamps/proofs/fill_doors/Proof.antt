@@ -4,13 +4,13 @@ use Prim.Native.Nat.{_+_, _-_, _*_, _≤_}
 use native.Mathlib.Omega.{arith}
 use borrow.Author.Needs.{needs}
 use lib.ListN.{length}
-use Rattle.line_head_stamps.specs.Stamps.{BRANCHES, ROOM, filled}
+use Rattle.line_head_stamps.specs.Stamps.{BRANCHES, ROOM, covered}
 use Rattle.line_head_stamps.proofs.Laws.Writing.{filled-none, filled-next, filled-length}
 use Rattle.line_head_stamps.proofs.fill_doors.Statement.{statement}
 use Rattle.line_head_stamps.proofs.fill_doors.Tie as tie
 
 abbrev Inv-loop : tie.InvT-loop
-Inv-loop stamps₀ count k₀ stamps k = (k ≤ 16) × (stamps ≡ filled stamps₀ (BRANCHES + 16 * count) k count)
+Inv-loop stamps₀ count k₀ stamps k = (k ≤ 16) × (stamps ≡ covered stamps₀ (BRANCHES + 16 * count) k count)
 
 abbrev μ-loop : tie.MeasureT-loop
 μ-loop stamps₀ count k₀ stamps k = 16 - k

@@ -7,8 +7,8 @@ use borrow.Author.Needs.{needs}
 use Rattle.text.specs.Lines.{cells}
 use Rattle.scan.specs.Places.{CEILING}
 use Rattle.scan.specs.Machine.{idsOf}
-use Rattle.line_meta.proofs.Laws.Keeping.{keeps-three, keeps-other}
-use Rattle.line_meta.proofs.Laws.Lining.{meta-three, meta-other}
+use Rattle.line_meta.proofs.Laws.Slotted.{keeps-three, keeps-other}
+use Rattle.line_meta.proofs.Laws.Fielding.{meta-three, meta-other}
 use Rattle.line_meta.proofs.judge_meta.Statement.{statement}
 use Rattle.line_meta.proofs.judge_meta.Tie as tie
 

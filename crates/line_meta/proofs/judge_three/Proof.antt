@@ -7,7 +7,7 @@ use borrow.Author.Needs.{needs}
 use Rattle.text.specs.Lines.{cells}
 use Rattle.scan.proofs.Laws.Celling.{three-second, three-cells, three-key}
 use Rattle.line_meta_keys.proofs.Laws.Slotting.{in-slots}
-use Rattle.line_meta.proofs.Laws.Lining.{first-tab, three-puts}
+use Rattle.line_meta.proofs.Laws.Fielding.{first-tab, three-puts}
 use Rattle.line_meta.proofs.judge_three.Statement.{statement}
 use Rattle.line_meta.proofs.judge_three.Tie as tie
 

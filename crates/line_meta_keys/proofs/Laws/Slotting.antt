@@ -15,7 +15,7 @@ use Rattle.book_names.specs.declared.Found.{Found}
 use Rattle.book_names.specs.declared.Found.the-variants.{Unknown, Known}
 use Rattle.book_names.proofs.Laws.Known.{slot-below}
 use Rattle.scan.specs.Machine.{isSlot}
-use Rattle.line_meta_keys.specs.Keys.{InSlots, marked}
+use Rattle.line_meta_keys.specs.Keys.{InSlots, slotted}
 use Rattle.book.proofs.Laws.Sized.{book-sized}
 use Rattle.book.specs.Text.{bookIn}
 
@@ -34,7 +34,7 @@ pub inside : (b : Book) {r : Found} {e k f i j : ℕ} → r ≡ Known e k f i j 
 inside b q h = rw q at h
 
 module _ (b : Book) (slots : List Bool) (whole : length slots ≡ SLOTS) where
-  pub marked-length : (r : Found) → length (marked b slots r) ≡ SLOTS
+  pub marked-length : (r : Found) → length (slotted b slots r) ≡ SLOTS
   marked-length (Unknown w) = whole
   marked-length (Known e k f i j) = length-set slots (slotOf (keyEntries b) e i j) true ∙ whole
 
@@ -45,6 +45,6 @@ module _ (b : Book) (slots : List Bool) (whole : length slots ≡ SLOTS) where
       go true e = let z : s ≡ i = eqb-true s i e in rw (z, or-true (getD slots i false)) (getD-set-same slots i true false (omega arith))
       go false e = getD-set-other slots s i true false (λ z. eqb-false s i e (sym z)) ∙ sym (or-false (getD slots i false))
 
-  pub marked-slot : (r : Found) (i : ℕ) → i < SLOTS → getD (marked b slots r) i false ≡ (getD slots i false || isSlot b i r)
+  pub marked-slot : (r : Found) (i : ℕ) → i < SLOTS → getD (slotted b slots r) i false ≡ (getD slots i false || isSlot b i r)
   marked-slot (Unknown w) i h = sym (or-false (getD slots i false))
   marked-slot (Known e k f i₁ j) i h = set-slot (slotOf (keyEntries b) e i₁ j) i h

@@ -23,7 +23,7 @@ use Rattle.book_names.proofs.Laws.Known.{known}
 use Rattle.rules.specs.Rules.{namedIn, isUndeclared, namesUndeclared}
 use Rattle.scan.specs.Machine.{Ids, idsOf, undeclaredIn, Declares}
 use Rattle.scan.proofs.Laws.Families.{undeclared-is}
-use Rattle.line_meta_values.proofs.Laws.Naming.{one-good, one-named, list-good, list-named, none-named, isHigh, ref-high, refs-high, any-high}
+use Rattle.line_meta_values.proofs.Laws.Referring.{one-good, one-named, list-good, list-named, none-named, isHigh, ref-high, refs-high, any-high}
 
 -- KEYS: one whose values name ids is of one of the four families
 

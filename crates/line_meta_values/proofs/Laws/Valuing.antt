@@ -15,7 +15,7 @@ use Rattle.rules.specs.Rules.{namedIn}
 use Rattle.scan.specs.Machine.{Ids}
 use Rattle.scan.proofs.Laws.Rowing.{test-eq}
 use Rattle.line_meta_values.specs.Values.{Valued}
-use Rattle.line_meta_values.proofs.Laws.Naming.{one-named, none-named, isHigh, high-most, any-high}
+use Rattle.line_meta_values.proofs.Laws.Referring.{one-named, none-named, isHigh, high-most, any-high}
 
 -- BY KIND
 module _ (ids : Ids) (k f : ℕ) (v : Bytes) where

@@ -9,7 +9,7 @@ use Rattle.value_references.specs.References.{isIndex}
 use Rattle.value_references.proofs.Laws.Names.{ref-le}
 use Rattle.book_kinds.specs.Kinds.{familyNumber, wordOf}
 use Rattle.scan.specs.Machine.{idsOf}
-use Rattle.line_meta_values.proofs.Laws.Naming.{one-good}
+use Rattle.line_meta_values.proofs.Laws.Referring.{one-good}
 use Rattle.line_meta_values.proofs.Laws.Valuing.{valued-wrong, valued-good, one-any}
 use Rattle.line_meta_values.proofs.judge_reference.Statement.{statement}
 use Rattle.line_meta_values.proofs.judge_reference.Tie as tie

@@ -11,7 +11,7 @@ use Rattle.text_bytes.specs.Bytes.{any, all}
 use Rattle.value_references.specs.References.{refsTo, isReferences}
 use Rattle.book_kinds.specs.Kinds.{familyNumber, wordOf}
 use Rattle.scan.specs.Machine.{idsOf}
-use Rattle.line_meta_values.proofs.Laws.Naming.{list-good, list-named, isHigh, refs-high}
+use Rattle.line_meta_values.proofs.Laws.Referring.{list-good, list-named, isHigh, refs-high}
 use Rattle.line_meta_values.proofs.Laws.Valuing.{valued-wrong, valued-good, Left, left-start, left-next, left-hit, left-end}
 use Rattle.line_meta_values.proofs.judge_references.Statement.{statement}
 use Rattle.line_meta_values.proofs.judge_references.Tie as tie

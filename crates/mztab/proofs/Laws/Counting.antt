@@ -11,14 +11,14 @@ use borrow.Author.Tests.{ltb-true, ltb-false, le-ltb}
 use Rattle.numbers.specs.Numbers.{TOO-LONG, NO-SECTION, NO-ROW}
 use Rattle.text_bytes.specs.Bytes.{Bytes}
 use Rattle.text.specs.Lines.{LIMIT, lines}
-use Rattle.rows.specs.Rows.{Line, rowOf, rowCount, columnOf}
+use Rattle.rows.specs.Rows.{Line, rowOf, rowCount, cellAt}
 use Rattle.rows.specs.Counted.{Counted, counted, rowsIn}
-use Rattle.rows.proofs.Laws.Rowing.{row-beyond, row-within}
+use Rattle.rows.proofs.Laws.Finding.{row-beyond, row-within}
 use Rattle.scan.specs.Places.{lent}
 use Rattle.rules.specs.Rules.{breaks}
 use Rattle.scan.proofs.Laws.Putting.{put-count}
 use Rattle.mztab.specs.Judged.{Outcome, outcome, judged}
-use Rattle.mztab.specs.Shown.{Shown, refused, startOf, soughtCell, soughtRow, sought, given, shown}
+use Rattle.mztab.specs.Shown.{Shown, refused, cellStart, soughtCell, soughtRow, sought, given, shown}
 use Rattle.book.specs.Book.{isSection, bookOf}
 
 -- a row that is there is refused with 4, if at all
@@ -28,7 +28,7 @@ cell-there n c start (some b) e = omega arith
 
 row-there : (file : Bytes) (o : Option Line) (column : ℕ) → (o ≡ none → ⊥) → soughtRow file o column .number ≡ NO-ROW → ⊥
 row-there file none column ne e = ne refl
-row-there file (some l) column ne e = cell-there (l .line) (column + 1) (startOf file l column) (columnOf (l .text) column) e
+row-there file (some l) column ne e = cell-there (l .line) (column + 1) (cellStart file l column) (cellAt (l .text) column) e
 
 -- where `rows` counts k rows, `cell` finds no row r, from 1 on, exactly where r is beyond k
 pub rows-cell :

@@ -1,13 +1,13 @@
 -- `rows::column_of` meets its contract: there is no column 0. Assumes nothing.
 use borrow.Author.Tests.{eq-eqb}
 use borrow.Author.Needs.{needs}
-use Rattle.rows.specs.Rows.{columnOf}
-use Rattle.rows.proofs.Laws.Rowing.{column-cell}
+use Rattle.rows.specs.Rows.{cellAt}
+use Rattle.rows.proofs.Laws.Finding.{column-cell}
 use Rattle.rows.proofs.column_of.Statement.{statement}
 use Rattle.rows.proofs.column_of.Tie as tie
 
 returns : tie.Need-returns
-unfolding columnOf
+unfolding cellAt
 returns c = rw (eq-eqb (c .before .before .args .column) 0 (c .if1 .taken))
 
 returns-2 : tie.Need-returns-2

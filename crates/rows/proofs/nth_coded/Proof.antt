@@ -6,7 +6,7 @@ use lib.ListN.{length, drop, getElem?}
 use Rattle.text_bytes.specs.Places.{after}
 use Rattle.text.specs.Lines.{LF, lines}
 use Rattle.rows.specs.Rows.{numbered, having}
-use Rattle.rows.proofs.Laws.Rowing.{row-here, row-next, row-miss, row-none, start-first, start-next}
+use Rattle.rows.proofs.Laws.Finding.{row-here, row-next, row-miss, row-none, start-first, start-next}
 use Rattle.rows.proofs.nth_coded.Statement.{statement}
 use Rattle.rows.proofs.nth_coded.Tie as tie
 

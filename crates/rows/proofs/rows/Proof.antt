@@ -6,7 +6,7 @@ use borrow.Author.Tests.{not-true, not-false}
 use Rattle.text.specs.Lines.{lines}
 use Rattle.book.specs.Book.{isSection, bookOf}
 use Rattle.book.specs.Text.{bookIn}
-use Rattle.rows.proofs.Laws.Rowing.{rows-over, rows-nowhere, rows-there}
+use Rattle.rows.proofs.Laws.Finding.{rows-over, rows-nowhere, rows-there}
 use Rattle.rows.proofs.rows.Statement.{statement}
 use Rattle.rows.proofs.rows.Tie as tie
 

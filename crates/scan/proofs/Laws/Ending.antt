@@ -26,7 +26,7 @@ use Rattle.book.specs.Text.{entryFor}
 use Rattle.book.proofs.Laws.Sized.{howMany, isEach, isSound, sound-one, sound-each, sound-section, each-places, each-family, Sized}
 use Rattle.rules.specs.Breaks.{Break, breakAt, when, atCell, atEnd}
 use Rattle.rules.specs.Rules.{keyFound, asks, isDeclared, isPresent, isFor, isAsked, isWanted, hasKey, isUnmet, endRules, ends}
-use Rattle.scan.specs.Machine.{isSlot, hasSlot, Slots, isMarked, Seen, Tells, isAskedIn, isForIn, firstSlot, endSlot, isLacking, wantBreaks, endBreaks}
+use Rattle.scan.specs.Machine.{isSlot, hasSlot, Slots, isMarked, Seen, SeenOf, isAskedIn, isForIn, firstSlot, endSlot, isLacking, wantBreaks, endBreaks}
 use Rattle.scan.proofs.Laws.Rowing.{test-eq}
 use Rattle.scan.proofs.Laws.Keeping.{any-alike}
 use Rattle.scan.proofs.Laws.Demanding.{listed, cells-listed}
@@ -329,7 +329,7 @@ module _ (b : Book) (sized : Sized b) (w : Want) (sound : isSound (b .keys) (w .
         ∙ any-alike (λ m. any (λ s. hasSlot b s m) (upFrom span begin)) (hasKey b w) line-slot F
 
 -- WHAT IS PUT AT THE END is what rule 21 gives
-module _ (b : Book) (sized : Sized b) (F : List Bytes) (x : Seen) (h : Tells b F x) where
+module _ (b : Book) (sized : Sized b) (F : List Bytes) (x : Seen) (h : SeenOf b F x) where
   assays-are : isMarked (getD (x .flags) ASSAYS []) 0 MOST ≡ isDeclared b F ASSAYS
   unfolding isMarked
   assays-are =

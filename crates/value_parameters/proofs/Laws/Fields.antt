@@ -11,8 +11,8 @@ use lib.ListN.{length, take, drop, getD, length-drop}
 use lib.Seq.{take-suc, take-all, getD-take, getD-drop, length-take-le}
 use Rattle.text_bytes.specs.Bytes.{all, onFirst, isSpace}
 use Rattle.text_bytes.specs.Places.{part}
-use Rattle.value_parameters.specs.Parameters.{turn, separates, quotedAfter, cut, hasFields, isParameter}
-use Rattle.value_parameters.specs.Scan.{state, start, more, held, step, run, good}
+use Rattle.value_parameters.specs.Parameters.{turn, separates, quotedAfter, cutOutside, hasFields, isParameter}
+use Rattle.value_parameters.specs.Scan.{state, start, oneMore, held, step, run, good}
 use Rattle.value_parameters.specs.declared.Scan.{Scan}
 use Rattle.value_parameters.proofs.Laws.Scans.{run-goes, run-all}
 
@@ -27,12 +27,12 @@ unfolding third
 third-past n ps h = rw (lt-leb n 2 h)
 
 fields : ℕ → Bool → Bool → List ℕ → Bool
-fields n q f x = eqb (n + length (cut 44 q x)) 4 && not (quotedAfter q x) && (f || third n (cut 44 q x))
+fields n q f x = eqb (n + length (cutOutside 44 q x)) 4 && not (quotedAfter q x) && (f || third n (cutOutside 44 q x))
 
-cut-some : (sep : ℕ) (q : Bool) (x : List ℕ) → length (cut sep q x) ≡ 0 → ⊥
-unfolding cut onFirst
+cut-some : (sep : ℕ) (q : Bool) (x : List ℕ) → length (cutOutside sep q x) ≡ 0 → ⊥
+unfolding cutOutside onFirst
 cut-some sep q [] h = omega arith
-cut-some sep q (b ∷ x) h = go (separates sep q b) (cut sep (turn q b) x) h
+cut-some sep q (b ∷ x) h = go (separates sep q b) (cutOutside sep (turn q b) x) h
   where
     go : (t : Bool) (ps : List (List ℕ)) → length (cond t ([] ∷ ps) (onFirst b ps)) ≡ 0 → ⊥
     go true ps e = omega arith
@@ -66,7 +66,7 @@ module _ (b : ℕ) (f : Bool) where
   inner-fields n u (p ∷ ps) h = rw (inner-third n p ps)
 
 -- a comma outside marks ends the first field
-comma-count : (n : ℕ) (ps : List (List ℕ)) → (length ps ≡ 0 → ⊥) → eqb (n + suc (length ps)) 4 ≡ eqb (more n + length ps) 4
+comma-count : (n : ℕ) (ps : List (List ℕ)) → (length ps ≡ 0 → ⊥) → eqb (n + suc (length ps)) 4 ≡ eqb (oneMore n + length ps) 4
 comma-count n ps h = go (ltb n 4) refl
   where
     go : (t : Bool) → ltb n 4 ≡ t → eqb (n + suc (length ps)) 4 ≡ eqb (cond t (n + 1) n + length ps) 4
@@ -75,20 +75,20 @@ comma-count n ps h = go (ltb n 4) refl
         let w : 4 ≤ n = ltb-false n 4 e in
         ne-eqb (n + suc (length ps)) 4 (λ z. omega arith) ∙ sym (ne-eqb (n + length ps) 4 (λ z. h (omega arith)))
 
-more-le : (n : ℕ) → n ≤ more n
+more-le : (n : ℕ) → n ≤ oneMore n
 more-le n = go (ltb n 4)
   where
     go : (t : Bool) → n ≤ cond t (n + 1) n
     go true = omega arith
     go false = omega arith
 
-comma-third : (n : ℕ) (ps : List (List ℕ)) → third n ([] ∷ ps) ≡ third (more n) ps
+comma-third : (n : ℕ) (ps : List (List ℕ)) → third n ([] ∷ ps) ≡ third (oneMore n) ps
 unfolding third all
 comma-third zero ps = refl
 comma-third (suc zero) ps = refl
 comma-third (suc (suc zero)) ps = refl
 comma-third (suc (suc (suc n))) ps =
-    third-past (suc (suc (suc n))) ([] ∷ ps) (omega arith) ∙ sym (third-past (more (suc (suc (suc n)))) ps (omega (arith, more-le (suc (suc (suc n))))))
+    third-past (suc (suc (suc n))) ([] ∷ ps) (omega arith) ∙ sym (third-past (oneMore (suc (suc (suc n)))) ps (omega (arith, more-le (suc (suc (suc n))))))
 
 third-none : (n : ℕ) → third n ([] ∷ []) ≡ false
 unfolding third all
@@ -99,18 +99,18 @@ third-none n = rw (nothing (2 - n)) (and-false (leb n 2))
     nothing (suc k) = refl
 
 verdict : (i n : ℕ) (q f : Bool) (x : List ℕ) → good (run false (state i n q f) x) ≡ fields n q f x
-unfolding run fields cut quotedAfter
+unfolding run fields cutOutside quotedAfter
 verdict i n q f [] = rw (third-none n, or-false f, add-one n, eqb·suc-suc n 3)
 verdict i n q f (b ∷ x) = go (separates 44 q b) (λ m g. verdict (i + 1) m (turn q b) g x)
   where
     ps : List (List ℕ)
-    ps = cut 44 (turn q b) x
+    ps = cutOutside 44 (turn q b) x
 
     go : (t : Bool)
         → ((m : ℕ) (g : Bool) → good (run false (state (i + 1) m (turn q b) g) x) ≡ (eqb (m + length ps) 4 && not (quotedAfter (turn q b) x) && (g || third m ps)))
-        → good (run false (state (i + 1) (cond t (more n) n) (turn q b) (cond t f (held n f b))) x)
+        → good (run false (state (i + 1) (cond t (oneMore n) n) (turn q b) (cond t f (held n f b))) x)
         ≡ (eqb (n + length (cond t ([] ∷ ps) (onFirst b ps))) 4 && not (quotedAfter (turn q b) x) && (f || third n (cond t ([] ∷ ps) (onFirst b ps))))
-    go true ih = ih (more n) f ∙ rw (comma-count n ps (cut-some 44 (turn q b) x), comma-third n ps)
+    go true ih = ih (oneMore n) f ∙ rw (comma-count n ps (cut-some 44 (turn q b) x), comma-third n ps)
     go false ih = ih n (held n f b) ∙ sym (inner-fields b f n (not (quotedAfter (turn q b) x)) ps (cut-some 44 (turn q b) x))
 
 -- THE BRACKETS
@@ -130,7 +130,7 @@ last-byte z k h = sym (take-all (suc k) z (omega arith)) ∙ take-suc z k 0 (ome
 
 fields-are : (x : List ℕ) → fields 0 false false x ≡ hasFields x
 unfolding fields third hasFields
-fields-are x = let z : 0 + length (cut 44 false x) ≡ length (cut 44 false x) = omega arith in rw z
+fields-are x = let z : 0 + length (cutOutside 44 false x) ≡ length (cutOutside 44 false x) = omega arith in rw z
 
 closed : (i : ℕ) (z : List ℕ) (k : ℕ) → length z ≡ suc k → getD z k 0 ≡ 93 → good (run false (state i 0 false false) z) ≡ hasFields (take k z)
 unfolding run

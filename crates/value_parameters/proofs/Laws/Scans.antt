@@ -14,8 +14,8 @@ use lib.Seq.{drop-drop, take-all, length-take-le}
 use Rattle.text_bytes.specs.Bytes.{all, onFirst}
 use Rattle.text_bytes.specs.Places.{part}
 use Rattle.text_bytes.proofs.Laws.Pieces.{drop-step}
-use Rattle.value_parameters.specs.Parameters.{turn, separates, cut}
-use Rattle.value_parameters.specs.Scan.{state, start, more, held, step, run}
+use Rattle.value_parameters.specs.Parameters.{turn, separates, cutOutside}
+use Rattle.value_parameters.specs.Scan.{state, start, oneMore, held, step, run}
 use Rattle.value_parameters.specs.declared.Scan.{Scan}
 
 -- ONE BYTE MORE
@@ -52,13 +52,13 @@ module _ (bars : Bool) (l : List ℕ) (i e : ℕ) (h : i < e) (k : e ≤ length 
   run-stops n f b = run-next (state i n false f) ∙ rw b
 
   pub run-outer :
-      (n m : ℕ) (f g : Bool) → (getD l i 0 ≡ 34 → ⊥) → (bars && eqb (getD l i 0) 124) ≡ false → m ≡ cond (eqb (getD l i 0) 44) (more n) n
+      (n m : ℕ) (f g : Bool) → (getD l i 0 ≡ 34 → ⊥) → (bars && eqb (getD l i 0) 124) ≡ false → m ≡ cond (eqb (getD l i 0) 44) (oneMore n) n
       → g ≡ cond (eqb (getD l i 0) 44) f (held n f (getD l i 0)) → run bars (state i n false f) (part i e l) ≡ run bars (state (i + 1) m false g) (part (i + 1) e l)
   run-outer n m f g b s v w = run-next (state i n false f) ∙ rw (s, ne-eqb (getD l i 0) 34 b, v, w)
 
   -- a comma, and a byte of a field
   pub run-comma :
-      (n m : ℕ) (f : Bool) → (getD l i 0 ≡ 34 → ⊥) → (bars && eqb (getD l i 0) 124) ≡ false → getD l i 0 ≡ 44 → m ≡ cond (eqb (getD l i 0) 44) (more n) n
+      (n m : ℕ) (f : Bool) → (getD l i 0 ≡ 34 → ⊥) → (bars && eqb (getD l i 0) 124) ≡ false → getD l i 0 ≡ 44 → m ≡ cond (eqb (getD l i 0) 44) (oneMore n) n
       → run bars (state i n false f) (part i e l) ≡ run bars (state (i + 1) m false f) (part (i + 1) e l)
   run-comma n m f b s c v = run-outer n m f f b s v (rw (eq-eqb (getD l i 0) 44 c))
 
@@ -183,8 +183,8 @@ bar-outside : (q : Bool) (b : ℕ) → separates 124 q b ≡ true → turn q b �
 bar-outside true b e = absurd (let z : _≡_ {A = ℕ} 0 1 = cc in omega arith)
 bar-outside false b e = rw (ne-eqb b 34 (λ z. omega (arith, eqb-true b 124 e)))
 
-cut-bar : (q : Bool) (x : List ℕ) → reach q x < length x → cut 124 q x ≡ take (reach q x) x ∷ cut 124 false (drop (reach q x + 1) x)
-unfolding cut reach onFirst
+cut-bar : (q : Bool) (x : List ℕ) → reach q x < length x → cutOutside 124 q x ≡ take (reach q x) x ∷ cutOutside 124 false (drop (reach q x + 1) x)
+unfolding cutOutside reach onFirst
 cut-bar q [] h = absurd (omega arith)
 cut-bar q (b ∷ x) h = go (separates 124 q b) refl h (cut-bar (turn q b) x)
   where
@@ -192,21 +192,21 @@ cut-bar q (b ∷ x) h = go (separates 124 q b) refl h (cut-bar (turn q b) x)
     m = reach (turn q b) x
 
     go : (t : Bool) → separates 124 q b ≡ t → cond t 0 (suc m) < suc (length x)
-        → (m < length x → cut 124 (turn q b) x ≡ take m x ∷ cut 124 false (drop (m + 1) x))
-        → cond t ([] ∷ cut 124 (turn q b) x) (onFirst b (cut 124 (turn q b) x)) ≡ take (cond t 0 (suc m)) (b ∷ x) ∷ cut 124 false (drop (cond t 0 (suc m) + 1) (b ∷ x))
+        → (m < length x → cutOutside 124 (turn q b) x ≡ take m x ∷ cutOutside 124 false (drop (m + 1) x))
+        → cond t ([] ∷ cutOutside 124 (turn q b) x) (onFirst b (cutOutside 124 (turn q b) x)) ≡ take (cond t 0 (suc m)) (b ∷ x) ∷ cutOutside 124 false (drop (cond t 0 (suc m) + 1) (b ∷ x))
     go true e k ih = rw (bar-outside q b e)
     go false e k ih = rw (ih (omega arith), add-one m, add-one (suc m))
 
-cut-last : (q : Bool) (x : List ℕ) → reach q x ≡ length x → cut 124 q x ≡ x ∷ []
-unfolding cut reach onFirst
+cut-last : (q : Bool) (x : List ℕ) → reach q x ≡ length x → cutOutside 124 q x ≡ x ∷ []
+unfolding cutOutside reach onFirst
 cut-last q [] h = refl
 cut-last q (b ∷ x) h = go (separates 124 q b) h (cut-last (turn q b) x)
   where
     m : ℕ
     m = reach (turn q b) x
 
-    go : (t : Bool) → cond t 0 (suc m) ≡ suc (length x) → (m ≡ length x → cut 124 (turn q b) x ≡ x ∷ [])
-        → cond t ([] ∷ cut 124 (turn q b) x) (onFirst b (cut 124 (turn q b) x)) ≡ (b ∷ x) ∷ []
+    go : (t : Bool) → cond t 0 (suc m) ≡ suc (length x) → (m ≡ length x → cutOutside 124 (turn q b) x ≡ x ∷ [])
+        → cond t ([] ∷ cutOutside 124 (turn q b) x) (onFirst b (cutOutside 124 (turn q b) x)) ≡ (b ∷ x) ∷ []
     go true k ih = absurd (omega arith)
     go false k ih = rw (ih (omega arith))
 
@@ -241,27 +241,27 @@ module _ (l : List ℕ) (at : ℕ) (st : Scan) (h : at ≤ length l) where
     unfolding r
     bar-run = let z : st .at - at ≡ r = omega (arith, bar-place) in w ∙ run-part (start at) (drop at l) ∙ rw z
 
-    bar-cut : st .at < length l → cut 124 false (drop at l) ≡ part at (st .at) l ∷ cut 124 false (drop (st .at + 1) l)
+    bar-cut : st .at < length l → cutOutside 124 false (drop at l) ≡ part at (st .at) l ∷ cutOutside 124 false (drop (st .at + 1) l)
     unfolding r
     bar-cut lt =
         let z : st .at - at ≡ r = omega (arith, bar-place) in
         let j : st .at + 1 ≡ at + (r + 1) = omega (arith, bar-place) in
         rw (z, j, ← drop-drop (r + 1) at l) (cut-bar false (drop at l) (omega (arith, bar-place, length-drop at l)))
 
-    bar-end : st .at ≡ length l → cut 124 false (drop at l) ≡ part at (st .at) l ∷ []
+    bar-end : st .at ≡ length l → cutOutside 124 false (drop at l) ≡ part at (st .at) l ∷ []
     unfolding r
     bar-end q =
         rw (take-all (st .at - at) (drop at l) (omega (arith, length-drop at l))) (cut-last false (drop at l) (omega (arith, bar-place, length-drop at l)))
 
     module _ (p : List ℕ → Bool) where
-      pub bar-good : st .at < length l → p (part at (st .at) l) ≡ true → all p (cut 124 false (drop at l)) ≡ all p (cut 124 false (drop (st .at + 1) l))
+      pub bar-good : st .at < length l → p (part at (st .at) l) ≡ true → all p (cutOutside 124 false (drop at l)) ≡ all p (cutOutside 124 false (drop (st .at + 1) l))
       unfolding all
       bar-good lt g = rw (bar-cut lt, g)
 
-      pub bar-last : st .at ≡ length l → p (part at (st .at) l) ≡ true → all p (cut 124 false (drop at l)) ≡ true
+      pub bar-last : st .at ≡ length l → p (part at (st .at) l) ≡ true → all p (cutOutside 124 false (drop at l)) ≡ true
       unfolding all
       bar-last q g = rw (bar-end q, g)
 
-      pub bar-bad : p (part at (st .at) l) ≡ false → all p (cut 124 false (drop at l)) ≡ false
+      pub bar-bad : p (part at (st .at) l) ≡ false → all p (cutOutside 124 false (drop at l)) ≡ false
       unfolding all
       bar-bad g = ⊎-elim (λ (q : st .at ≡ length l). rw (bar-end q, g)) (λ (q : st .at < length l). rw (bar-cut q, g)) (eq-or-lt-of-le (bar-within .1))

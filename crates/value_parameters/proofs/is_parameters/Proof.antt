@@ -6,13 +6,13 @@ use mathlib.Core.Bool.{false}
 use borrow.Author.Tests.{not-true, not-false}
 use lib.ListN.{length, drop}
 use Rattle.text_bytes.specs.Bytes.{all, BAR}
-use Rattle.value_parameters.specs.Parameters.{cut, isParameter, isParameters}
+use Rattle.value_parameters.specs.Parameters.{cutOutside, isParameter, isParameters}
 use Rattle.value_parameters.proofs.Laws.Scans.{bar-within, bar-run, bar-good, bar-last, bar-bad}
 use Rattle.value_parameters.proofs.is_parameters.Statement.{statement}
 use Rattle.value_parameters.proofs.is_parameters.Tie as tie
 
 abbrev Inv-loop : tie.InvT-loop
-Inv-loop s at₀ at = (at ≤ length s) × (isParameters s ≡ all isParameter (cut BAR false (drop at s)))
+Inv-loop s at₀ at = (at ≤ length s) × (isParameters s ≡ all isParameter (cutOutside BAR false (drop at s)))
 
 abbrev μ-loop : tie.MeasureT-loop
 μ-loop s at₀ at = length s - at

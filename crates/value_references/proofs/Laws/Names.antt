@@ -13,7 +13,7 @@ use Rattle.text_bytes.specs.Places.{part, Ends}
 use Rattle.text_bytes.proofs.Laws.Begins.{begins-is, begins-self}
 use Rattle.text_bytes.proofs.Laws.Pieces.{drop-step, piece-cut, piece-last}
 use Rattle.value_references.specs.Index.{written, indexAt}
-use Rattle.value_references.specs.References.{alone, refTo, trimmed, spaced, refsTo, isIndex, isReferences, names, Tells}
+use Rattle.value_references.specs.References.{alone, refTo, trimmed, spaced, refsTo, isIndex, isReferences, refersTo, Tells}
 use Rattle.value_references.specs.declared.index.Index.{Index}
 use Rattle.value_references.specs.declared.index.Flaw.{Flaw}
 use Rattle.value_references.specs.declared.index.Index.the-variants.{Not, Bad, Is}
@@ -176,7 +176,7 @@ marked-at t i j h k = go (eqb i 0) refl (eqb j i) refl
 pub record SoFar (w s : List ℕ) (at : ℕ) (g : Bool) (t : List Bool) : Type 0 where
   pub width : length t ≡ 64
   pub good : isReferences w s ≡ (g && isReferences w (drop at s))
-  pub named : (j : ℕ) → 1 ≤ j → j ≤ 64 → names j w s ≡ (getD t (j - 1) false || names j w (drop at s))
+  pub named : (j : ℕ) → 1 ≤ j → j ≤ 64 → refersTo j w s ≡ (getD t (j - 1) false || refersTo j w (drop at s))
 
 pub told-start : (w s : List ℕ) → SoFar w s 0 true (replicate 64 false)
 told-start w s = record {

@@ -18,7 +18,7 @@ use Rattle.mztab.specs.Judged.{outcome as judgedAs, judged}
 use Rattle.mztab.proofs.Laws.Counting.{judged-count}
 use Rattle.fee.proofs.Laws.Theorems.{list-length, list-at}
 use Rattle.weights.specs.Weights.{PROTEIN, VARIABLES, weightOf, weightsOf, refusal, outcome, weighed}
-use Rattle.weights.specs.Marks.{Marked, linesAdd, Room, Adds}
+use Rattle.weights.specs.Marks.{Marked, linesAdd, Room, Raises}
 use Rattle.weights.specs.declared.Marks.{Marks}
 use Rattle.weights.proofs.Laws.Weighing.{weighed-lines, weight-most}
 
@@ -80,7 +80,7 @@ module _ (file : Bytes) (fits : length file ≤ LIMIT) (kept : breaks file ≡ [
   pub weights-room : Room (λ (i : ℕ). linesAdd (m .of) i (lines file)) zs
   weights-room = record { long = long; fits = λ i h. omega (arith, added i h, weight-most file (suc i)) }
 
-  pub weights-all : {ws : List ℕ} → Adds (λ (i : ℕ). linesAdd (m .of) i (lines file)) zs ws → ws ≡ weightsOf file
+  pub weights-all : {ws : List ℕ} → Raises (λ (i : ℕ). linesAdd (m .of) i (lines file)) zs ws → ws ≡ weightsOf file
   weights-all {ws} a =
       ext-getD 0 ws (weightsOf file) (a .long ∙ long ∙ sym (list-length VARIABLES (λ (i : ℕ). weightOf file (suc i))))
       (λ i h.

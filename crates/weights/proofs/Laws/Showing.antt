@@ -12,9 +12,9 @@ use borrow.Author.Tests.{le-ltb}
 use Rattle.text_bytes.specs.Bytes.{Bytes, is, count}
 use Rattle.text.specs.Lines.{LIMIT, lines, coded}
 use Rattle.book.specs.Book.{rowCode, mzTab, bookOf, isSection}
-use Rattle.rows.specs.Rows.{Line, lineOf, numbered, having, rowOf, rowCount, headerOf, columnNamed, columnOf}
-use Rattle.rows.proofs.Laws.Rowing.{row-coded, rows-long}
-use Rattle.mztab.specs.Shown.{Sought, soughtCell, soughtRow, startOf, sought}
+use Rattle.rows.specs.Rows.{Line, lineOf, numbered, having, rowOf, rowCount, headerOf, columnNamed, cellAt}
+use Rattle.rows.proofs.Laws.Finding.{row-coded, rows-long}
+use Rattle.mztab.specs.Shown.{Sought, soughtCell, soughtRow, cellStart, sought}
 use Rattle.fee.specs.Sums.{sumTo, bit}
 use Rattle.fee.proofs.Laws.Sums.{sum-same}
 use Rattle.weights.specs.Weights.{PROTEIN, abundance, isGiven, hasIn, weightOf}
@@ -26,7 +26,7 @@ isShown s = eqb (s .number) 0 && not (is (s .view) "null")
 -- a cell of a row that may not be there
 abbrev given : ℕ → Option Line → Bool
 given c none = false
-given c (some l) = isGiven (columnOf (l .text) c)
+given c (some l) = isGiven (cellAt (l .text) c)
 
 -- a sum from its first number on
 sum-first : (n : ℕ) (f : ℕ → ℕ) → sumTo (suc n) f ≡ f 0 + sumTo n (λ (i : ℕ). f (suc i))
@@ -39,12 +39,12 @@ rows-given : (c n : ℕ) (ls : List Bytes)
     → sumTo (length (having (rowCode mzTab PROTEIN) (numbered n ls))) (λ (j : ℕ). bit (given c (getElem? (having (rowCode mzTab PROTEIN) (numbered n ls)) j))) ≡ count (hasIn c) ls
 unfolding having numbered count hasIn sumTo
 rows-given c n [] = refl
-rows-given c n (l ∷ ls) = go (coded (rowCode mzTab PROTEIN) l) (isGiven (columnOf l c)) refl (rows-given c (suc n) ls)
+rows-given c n (l ∷ ls) = go (coded (rowCode mzTab PROTEIN) l) (isGiven (cellAt l c)) refl (rows-given c (suc n) ls)
   where
     rest : List Line
     rest = having (rowCode mzTab PROTEIN) (numbered (suc n) ls)
 
-    go : (t u : Bool) → isGiven (columnOf l c) ≡ u → sumTo (length rest) (λ (j : ℕ). bit (given c (getElem? rest j))) ≡ count (hasIn c) ls
+    go : (t u : Bool) → isGiven (cellAt l c) ≡ u → sumTo (length rest) (λ (j : ℕ). bit (given c (getElem? rest j))) ≡ count (hasIn c) ls
         → sumTo (length (cond t (lineOf n l ∷ rest) rest)) (λ (j : ℕ). bit (given c (getElem? (cond t (lineOf n l ∷ rest) rest) j))) ≡ cond (t && u) (suc (count (hasIn c) ls)) (count (hasIn c) ls)
     go true true e h = omega (arith, sum-first (length rest) (λ (j : ℕ). bit (given c (getElem? (lineOf n l ∷ rest) j))), ap bit e)
     go true false e h = omega (arith, sum-first (length rest) (λ (j : ℕ). bit (given c (getElem? (lineOf n l ∷ rest) j))), ap bit e)
@@ -57,7 +57,7 @@ cell-shown n c start (some b) = refl
 
 row-shown : (file : Bytes) (o : Option Line) (c : ℕ) → isShown (soughtRow file o c) ≡ given c o
 row-shown file none c = refl
-row-shown file (some l) c = cell-shown (l .line) (c + 1) (startOf file l c) (columnOf (l .text) c)
+row-shown file (some l) c = cell-shown (l .line) (c + 1) (cellStart file l c) (cellAt (l .text) c)
 
 module _ (file : Bytes) (fits : length file ≤ LIMIT) (c : ℕ) where
   abbrev protein : List Line

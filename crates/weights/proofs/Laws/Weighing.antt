@@ -16,8 +16,8 @@ use Rattle.text_bytes.proofs.Laws.Same.{same-equal, same-self}
 use Rattle.text.proofs.Laws.Counts.{count-most, count-less, lines-most}
 use Rattle.value_references.specs.References.{refTo}
 use Rattle.value_references.proofs.Laws.Names.{ref-read, ref-written}
-use Rattle.rows.specs.Rows.{Line, rowOf, textOf, headerOf, placeOf, columnNamed, columnOf}
-use Rattle.rows.proofs.Laws.Rowing.{header-line}
+use Rattle.rows.specs.Rows.{Line, rowOf, textOf, headerOf, placeOf, columnNamed, cellAt}
+use Rattle.rows.proofs.Laws.Finding.{header-line}
 use Rattle.rules.specs.Sorts.{isHeader}
 use Rattle.rules.specs.Rules.{breaks}
 use Rattle.rules.proofs.Laws.Accepted.{accepted-width, accepted-apart, header-coded}
@@ -25,8 +25,8 @@ use Rattle.fee.specs.Sums.{bit}
 use Rattle.weights.specs.Weights.{PROTEIN, WORD, abundance, isGiven, hasIn, weightOf}
 use Rattle.weights.specs.Marks.{variableOf, Marked, adds, marks, linesAdd}
 use Rattle.weights.specs.declared.Marks.{Marks}
-use Rattle.weights.proofs.Laws.Marking.{none-named}
-use Rattle.weights.proofs.Laws.Adding.{adds-none, adds-alike}
+use Rattle.weights.proofs.Laws.Columning.{none-named}
+use Rattle.weights.proofs.Laws.Raising.{adds-none, adds-alike}
 
 -- a header that an accepted file has: at most 256 cells, no two columns of one name, and its first cell is the name of none
 record Sound (header : Bytes) : Type 0 where
@@ -195,8 +195,8 @@ module _ {header : Bytes} (sound : Sound header) (i : ℕ) (lo : 1 ≤ i) (hi : 
                 sound .apart c (suc j) (there .0) (omega arith) (ltb-true (suc j) (length (cells header)) h) alike
 
   -- WHAT A ROW ADDS is one where its cell is not `null`
-  row-adds : (l : Bytes) → adds p 0 (cells l) ≡ bit (isGiven (columnOf l c))
-  unfolding columnOf
+  row-adds : (l : Bytes) → adds p 0 (cells l) ≡ bit (isGiven (cellAt l c))
+  unfolding cellAt
   row-adds l = go (eqb c 0) refl
     where
       go : (t : Bool) → eqb c 0 ≡ t → adds p 0 (cells l) ≡ bit (isGiven (cond t none (getElem? (cells l) c)))
@@ -220,12 +220,12 @@ module _ {header : Bytes} (sound : Sound header) (i : ℕ) (lo : 1 ≤ i) (hi : 
     lines-count : (ls : List Bytes) → linesAdd (m .of) i ls ≡ count (hasIn c) ls
     unfolding linesAdd count hasIn
     lines-count [] = refl
-    lines-count (l ∷ ls) = go (coded (rowCode mzTab PROTEIN) l) (isGiven (columnOf l c)) refl (lines-count ls)
+    lines-count (l ∷ ls) = go (coded (rowCode mzTab PROTEIN) l) (isGiven (cellAt l c)) refl (lines-count ls)
       where
-        row : adds (marks (m .of) i) 0 (cells l) ≡ bit (isGiven (columnOf l c))
+        row : adds (marks (m .of) i) 0 (cells l) ≡ bit (isGiven (cellAt l c))
         row = adds-alike (marks (m .of) i) p 0 (cells l) marks-alike ∙ row-adds l
 
-        go : (t u : Bool) → isGiven (columnOf l c) ≡ u → linesAdd (m .of) i ls ≡ count (hasIn c) ls
+        go : (t u : Bool) → isGiven (cellAt l c) ≡ u → linesAdd (m .of) i ls ≡ count (hasIn c) ls
             → cond t (adds (marks (m .of) i) 0 (cells l)) 0 + linesAdd (m .of) i ls ≡ cond (t && u) (suc (count (hasIn c) ls)) (count (hasIn c) ls)
         go true true e h = omega (arith, row, ap bit e)
         go true false e h = omega (arith, row, ap bit e)
@@ -253,7 +253,7 @@ unfolding hasIn
 not-has c l e = rw (not-row l e)
 
 none-has : (name l : Bytes) → hasIn (columnNamed [] name) l ≡ false
-unfolding hasIn columnOf placeOf splitOn
+unfolding hasIn cellAt placeOf splitOn
 none-has name l = and-false (coded (rowCode mzTab PROTEIN) l)
 
 count-zero : (p : Bytes → Bool) → ((l : Bytes) → p l ≡ false) → (ls : List Bytes) → count p ls ≡ 0

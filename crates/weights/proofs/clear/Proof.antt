@@ -4,7 +4,7 @@ use Prim.Native.Nat.{ℕ, _-_, _≤_, _<_}
 use native.Mathlib.Omega.{arith}
 use borrow.Author.Needs.{needs}
 use lib.ListN.{length, getD}
-use Rattle.weights.proofs.Laws.Adding.{zero-next, zero-all}
+use Rattle.weights.proofs.Laws.Raising.{zero-next, zero-all}
 use Rattle.weights.proofs.clear.Statement.{statement}
 use Rattle.weights.proofs.clear.Tie as tie
 

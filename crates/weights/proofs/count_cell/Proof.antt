@@ -2,7 +2,7 @@
 use mathlib.Core.Path.{sym, _∙_}
 use borrow.Author.Needs.{needs}
 use Rattle.text_bytes.specs.Bytes.{bytes}
-use Rattle.weights.proofs.Laws.Adding.{cell-unmarked, cell-null, cell-counts}
+use Rattle.weights.proofs.Laws.Raising.{cell-unmarked, cell-null, cell-counts}
 use Rattle.weights.proofs.count_cell.Statement.{statement}
 use Rattle.weights.proofs.count_cell.Tie as tie
 

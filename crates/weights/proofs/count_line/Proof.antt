@@ -3,7 +3,7 @@ use mathlib.Core.Path.{sym, _∙_}
 use borrow.Author.Needs.{needs}
 use Rattle.text_bytes.specs.Bytes.{bytes}
 use Rattle.book.specs.Book.{isSection, mzTab, sectionOf}
-use Rattle.weights.proofs.Laws.Adding.{row-room, row-counted, other-line}
+use Rattle.weights.proofs.Laws.Raising.{row-room, row-counted, other-line}
 use Rattle.weights.proofs.count_line.Statement.{statement}
 use Rattle.weights.proofs.count_line.Tie as tie
 

@@ -6,7 +6,7 @@ use borrow.Author.Needs.{needs}
 use lib.ListN.{length, drop, getD}
 use Rattle.text.specs.Lines.{lines}
 use Rattle.weights.specs.Marks.{linesAdd}
-use Rattle.weights.proofs.Laws.Adding.{line-room, line-counted, lines-none}
+use Rattle.weights.proofs.Laws.Raising.{line-room, line-counted, lines-none}
 use Rattle.weights.proofs.count_lines.Statement.{statement}
 use Rattle.weights.proofs.count_lines.Tie as tie
 

@@ -6,7 +6,7 @@ use borrow.Author.Needs.{needs}
 use lib.ListN.{length, drop, getD}
 use Rattle.text.specs.Lines.{cells}
 use Rattle.weights.specs.Marks.{adds, marks as marked}
-use Rattle.weights.proofs.Laws.Adding.{turn-next, turn-last, turn-none}
+use Rattle.weights.proofs.Laws.Raising.{turn-next, turn-last, turn-none}
 use Rattle.weights.proofs.count_row.Statement.{statement}
 use Rattle.weights.proofs.count_row.Tie as tie
 

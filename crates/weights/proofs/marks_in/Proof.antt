@@ -3,7 +3,7 @@ use Prim.Native.Nat.{_-_, _≤_}
 use native.Mathlib.Omega.{arith}
 use borrow.Author.Needs.{needs}
 use lib.ListN.{length}
-use Rattle.weights.proofs.Laws.Marking.{SoFar, marks-start, marks-next, marks-last, marks-full}
+use Rattle.weights.proofs.Laws.Columning.{SoFar, marks-start, marks-next, marks-last, marks-full}
 use Rattle.weights.proofs.marks_in.Statement.{statement}
 use Rattle.weights.proofs.marks_in.Tie as tie
 

@@ -9,7 +9,7 @@ use Rattle.text_bytes.specs.Places.{part, after}
 use Rattle.text.specs.Lines.{LF}
 use Rattle.book.specs.Book.{isSection, mzTab, bookOf}
 use Rattle.rows.specs.Rows.{lineOf, rowOf, textOf}
-use Rattle.rows.proofs.Laws.Rowing.{row-found, row-missing}
+use Rattle.rows.proofs.Laws.Finding.{row-found, row-missing}
 use Rattle.weights.specs.Weights.{PROTEIN}
 use Rattle.weights.specs.Marks.{Marked}
 use Rattle.weights.proofs.marks_of.Statement.{statement}

@@ -4,7 +4,7 @@ use native.Mathlib.Omega.{arith}
 use mathlib.Core.Path.{_≡_, ap, _∙_}
 use Prim.Native.Nat.{_-_}
 use lib.ListN.{length, take}
-use Rattle.book.specs.Text.{STARTS, LINKS}
+use Rattle.book.specs.Text.{FRONT, LINKS}
 use Rattle.book.proofs.Laws.Laying.{TableAt, table-at, Midway, midway-start, midway-turn, midway-end}
 use Rattle.book.proofs.layout.link_tables.Statement.{statement}
 use Rattle.book.proofs.layout.link_tables.Tie as tie
@@ -23,7 +23,7 @@ at-table : (c : tie.After-links-at Inv-loop μ-loop) → TableAt (loop-of c .bef
 at-table c =
     let s = loop-of c .before .before .before in
     let same = s .pre .1 .1 in
-    table-at _ _ _ _ _ (c .before .before .before .loop-test .taken) (ap length same ∙ s .pre .0) (ap (take STARTS) same ∙ s .pre .1 .0) (c .before .before .rows-at .ensures) (c .before .rows-at2 .ensures) (c .links-at .ensures)
+    table-at _ _ _ _ _ (c .before .before .before .loop-test .taken) (ap length same ∙ s .pre .0) (ap (take FRONT) same ∙ s .pre .1 .0) (c .before .before .rows-at .ensures) (c .before .rows-at2 .ensures) (c .links-at .ensures)
 
 loop-holds : tie.Need-loop-holds Inv-loop μ-loop
 loop-holds c = let s = c .before .before in midway-start (s .args .text .now) (s .pre .0) (s .pre .1 .0)

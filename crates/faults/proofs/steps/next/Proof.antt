@@ -7,8 +7,8 @@ use Rattle.rules.specs.Rules.{breaksBy}
 use Rattle.scan.specs.Places.{Lent}
 use Rattle.scan.proofs.Laws.Placing.{placed-length}
 use Rattle.scan.proofs.Laws.Scanning.{breaks-bound}
-use Rattle.faults.specs.Steps.{ROOM}
-use Rattle.judging.specs.Parts.{total}
+use Rattle.faults.specs.Steps.{PLACES}
+use Rattle.judging.specs.Parts.{putSoFar}
 use Rattle.faults.proofs.Laws.Stepping.{found-all, step-moves, step-less}
 use Rattle.faults.proofs.steps.next.Statement.{statement}
 use Rattle.faults.proofs.steps.next.Tie as tie
@@ -47,8 +47,8 @@ returns c =
     let p = said .0 in
     let from = c .before .before .before .least .ensures in
     let fit = c .least2 .ensures in
-    let room = placed-length (take (at-part .next-part .result .stand .held) (drop (total (s .args .s .carried .stand)) (breaksBy (bookOf (lines file)) (lines file)))) (s .args .places .now) 0 in
-    let kept : length (at-part .next-part .last .0) ≡ ROOM = ap (λ (o : Lent). length (o .places)) (p .puts) ∙ room ∙ wide in (
+    let room = placed-length (take (at-part .next-part .result .stand .held) (drop (putSoFar (s .args .s .carried .stand)) (breaksBy (bookOf (lines file)) (lines file)))) (s .args .places .now) 0 in
+    let kept : length (at-part .next-part .last .0) ≡ PLACES = ap (λ (o : Lent). length (o .places)) (p .puts) ∙ room ∙ wide in (
       record { number = good .number; counted = refl; going = said .1 .0; done = λ q. p .all q ∙ ap length (sym (found-all file limit)) },
       (
         record {

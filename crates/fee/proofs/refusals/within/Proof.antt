@@ -4,7 +4,7 @@ use Prim.Native.Nat.{_+_}
 use native.Mathlib.Omega.{arith}
 use borrow.Author.Tests.{lt-leb}
 use Rattle.fee.specs.Amounts.{LIMIT}
-use Rattle.fee.proofs.Laws.Turns.{room-left}
+use Rattle.fee.proofs.Laws.Rounds.{room-left}
 use Rattle.fee.proofs.refusals.within.Statement.{statement}
 use Rattle.fee.proofs.refusals.within.Tie as tie
 

@@ -3,7 +3,7 @@ use mathlib.Core.Path.{refl}
 use Prim.Native.Nat.{_*_, _^_, _<_}
 use native.Mathlib.Omega.{arith}
 use borrow.Author.Needs.{needs}
-use Rattle.fee.proofs.Laws.Turns.{product-fits}
+use Rattle.fee.proofs.Laws.Rounds.{product-fits}
 use Rattle.fee.proofs.shares.part_of.Statement.{statement}
 use Rattle.fee.proofs.shares.part_of.Tie as tie
 

@@ -2,7 +2,7 @@
 use mathlib.Core.Path.{refl}
 use native.Mathlib.Omega.{arith}
 use borrow.Author.Needs.{needs}
-use Rattle.mztab.proofs.Laws.Placing.{placed-shown}
+use Rattle.mztab.proofs.Laws.Locating.{placed-shown}
 use Rattle.mztab.proofs.cells.cell.Statement.{statement}
 use Rattle.mztab.proofs.cells.cell.Tie as tie
 

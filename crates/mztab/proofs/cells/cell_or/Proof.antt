@@ -2,7 +2,7 @@
 use mathlib.Core.Path.{refl, sym, _∙_}
 use borrow.Author.Needs.{needs}
 use Rattle.text_bytes.specs.Bytes.{bytes}
-use Rattle.mztab.proofs.Laws.Placing.{or-null, or-kept, points-other, points-kept}
+use Rattle.mztab.proofs.Laws.Locating.{or-null, or-kept, points-other, points-kept}
 use Rattle.mztab.proofs.cells.cell_or.Statement.{statement}
 use Rattle.mztab.proofs.cells.cell_or.Tie as tie
 

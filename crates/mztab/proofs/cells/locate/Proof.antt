@@ -12,9 +12,9 @@ use Rattle.book.specs.Book.{isSection, bookOf}
 use Rattle.book.specs.Text.{bookIn}
 use Rattle.text_bytes.specs.Places.{part, after}
 use Rattle.text.specs.Lines.{TAB, LF, lines}
-use Rattle.rows.specs.Rows.{lineOf, rowOf, columnOf}
-use Rattle.rows.proofs.Laws.Rowing.{row-found, row-missing, column-found, column-missing, column-below}
-use Rattle.mztab.proofs.Laws.Placing.{placed-refused, placed-cell, sought-long, sought-nowhere, sought-no-row, sought-no-cell}
+use Rattle.rows.specs.Rows.{lineOf, rowOf, cellAt}
+use Rattle.rows.proofs.Laws.Finding.{row-found, row-missing, column-found, column-missing, column-below}
+use Rattle.mztab.proofs.Laws.Locating.{placed-refused, placed-cell, sought-long, sought-nowhere, sought-no-row, sought-no-cell}
 use Rattle.mztab.proofs.cells.locate.Statement.{statement}
 use Rattle.mztab.proofs.cells.locate.Tie as tie
 
@@ -45,7 +45,7 @@ cell-here :
     let at-line = c .before .before .before .before .before in
     let l = text-of at-line in
     let g = c .from .given .0 in
-    (g .0 ≤ g .1 .0) × (g .1 .0 ≤ length l) × (g .0 ≡ after TAB (at-line .before .before .before .before .before .before .before .before .before .args .column) l) × (columnOf l (at-line .before .before .before .before .before .before .before .before .before .args .column) ≡ some (part (g .0) (g .1 .0) l))
+    (g .0 ≤ g .1 .0) × (g .1 .0 ≤ length l) × (g .0 ≡ after TAB (at-line .before .before .before .before .before .before .before .before .before .args .column) l) × (cellAt l (at-line .before .before .before .before .before .before .before .before .before .args .column) ≡ some (part (g .0) (g .1 .0) l))
 unfolding text-of
 cell-here c =
     let at-line = c .before .before .before .before .before in

@@ -1,6 +1,6 @@
 -- `mztab::cells::reading` meets its contract: `locate` gives the place, and `read` what its bytes say. Assumes nothing.
 use borrow.Author.Needs.{needs}
-use Rattle.mztab.proofs.Laws.Placing.{placed-unread, placed-read}
+use Rattle.mztab.proofs.Laws.Locating.{placed-unread, placed-read}
 use Rattle.mztab.proofs.cells.reading.Statement.{statement}
 use Rattle.mztab.proofs.cells.reading.Tie as tie
 

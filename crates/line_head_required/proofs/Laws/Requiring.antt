@@ -8,7 +8,7 @@ use native.Mathlib.Omega.{arith}
 use lib.Seq.{take-all}
 use lib.ListN.{length, take, drop, getD}
 use Rattle.text.specs.Lines.{cells}
-use Rattle.rules.specs.Rules.{among, lacksColumn}
+use Rattle.rules.specs.Rules.{hasColumn, lacksColumn}
 use Rattle.scan.proofs.Laws.Celling.{cell-here, cells-next, cells-last}
 use Rattle.line_head_required.specs.Wanted.{isIn}
 use Rattle.text_bytes.specs.Bytes.{Bytes, bytes, any, all}
@@ -50,7 +50,7 @@ module _ {l : List ℕ} {s e : ℕ} (h : Ends 9 l s e) (f : Bytes → Bool) wher
   unfolding all
   all-last t q = all-hit t ∙ rw (cells-last h q)
 
-all-bytes : (names : List Bytes) (texts : List String) → all (isIn names) (map bytes texts) ≡ all (among names) texts
+all-bytes : (names : List Bytes) (texts : List String) → all (isIn names) (map bytes texts) ≡ all (hasColumn names) texts
 unfolding all
 all-bytes names [] = refl
 all-bytes names (t ∷ ts) = rw (all-bytes names ts)
@@ -74,7 +74,7 @@ requires-some : (t : Bytes) → all (λ (s : Section). not (isNone (s .required)
 unfolding bookIn mzTab all proteinRequired peptideRequired psmRequired moleculeRequired
 requires-some t = refl
 
-none-lacks : (names : List String) → not (isNone names) ≡ true → not (all (among []) names) ≡ true
+none-lacks : (names : List String) → not (isNone names) ≡ true → not (all (hasColumn []) names) ≡ true
 unfolding all any
 none-lacks [] h = h
 none-lacks (n ∷ ns) h = refl

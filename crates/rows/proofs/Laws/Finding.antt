@@ -20,7 +20,7 @@ use Rattle.text_bytes.proofs.Laws.Starts.{after-more}
 use Rattle.text_bytes.proofs.Laws.Parts.{get-next, get-below}
 use Rattle.text_bytes.proofs.Laws.Pieces.{pieces-bound}
 use Rattle.text.proofs.Laws.Lines.{lines-done}
-use Rattle.rows.specs.Rows.{Line, lineOf, numbered, having, rowOf, rowCount, columnOf, FindsRow, FindsColumn}
+use Rattle.rows.specs.Rows.{Line, lineOf, numbered, having, rowOf, rowCount, cellAt, FindsRow, FindsColumn}
 use Rattle.rows.specs.Counted.{counted, rowsIn}
 use Rattle.rows.specs.declared.Row.{Row}
 use Rattle.rows.specs.declared.Row.the-variants.{On, Absent}
@@ -69,21 +69,21 @@ module _ (s : Bytes) (o : Option Line) where
 
 -- and so of a column
 module _ (line : Bytes) (column : ℕ) where
-  pub column-found : (p : Part) (a e : ℕ) → p ≡ At a e → FindsColumn line column p → (a ≤ e) × (e ≤ length line) × (a ≡ after TAB column line) × (columnOf line column ≡ some (part a e line))
+  pub column-found : (p : Part) (a e : ℕ) → p ≡ At a e → FindsColumn line column p → (a ≤ e) × (e ≤ length line) × (a ≡ after TAB column line) × (cellAt line column ≡ some (part a e line))
   column-found p a e q h = subst (λ (x : Part). FindsColumn line column x) q h
 
-  pub column-missing : (p : Part) → p ≡ Nothing → FindsColumn line column p → columnOf line column ≡ none
+  pub column-missing : (p : Part) → p ≡ Nothing → FindsColumn line column p → cellAt line column ≡ none
   column-missing p q h = subst (λ (x : Part). FindsColumn line column x) q h
 
   -- a column but the first is the cell of its number
   pub column-cell : (column ≡ 0 → ⊥) → (p : Part) → FindsCell line column p → FindsColumn line column p
-  unfolding columnOf
+  unfolding cellAt
   column-cell ne (At a e) h = rw (ne-eqb column 0 ne) h
   column-cell ne Nothing h = rw (ne-eqb column 0 ne) h
 
 -- a column that is there has a number at most as high as the line is long
-pub column-below : (line : Bytes) (column : ℕ) (x : Bytes) → columnOf line column ≡ some x → column ≤ length line
-unfolding columnOf
+pub column-below : (line : Bytes) (column : ℕ) (x : Bytes) → cellAt line column ≡ some x → column ≤ length line
+unfolding cellAt
 column-below line column x h = go (eqb column 0) refl h
   where
     go : (t : Bool) → eqb column 0 ≡ t → cond t none (getElem? (cells line) column) ≡ some x → column ≤ length line

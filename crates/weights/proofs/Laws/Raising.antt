@@ -18,7 +18,7 @@ use Rattle.text_bytes.proofs.Laws.Pieces.{piece-cut, piece-last}
 use Rattle.text.proofs.Laws.Lines.{lines-done}
 use Rattle.fee.specs.Sums.{bit}
 use Rattle.weights.specs.Weights.{PROTEIN}
-use Rattle.weights.specs.Marks.{Good, withCell, adds, marks, lineAdds, linesAdd, Room, Adds}
+use Rattle.weights.specs.Marks.{IsMarks, withCell, adds, marks, lineAdds, linesAdd, Room, Raises}
 
 -- ONE CELL
 
@@ -88,7 +88,7 @@ module _ (ms : List ℕ) (k : ℕ) {line : Bytes} {at e : ℕ} (ends : Ends TAB 
   turn-last q = omega (arith, counted, adds-last (marks ms (suc i)) k ends q)
 
 -- no mark is left
-pub turn-none : {ms : List ℕ} {width : ℕ} → Good ms width → (k : ℕ) → width ≤ k → (cs : List Bytes) (ws : List ℕ) (i : ℕ) {all : ℕ} → getD ws i 0 + adds (marks ms (suc i)) k cs ≡ all → getD ws i 0 ≡ all
+pub turn-none : {ms : List ℕ} {width : ℕ} → IsMarks ms width → (k : ℕ) → width ≤ k → (cs : List Bytes) (ws : List ℕ) (i : ℕ) {all : ℕ} → getD ws i 0 + adds (marks ms (suc i)) k cs ≡ all → getD ws i 0 ≡ all
 turn-none {ms} good k h cs ws i left =
     omega (arith, adds-none (marks ms (suc i)) k cs (λ j l. rw (good .none j (omega arith)) (ne-eqb 0 (suc i) (λ e. omega arith))))
 
@@ -107,10 +107,10 @@ module _ (ms : List ℕ) (l : Bytes) where
   pub row-room : coded (rowCode mzTab PROTEIN) l ≡ true → {ws : List ℕ} → Room (λ (i : ℕ). lineAdds ms i l) ws → Room (λ (i : ℕ). adds (marks ms i) 0 (cells l)) ws
   row-room t r = record { long = r .long; fits = λ i h. rw t at (r .fits i h) }
 
-  pub row-counted : coded (rowCode mzTab PROTEIN) l ≡ true → {ws ws' : List ℕ} → Adds (λ (i : ℕ). adds (marks ms i) 0 (cells l)) ws ws' → Adds (λ (i : ℕ). lineAdds ms i l) ws ws'
+  pub row-counted : coded (rowCode mzTab PROTEIN) l ≡ true → {ws ws' : List ℕ} → Raises (λ (i : ℕ). adds (marks ms i) 0 (cells l)) ws ws' → Raises (λ (i : ℕ). lineAdds ms i l) ws ws'
   row-counted t a = record { long = a .long; each = λ i h. rw t (a .each i h) }
 
-  pub other-line : coded (rowCode mzTab PROTEIN) l ≡ false → (ws : List ℕ) → Adds (λ (i : ℕ). lineAdds ms i l) ws ws
+  pub other-line : coded (rowCode mzTab PROTEIN) l ≡ false → (ws : List ℕ) → Raises (λ (i : ℕ). lineAdds ms i l) ws ws
   other-line t ws = record { long = refl; each = λ i h. rw t (omega arith) }
 
 -- ONE TURN over the lines: the line at s has room, and was counted
@@ -119,7 +119,7 @@ module _ (ms : List ℕ) {f : Bytes} {s e next : ℕ} (at : LineAt f s e next) (
   pub line-room : ((i : ℕ) → i < 64 → all i ≤ LIMIT) → Room (λ (i : ℕ). lineAdds ms i (part s e f)) ws
   line-room fits = record { long = long; fits = λ i h. omega (arith, left i h, lines-next ms (suc i) at, fits i h) }
 
-  pub line-counted : {ws' : List ℕ} → Adds (λ (i : ℕ). lineAdds ms i (part s e f)) ws ws' → (i : ℕ) → i < 64 → getD ws' i 0 + linesAdd ms (suc i) (lines (drop next f)) ≡ all i
+  pub line-counted : {ws' : List ℕ} → Raises (λ (i : ℕ). lineAdds ms i (part s e f)) ws ws' → (i : ℕ) → i < 64 → getD ws' i 0 + linesAdd ms (suc i) (lines (drop next f)) ≡ all i
   line-counted a i h = omega (arith, left i h, lines-next ms (suc i) at, a .each i h)
 
 -- ZEROS

@@ -8,13 +8,13 @@ use Rattle.text_bytes.specs.Bytes.{Bytes}
 use Rattle.text.specs.Lines.{cells, cell, isMeta, isField}
 use Rattle.book.specs.Book.{SLOTS, Book, keyOf}
 use Rattle.scan.specs.Machine.{hasSlot}
-use Rattle.line_meta_keys.specs.Keys.{marked}
+use Rattle.line_meta_keys.specs.Keys.{slotted}
 use Rattle.line_meta_keys.proofs.Laws.Slotting.{marked-length, marked-slot}
-use Rattle.line_meta.specs.Metas.{Keeps}
+use Rattle.line_meta.specs.Metas.{KeepsKeys}
 
 module _ (b : Book) (slots : List Bool) (whole : length slots ≡ SLOTS) (l : Bytes) where
   -- a metadata line of three cells marks its key
-  pub keeps-three : isMeta l ≡ true → length (cells l) ≡ 3 → Keeps b l slots (marked b slots (keyOf b (getD (cells l) 1 [])))
+  pub keeps-three : isMeta l ≡ true → length (cells l) ≡ 3 → KeepsKeys b l slots (slotted b slots (keyOf b (getD (cells l) 1 [])))
   unfolding hasSlot cell isField
   keeps-three m t = record {
     keys = λ i h. rw (m, eq-eqb (length (cells l)) 3 t) (marked-slot b slots whole (keyOf b (getD (cells l) 1 [])) i h);
@@ -22,7 +22,7 @@ module _ (b : Book) (slots : List Bool) (whole : length slots ≡ SLOTS) (l : By
   }
 
   -- and any other none
-  pub keeps-other : (length (cells l) ≡ 3 → ⊥) → Keeps b l slots slots
+  pub keeps-other : (length (cells l) ≡ 3 → ⊥) → KeepsKeys b l slots slots
   unfolding hasSlot isField
   keeps-other t = record {
     keys = λ i h. rw (ne-eqb (length (cells l)) 3 t, and-false (isMeta l)) (sym (or-false (getD slots i false)));

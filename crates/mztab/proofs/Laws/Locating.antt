@@ -11,8 +11,8 @@ use Rattle.text_bytes.specs.Bytes.{Bytes, is}
 use Rattle.text_bytes.specs.Places.{part, after}
 use Rattle.text.specs.Lines.{LIMIT, TAB, LF, lines}
 use Rattle.text_bytes.proofs.Laws.Parts.{part-part}
-use Rattle.rows.specs.Rows.{Line, lineOf, rowOf, columnOf}
-use Rattle.mztab.specs.Shown.{Sought, refused, refusal, startOf, soughtRow, sought, Shown, given, shown, orElse, Placed, Points, PointsOr}
+use Rattle.rows.specs.Rows.{Line, lineOf, rowOf, cellAt}
+use Rattle.mztab.specs.Shown.{Sought, refused, refusal, cellStart, soughtRow, sought, Shown, given, shown, orElse, Placed, Points, PointsOr}
 use denote.Ref.{RefT}
 use Rattle.mztab.specs.Readings.{told, unread, readingOf}
 use Rattle.mztab.specs.declared.cells.Place.{Place}
@@ -75,16 +75,16 @@ module _ (f : Bytes) (section row column : ℕ) where
 
       -- and in a row, the column
       module _ (l : Line) (here : rowOf f section row ≡ some l) where
-        pub sought-no-cell : columnOf (l .text) column ≡ none → refused NO-CELL ≡ sought f section row column
+        pub sought-no-cell : cellAt (l .text) column ≡ none → refused NO-CELL ≡ sought f section row column
         sought-no-cell e = rw (sought-in, here, e)
 
-        sought-cell : (view : Bytes) → columnOf (l .text) column ≡ some view → record { number = 0; line = l .line; cell = column + 1; start = startOf f l column; view = view } ≡ sought f section row column
+        sought-cell : (view : Bytes) → cellAt (l .text) column ≡ some view → record { number = 0; line = l .line; cell = column + 1; start = cellStart f l column; view = view } ≡ sought f section row column
         sought-cell view e = rw (sought-in, here, e)
 
       -- a cell's place, from the place of its line and its place in the line
       pub placed-cell :
           (n a e from to : ℕ) → a ≤ e → e ≤ length f → a ≡ after LF (n - 1) f → rowOf f section row ≡ some (lineOf n (part a e f))
-          → from ≤ to → to ≤ length (part a e f) → from ≡ after TAB column (part a e f) → columnOf (part a e f) column ≡ some (part from to (part a e f))
+          → from ≤ to → to ≤ length (part a e f) → from ≡ after TAB column (part a e f) → cellAt (part a e f) column ≡ some (part from to (part a e f))
           → Placed f (sought f section row column) (record { number = 0; line = n; cell = column + 1; start = a + from; end = a + to })
       placed-cell n a e from to ae ef at here ft tl after-tabs cell =
           let q = sought-cell (lineOf n (part a e f)) here (part from to (part a e f)) cell in

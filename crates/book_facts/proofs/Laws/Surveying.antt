@@ -13,7 +13,7 @@ use Rattle.text_bytes.specs.Bytes.{Bytes, bytes, same, begins}
 use Rattle.text_bytes.proofs.Laws.Same.{same-equal}
 use Rattle.text_bytes.proofs.Laws.Tests.{absurd-bool}
 use Rattle.text.specs.Lines.{cells, cell, width, isMeta, isField}
-use Rattle.book_facts.specs.Facts.{sooner, soonest, modeAt, typeAt, versionAt, modeIn, typeIn, versionIn, modeOf, typeOf, versionOf, FactsOf, notedField, noted}
+use Rattle.book_facts.specs.Facts.{earlier, earliest, modeAt, typeAt, versionAt, modeIn, typeIn, versionIn, modeOf, typeOf, versionOf, FactsOf, notedField, noted}
 use Rattle.book_facts.specs.declared.Facts.{Facts}
 
 -- A CELL of a line
@@ -50,36 +50,36 @@ module _ (p k : Bool) (x : ℕ) where
   pub letter-both : p ≡ true → k ≡ true → x ≡ cond (p && k) x 0
   letter-both h m = rw (h, m)
 
--- THE SOONER
-pub sooner-first : (a b : ℕ) → (a ≡ 0 → ⊥) → a ≡ sooner a b
-sooner-first a b h = rw (ne-eqb a 0 h)
+-- THE EARLIER
+pub earlier-first : (a b : ℕ) → (a ≡ 0 → ⊥) → a ≡ earlier a b
+earlier-first a b h = rw (ne-eqb a 0 h)
 
-pub sooner-second : (a b : ℕ) → a ≡ 0 → b ≡ sooner a b
-sooner-second a b h = rw (eq-eqb a 0 h)
+pub earlier-second : (a b : ℕ) → a ≡ 0 → b ≡ earlier a b
+earlier-second a b h = rw (eq-eqb a 0 h)
 
-sooner-none : (a : ℕ) → sooner a 0 ≡ a
-sooner-none a = go (eqb a 0) refl
+earlier-none : (a : ℕ) → earlier a 0 ≡ a
+earlier-none a = go (eqb a 0) refl
   where
     go : (t : Bool) → eqb a 0 ≡ t → cond t 0 a ≡ a
     go true e = sym (eqb-true a 0 e)
     go false e = refl
 
-sooner-three : (a b c : ℕ) → sooner a (sooner b c) ≡ sooner (sooner a b) c
-sooner-three a b c = go (eqb a 0) refl
+earlier-three : (a b c : ℕ) → earlier a (earlier b c) ≡ earlier (earlier a b) c
+earlier-three a b c = go (eqb a 0) refl
   where
-    go : (t : Bool) → eqb a 0 ≡ t → cond t (sooner b c) a ≡ cond (eqb (cond t b a) 0) c (cond t b a)
+    go : (t : Bool) → eqb a 0 ≡ t → cond t (earlier b c) a ≡ cond (eqb (cond t b a) 0) c (cond t b a)
     go true e = refl
     go false e = rw e
 
-soonest-next : (f : ℕ → Bytes → ℕ) (a n : ℕ) (l : Bytes) (ls : List Bytes) → sooner a (soonest f n (l ∷ ls)) ≡ sooner (sooner a (f n l)) (soonest f (n + 1) ls)
-unfolding soonest
-soonest-next f a n l ls = sooner-three a (f n l) (soonest f (n + 1) ls)
+earliest-next : (f : ℕ → Bytes → ℕ) (a n : ℕ) (l : Bytes) (ls : List Bytes) → earlier a (earliest f n (l ∷ ls)) ≡ earlier (earlier a (f n l)) (earliest f (n + 1) ls)
+unfolding earliest
+earliest-next f a n l ls = earlier-three a (f n l) (earliest f (n + 1) ls)
 
 -- A LINE
 module _ (x : Facts) (n : ℕ) (l : Bytes) where
   kept : modeIn n l ≡ 0 → typeIn n l ≡ 0 → versionIn n l ≡ 0 → noted x n l ≡ x
   unfolding noted
-  kept m t v = rw (m, t, v, sooner-none (x .mode), sooner-none (x .typed), sooner-none (x .version))
+  kept m t v = rw (m, t, v, earlier-none (x .mode), earlier-none (x .typed), earlier-none (x .version))
 
   -- that is no field, or has another key, says nothing
   pub noted-none : isField l ≡ false → noted x n l ≡ x
@@ -110,9 +110,9 @@ module _ (x : Facts) (n : ℕ) (l : Bytes) where
 
 -- ALL LINES: the facts so far, of n lines, and the lines that are left decide
 pub record Left (file : List Bytes) (x : Facts) (n : ℕ) (rest : List Bytes) : Type 0 where
-  pub mode : modeOf file ≡ sooner (x .mode) (soonest modeIn (n + 1) rest)
-  pub typed : typeOf file ≡ sooner (x .typed) (soonest typeIn (n + 1) rest)
-  pub version : versionOf file ≡ sooner (x .version) (soonest versionIn (n + 1) rest)
+  pub mode : modeOf file ≡ earlier (x .mode) (earliest modeIn (n + 1) rest)
+  pub typed : typeOf file ≡ earlier (x .typed) (earliest typeIn (n + 1) rest)
+  pub version : versionOf file ≡ earlier (x .version) (earliest versionIn (n + 1) rest)
 
 pub left-start : (file : List Bytes) (x : Facts) → x .mode ≡ 0 → x .typed ≡ 0 → x .version ≡ 0 → Left file x 0 file
 unfolding modeOf typeOf versionOf
@@ -122,16 +122,16 @@ pub left-next : {file : List Bytes} {x : Facts} {n : ℕ} {rest : List Bytes} (l
 unfolding noted
 left-next {file} {x} {n} {rest} l ls e h =
     record {
-      mode = h .mode ∙ ap (λ (r : List Bytes). sooner (x .mode) (soonest modeIn (n + 1) r)) e ∙ soonest-next modeIn (x .mode) (n + 1) l ls;
-      typed = h .typed ∙ ap (λ (r : List Bytes). sooner (x .typed) (soonest typeIn (n + 1) r)) e ∙ soonest-next typeIn (x .typed) (n + 1) l ls;
-      version = h .version ∙ ap (λ (r : List Bytes). sooner (x .version) (soonest versionIn (n + 1) r)) e ∙ soonest-next versionIn (x .version) (n + 1) l ls;
+      mode = h .mode ∙ ap (λ (r : List Bytes). earlier (x .mode) (earliest modeIn (n + 1) r)) e ∙ earliest-next modeIn (x .mode) (n + 1) l ls;
+      typed = h .typed ∙ ap (λ (r : List Bytes). earlier (x .typed) (earliest typeIn (n + 1) r)) e ∙ earliest-next typeIn (x .typed) (n + 1) l ls;
+      version = h .version ∙ ap (λ (r : List Bytes). earlier (x .version) (earliest versionIn (n + 1) r)) e ∙ earliest-next versionIn (x .version) (n + 1) l ls;
     }
 
 pub left-done : {file : List Bytes} {x : Facts} {n : ℕ} {rest : List Bytes} → rest ≡ [] → Left file x n rest → FactsOf file x
-unfolding soonest
+unfolding earliest
 left-done {file} {x} {n} {rest} e h =
     record {
-      mode = sym (h .mode ∙ ap (λ (r : List Bytes). sooner (x .mode) (soonest modeIn (n + 1) r)) e ∙ sooner-none (x .mode));
-      typed = sym (h .typed ∙ ap (λ (r : List Bytes). sooner (x .typed) (soonest typeIn (n + 1) r)) e ∙ sooner-none (x .typed));
-      version = sym (h .version ∙ ap (λ (r : List Bytes). sooner (x .version) (soonest versionIn (n + 1) r)) e ∙ sooner-none (x .version));
+      mode = sym (h .mode ∙ ap (λ (r : List Bytes). earlier (x .mode) (earliest modeIn (n + 1) r)) e ∙ earlier-none (x .mode));
+      typed = sym (h .typed ∙ ap (λ (r : List Bytes). earlier (x .typed) (earliest typeIn (n + 1) r)) e ∙ earlier-none (x .typed));
+      version = sym (h .version ∙ ap (λ (r : List Bytes). earlier (x .version) (earliest versionIn (n + 1) r)) e ∙ earlier-none (x .version));
     }

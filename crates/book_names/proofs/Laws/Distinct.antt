@@ -14,7 +14,7 @@ use Rattle.value_references.specs.declared.index.Flaw.the-variants.{Form, Zero,
 use Rattle.value_references.specs.Index.{digits, indexAt}
 use Rattle.value_references.proofs.Laws.Indices.{Bracket, index-unopened}
 use Rattle.book_names.specs.Names.{Piece, byte, place, Entry, kindOf, familyOf, formOf, filled, fits, sooner, onMatch, firstOf, lookupIn}
-use Rattle.book_names.specs.Steps.{flawIn, marked}
+use Rattle.book_names.specs.Steps.{flawIn, flawed}
 use Rattle.book_names.specs.declared.Match.the-variants.{Differs, Fits}
 use Rattle.book_names.specs.declared.Found.the-variants.{Unknown, Known}
 use Rattle.book_names.proofs.Laws.Flaws.{marked-differs, on-some}
@@ -79,7 +79,7 @@ other-place ps (x ∷ s) w z b h (byte y ∷ qs) c d a = rw (ne-eqb x y (λ (e :
 other-place ps (x ∷ s) w z b h (place ∷ qs) c d a =
     let p = bracket-place (x ∷ s) w b in
     let m = digitsFlaw (digits s) in
-    place-fits qs (x ∷ s) c d ∙ on-some (x ∷ s) (p .0) w m (p .2) _ (λ (e : w ≡ 0). omega (arith, b .some)) ∙ ap (marked m) (go (p .0) (eqb c 0) (eqb d 0)) ∙ marked-differs m
+    place-fits qs (x ∷ s) c d ∙ on-some (x ∷ s) (p .0) w m (p .2) _ (λ (e : w ≡ 0). omega (arith, b .some)) ∙ ap (flawed m) (go (p .0) (eqb c 0) (eqb d 0)) ∙ marked-differs m
   where
     go : (v : ℕ) (t u : Bool) → cond t (fits qs (drop w (x ∷ s)) v d) (cond u (fits qs (drop w (x ∷ s)) c v) Differs) ≡ Differs
     go v true u = h qs v d a
@@ -139,7 +139,7 @@ module _ (es : List Entry) (n : ℕ) (h : allApart es ≡ true) (inside : n < le
       name : List ℕ
       name = spelled (formOf (nth es n)) ds
 
-      go : (z : Flaw) → (z ≡ Form → ⊥) → (a b : ℕ) → fits (formOf (nth es n)) name 0 0 ≡ marked z (Fits a b) → lookupIn es name ≡ Unknown z
+      go : (z : Flaw) → (z ≡ Form → ⊥) → (a b : ℕ) → fits (formOf (nth es n)) name 0 0 ≡ flawed z (Fits a b) → lookupIn es name ≡ Unknown z
       go Form k a b q = absurd (k refl)
       go Zero k a b q = only-line es name 0 n h inside (λ d. absurd (let o : _≡_ {A = ℕ} 0 1 = cc in omega arith)) ∙ rw q
       go Over k a b q = only-line es name 0 n h inside (λ d. absurd (let o : _≡_ {A = ℕ} 0 1 = cc in omega arith)) ∙ rw q

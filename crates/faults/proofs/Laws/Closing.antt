@@ -14,15 +14,15 @@ use Rattle.rules.specs.Rules.{breaks}
 use Rattle.faults.specs.declared.Fault.{Fault}
 use Rattle.faults.specs.declared.steps.Progress.{Progress}
 use Rattle.faults.specs.Records.{faultOf, outcome, judged}
-use Rattle.judging.specs.Calls.{numberOf}
-use Rattle.faults.specs.Steps.{found, records, remaining, Good, Moves}
+use Rattle.judging.specs.Calls.{lengthNumber}
+use Rattle.faults.specs.Steps.{reported, records, remaining, Between, Moves}
 
 -- the list that is to be
 abbrev pub whole : Bytes → List Fault → List Fault
-whole file ys = sets ys 0 (map faultOf (found file))
+whole file ys = sets ys 0 (map faultOf (reported file))
 
 pub ahead-first : (file : Bytes) (s : Progress) (ys : List Fault) → s .count ≡ 0 → sets ys (s .count) (remaining file s) ≡ whole file ys
-ahead-first file s ys e = ap (λ (k : ℕ). sets ys k (map faultOf (drop k (found file)))) e
+ahead-first file s ys e = ap (λ (k : ℕ). sets ys k (map faultOf (drop k (reported file)))) e
 
 pub ahead-next : (file : Bytes) (s r : Progress) (places : List ℕ) (cur zs ys : List Fault) → Moves file s r places → length cur ≡ s .cap → zs ≡ sets cur (r .from) (records places 0 (r .fit))
     → sets cur (s .count) (remaining file s) ≡ whole file ys → sets zs (r .count) (remaining file r) ≡ whole file ys
@@ -38,11 +38,11 @@ by-limit : (b : Bool) (bs : List Break) (ys : List Fault)
 by-limit true bs ys = refl
 by-limit false bs ys = refl
 
-all-is : (file : Bytes) (ys : List Fault) → outcome (numberOf file) (length (found file)) (whole file ys) ≡ judged file ys
-unfolding found numberOf judged
+all-is : (file : Bytes) (ys : List Fault) → outcome (lengthNumber file) (length (reported file)) (whole file ys) ≡ judged file ys
+unfolding reported lengthNumber judged
 all-is file ys = by-limit (ltb LIMIT (length file)) (breaks file) ys
 
-pub ended : (file : Bytes) (s : Progress) (slots : List Bool) (cur ys : List Fault) → Good file s slots → s .more ≡ false → sets cur (s .count) (remaining file s) ≡ whole file ys → outcome (s .number) (s .count) cur ≡ judged file ys
+pub ended : (file : Bytes) (s : Progress) (slots : List Bool) (cur ys : List Fault) → Between file s slots → s .more ≡ false → sets cur (s .count) (remaining file s) ≡ whole file ys → outcome (s .number) (s .count) cur ≡ judged file ys
 ended file s slots cur ys g e ahead =
-    ap (λ (n : ℕ). outcome n (s .count) cur) (g .number) ∙ ap (λ (k : ℕ). outcome (numberOf file) k cur) (g .done e)
-    ∙ ap (outcome (numberOf file) (length (found file))) (sym (ap (sets cur (s .count)) (none-left (found file) (s .count) (g .done e))) ∙ ahead) ∙ all-is file ys
+    ap (λ (n : ℕ). outcome n (s .count) cur) (g .number) ∙ ap (λ (k : ℕ). outcome (lengthNumber file) k cur) (g .done e)
+    ∙ ap (outcome (lengthNumber file) (length (reported file))) (sym (ap (sets cur (s .count)) (none-left (reported file) (s .count) (g .done e))) ∙ ahead) ∙ all-is file ys
