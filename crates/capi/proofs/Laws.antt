@@ -1,17 +1,19 @@
 -- A place in the file as a start and a length. Assumes nothing.
 use Prim.Native.Nat.{ℕ, _-_}
-use mathlib.Core.Path.{_≡_, ap, _∙_}
+use mathlib.Core.Path.{_≡_, sym, ap, _∙_}
 use native.Mathlib.Omega.{arith}
 use lib.ListN.{length, drop, length-take, length-drop}
-use Rattle.text_bytes.specs.Bytes.{Bytes}
-use Rattle.mztab.specs.Shown.{Sought, Placed}
+use mathlib.Core.Bool.{true, false}
+use lib.Seq.{take-length}
+use Rattle.text_bytes.specs.Bytes.{Bytes, is}
+use Rattle.mztab.specs.Shown.{Sought, Placed, orElse}
 use Rattle.mztab.specs.declared.cells.Place.{Place}
 use lib.IntN.{ℤ}
 use lib.Ieee.{Float}
 use Rattle.value_readings.specs.Reading.{numberOf, wholeOf, placesOf, doubleOf}
 use Rattle.mztab.specs.Readings.{Told, told}
 use Rattle.mztab.specs.declared.records.Reading.{Reading}
-use Rattle.capi.specs.Answers.{CellAt, ReadAs}
+use Rattle.capi.specs.Answers.{CellAt, CellOrAt, ReadAs}
 
 pub placed-at : {file : Bytes} {s : Sought} {p : Place} → Placed file s p → CellAt file s (p .number) (p .start) (p .end - p .start)
 placed-at {file} {s} {p} h = record {
@@ -21,6 +23,35 @@ placed-at {file} {s} {p} h = record {
   ends = omega (arith, h .starts, h .ends);
   views = h .views;
 }
+
+-- the stand-in, and the cell
+module _ {file other : Bytes} {s : Sought} {p : Place} (h : Placed file s p) where
+  pub stood-in : {v : Bytes} → v ≡ s .view → is v "null" ≡ true → CellOrAt file other s (p .number) 0 (length other) 1
+  unfolding orElse
+  stood-in e t =
+      let n : is (s .view) "null" ≡ true = ap (λ (b : Bytes). is b "null") (sym e) ∙ t in
+      record {
+        says = h .says;
+        stands = rw n;
+        from = rw n;
+        long = rw n;
+        ends = rw n (omega arith);
+        views = rw n (take-length other);
+      }
+
+  pub stood-out : {v : Bytes} → v ≡ s .view → is v "null" ≡ false → CellOrAt file other s (p .number) (p .start) (p .end - p .start) 0
+  unfolding orElse
+  stood-out e t =
+      let n : is (s .view) "null" ≡ false = ap (λ (b : Bytes). is b "null") (sym e) ∙ t in
+      let c = placed-at h in
+      record {
+        says = c .says;
+        stands = rw n;
+        from = rw n (c .from);
+        long = rw n (c .long);
+        ends = rw n (c .ends);
+        views = rw n (c .views);
+      }
 
 -- a record, and the values of its case
 pub told-as : {t : Told} {n case : ℕ} {r : Reading} {whole : ℤ} {places : ℕ} {double : Float} → told n r ≡ t

@@ -13,6 +13,7 @@ use mztab::cells::locate;
 use mztab::cells::reading;
 use mztab::judged::judge_places;
 use rows::rows;
+use text_bytes::same_bytes;
 ghost use mathlib.Core.Path.{_≡_};
 ghost use Rattle.mztab.specs.Shown.{sought};
 ghost use Rattle.mztab.specs.Judged.{outcome, judged};
@@ -23,7 +24,7 @@ ghost use Rattle.fee.specs.Places.{plain};
 ghost use Rattle.fee.specs.Split.{outcome as splitAs, splitOf};
 ghost use Rattle.rows.specs.Counted.{counted, rowsIn};
 ghost use Rattle.weights.specs.Weights.{outcome as weighedAs, weighed};
-ghost use Rattle.capi.specs.Answers.{CellAt, ReadAs};
+ghost use Rattle.capi.specs.Answers.{CellAt, CellOrAt, ReadAs};
 
 // The judging call over plain places: answers the count of all breaks, and writes those that fit, three places each: rule, line, cell.
 #[no_mangle]
@@ -57,6 +58,35 @@ pub extern "C" fn mztab_cell(
     *number = place.number;
     *length = place.end - place.start;
     place.start
+}
+
+// The cell call with a stand-in: where the cell is `null`, the view is the stand-in that was lent, and `stood_in` is 1; else it is 0, and the answer is where
+// the view starts in the file. Of the stand-in the answer is 0: its first byte.
+#[no_mangle]
+pub extern "C" fn mztab_cell_or(
+    file: &[u8],
+    section: u32,
+    row: u32,
+    column: u32,
+    stand_in: &[u8],
+    number: &mut u32,
+    length: &mut usize,
+    stood_in: &mut u32,
+) -> usize
+    ensures { λ r. ⌜ CellOrAt (now (file .entry)) (now («stand_in» .entry)) (sought (now (file .entry)) section row column) (now (number .exit)) r (now (length .exit)) (now («stood_in» .exit)) ⌝ }
+{
+    let place = locate(file, section, row, column);
+    let start = place.start;
+    let end = place.end;
+    *number = place.number;
+    if same_bytes(&file[start..end], b"null") {
+        *length = stand_in.len();
+        *stood_in = 1;
+        return 0;
+    }
+    *length = end - start;
+    *stood_in = 0;
+    start
 }
 
 // The reading call: answers the number of its case and writes line, cell and the values that it carries, 0 for what it does not.
