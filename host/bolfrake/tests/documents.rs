@@ -229,7 +229,7 @@ fn run(words: &str) -> Run {
 fn runs_of_the_readme() {
     let mut tried = 0;
     for line in README.lines() {
-        if let Some(words) = line.strip_prefix("    $ target/bolfrake ") {
+        if let Some(words) = line.strip_prefix("    $ ./bolfrake ") {
             let shown: Vec<&str> = indented(line)[1..].to_vec();
             assert_eq!(run(words).out, shown.join("\n") + "\n", "{words}");
             tried += 1;
@@ -243,7 +243,7 @@ fn runs_of_the_readme() {
 fn commands_of_the_readme() {
     let mut tried = 0;
     for line in README.lines() {
-        if let Some(words) = line.strip_prefix("    target/bolfrake ") {
+        if let Some(words) = line.strip_prefix("    ./bolfrake ") {
             let words = words.split("  ").next().unwrap();
             let words = words
                 .replace("FILE...", "FILE")

@@ -3,7 +3,7 @@
 use std::collections::HashSet;
 
 use independent::cases;
-use independent::names::{self, COLUMNS, KEYS};
+use independent::names::{self, Kind, COLUMNS};
 use samples::Draws;
 
 use crate::damage::damage;
@@ -46,7 +46,7 @@ pub fn file(near: &[Vec<u8>], draws: &mut Draws) -> Vec<u8> {
 /// A column: its name, its kind, and how often its cells are `null`: once in so many times, 0 for never.
 struct Column {
     name: Vec<u8>,
-    kind: char,
+    kind: Kind,
     null: usize,
 }
 
@@ -181,12 +181,13 @@ impl<'d> Source<'d> {
     }
 
     fn metadata_line(&mut self) {
-        let (pattern, kind, family) = KEYS[self.draws.below(KEYS.len())];
+        let at = self.draws.below(names::keys().count());
+        let (pattern, kind) = names::keys().nth(at).expect("it is below the count");
         let key = self.name(pattern);
         if self.wrong == 0 && !self.keys.insert(key.clone()) {
             return;
         }
-        let value = self.value(kind, family);
+        let value = self.value(kind);
         let mut cells = vec![b"MTD".to_vec(), key, value];
         if self.slips() {
             cells.truncate(2);
@@ -237,13 +238,13 @@ impl<'d> Source<'d> {
                 let known = names::column(section as u32 + 1, name.as_bytes());
                 columns.push(Column {
                     name: name.as_bytes().to_vec(),
-                    kind: known.map_or('T', |known| known.kind),
+                    kind: known.map_or(Kind::Text, |known| known.kind),
                     null: NULL,
                 });
             }
         }
         for _ in 0..self.draws.below(8) {
-            let (sections, pattern, kind, _) = COLUMNS[self.draws.below(COLUMNS.len())];
+            let (sections, pattern, kind) = COLUMNS[self.draws.below(COLUMNS.len())];
             if sections.contains(letter) || self.slips() {
                 let name = self.name(pattern);
                 self.column(name, kind, NULL, &mut columns);
@@ -262,7 +263,7 @@ impl<'d> Source<'d> {
     }
 
     /// One more column, unless one of its name is there.
-    fn column(&mut self, name: Vec<u8>, kind: char, null: usize, columns: &mut Vec<Column>) {
+    fn column(&mut self, name: Vec<u8>, kind: Kind, null: usize, columns: &mut Vec<Column>) {
         if !columns.iter().any(|other| other.name == name) || self.slips() {
             columns.push(Column { name, kind, null });
         }
@@ -273,7 +274,7 @@ impl<'d> Source<'d> {
         for i in self.variables.clone() {
             let name = format!("protein_abundance_study_variable[{i}]");
             let null = [0, 1, 2, 2, 3, NULL][self.draws.below(6)];
-            self.column(name.into_bytes(), 'D', null, columns);
+            self.column(name.into_bytes(), Kind::Decimal, null, columns);
             if self.draws.once_in(2) {
                 let (at, last) = (self.draws.below(columns.len()), columns.len() - 1);
                 columns.swap(at, last);
@@ -297,7 +298,7 @@ impl<'d> Source<'d> {
             };
             columns.push(Column {
                 name: name.into_bytes(),
-                kind: 'T',
+                kind: Kind::Text,
                 null: NULL,
             });
         }
@@ -313,11 +314,11 @@ impl<'d> Source<'d> {
     fn row(&mut self, code: &str, columns: &[Column]) {
         let mut cells = vec![code.as_bytes().to_vec()];
         for Column { kind, null, .. } in columns {
-            let missing = *kind != 'K' && *null > 0 && self.draws.once_in(*null);
+            let missing = *kind != Kind::NeverNull && *null > 0 && self.draws.once_in(*null);
             let cell = if missing {
                 b"null".to_vec()
             } else {
-                self.value(*kind, '-')
+                self.value(*kind)
             };
             cells.push(cell);
         }
@@ -330,36 +331,36 @@ impl<'d> Source<'d> {
     }
 
     /// A value of the kind; where it slips, none at all, one of another, or one that is near to some kind.
-    fn value(&mut self, kind: char, family: char) -> Vec<u8> {
+    fn value(&mut self, kind: Kind) -> Vec<u8> {
         if self.slips() {
             if self.draws.once_in(4) {
                 return Vec::new();
             }
             return self.near[self.draws.below(self.near.len())].clone();
         }
-        let word = names::word(family);
         match kind {
-            'v' => self.draws.one_of(&["1.0", "1.0.0"]).into(),
-            'm' => self.draws.one_of(&["Summary", "Complete"]).into(),
-            't' => self
+            Kind::Version => self.draws.one_of(&["1.0", "1.0.0"]).into(),
+            Kind::Mode => self.draws.one_of(&["Summary", "Complete"]).into(),
+            Kind::Type => self
                 .draws
                 .one_of(&["Quantification", "Identification"])
                 .into(),
-            'W' => self.whole().into_bytes(),
-            'R' => self.draws.one_of(&["1", "2", "3"]).into(),
-            'U' => self.draws.one_of(&["0", "1"]).into(),
-            'D' => self.decimal().into_bytes(),
-            'L' => self.many("|", Source::decimal).into_bytes(),
-            'N' => format!("{}|{}", self.decimal(), self.decimal()).into_bytes(),
-            'P' => self.parameter().into_bytes(),
-            'Q' => self.many("|", Source::listed_parameter).into_bytes(),
-            'r' => format!("{word}{}", self.index()).into_bytes(),
-            'l' => {
+            Kind::Whole => self.whole().into_bytes(),
+            Kind::Reliability => self.draws.one_of(&["1", "2", "3"]).into(),
+            Kind::Unique => self.draws.one_of(&["0", "1"]).into(),
+            Kind::Decimal => self.decimal().into_bytes(),
+            Kind::DecimalList => self.many("|", Source::decimal).into_bytes(),
+            Kind::Window => format!("{}|{}", self.decimal(), self.decimal()).into_bytes(),
+            Kind::Parameter => self.parameter().into_bytes(),
+            Kind::ParameterList => self.many("|", Source::listed_parameter).into_bytes(),
+            Kind::Reference(family) => format!("{}{}", family.word(), self.index()).into_bytes(),
+            Kind::ReferenceList(family) => {
+                let word = family.word();
                 let comma = self.draws.one_of(&[",", ", ", ",   "]);
                 self.many(comma, |source| format!("{word}{}", source.index()))
                     .into_bytes()
             }
-            _ => self.text(),
+            Kind::Text | Kind::NeverNull => self.text(),
         }
     }
 

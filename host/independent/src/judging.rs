@@ -4,7 +4,7 @@ use std::collections::HashSet;
 
 use crate::kinds;
 use crate::lines::{cells, code, key_and_value, lines, Code};
-use crate::names::{self, Known};
+use crate::names::{self, Family, Kind, Known};
 use crate::LIMIT;
 
 /// "A break is a line, a cell and a rule."
@@ -69,7 +69,7 @@ impl Report<'_> {
 /// The declared ids: "four families of ids, each with indices 1 to 64".
 #[derive(Default)]
 struct Ids {
-    set: HashSet<(char, u32)>,
+    set: HashSet<(Family, u32)>,
 }
 
 impl Ids {
@@ -87,7 +87,7 @@ impl Ids {
         ids
     }
 
-    fn has(&self, family: char, index: u32) -> bool {
+    fn has(&self, family: Family, index: u32) -> bool {
         self.set.contains(&(family, index))
     }
 }
@@ -113,7 +113,7 @@ struct Header {
     cells: usize,
     /// The kind of each cell's column, from cell 2 on. Empty where rule 11 is
     /// broken.
-    kinds: Vec<char>,
+    kinds: Vec<Kind>,
     breaks_11: bool,
 }
 
@@ -206,8 +206,11 @@ fn rule_7(report: &mut Report) {
 
 /// rule 8: "value names an undeclared id; cell 3"
 fn rule_8(known: &Known, value: &[u8], ids: &Ids, report: &mut Report) {
-    let named = ids_of_value(known, value);
-    if named.iter().any(|index| !ids.has(known.family, *index)) {
+    let named = ids_of_value(known.kind, value);
+    if named
+        .iter()
+        .any(|(family, index)| !ids.has(*family, *index))
+    {
         report.add(3, 8);
     }
 }
@@ -215,25 +218,29 @@ fn rule_8(known: &Known, value: &[u8], ids: &Ids, report: &mut Report) {
 /// The kinds of the metadata keys. "In metadata `null` is plain text."
 fn value_is_of_its_kind(known: &Known, value: &[u8]) -> bool {
     match known.kind {
-        'v' => value == b"1.0" || value == b"1.0.0",
-        'm' => value == b"Summary" || value == b"Complete",
-        't' => value == b"Quantification" || value == b"Identification",
-        'T' => kinds::text(value),
-        'P' => kinds::parameter(value),
-        'Q' => kinds::parameter_list(value),
-        'r' => kinds::reference(names::word(known.family), value) != 0,
-        'l' => kinds::reference_list(names::word(known.family), value).is_some(),
-        other => unreachable!("no key is of kind {other}"),
+        Kind::Version => value == b"1.0" || value == b"1.0.0",
+        Kind::Mode => value == b"Summary" || value == b"Complete",
+        Kind::Type => value == b"Quantification" || value == b"Identification",
+        Kind::Text => kinds::text(value),
+        Kind::Parameter => kinds::parameter(value),
+        Kind::ParameterList => kinds::parameter_list(value),
+        Kind::Reference(family) => kinds::reference(family.word(), value) != 0,
+        Kind::ReferenceList(family) => kinds::reference_list(family.word(), value).is_some(),
+        other => unreachable!("no key is of kind {other:?}"),
     }
 }
 
-/// The indices that a value of its kind names, of the family its key asks for.
-fn ids_of_value(known: &Known, value: &[u8]) -> Vec<u32> {
-    match known.kind {
-        'r' => vec![kinds::reference(names::word(known.family), value)],
-        'l' => kinds::reference_list(names::word(known.family), value).unwrap_or_default(),
-        _ => vec![],
-    }
+/// The ids that a value of its kind names.
+fn ids_of_value(kind: Kind, value: &[u8]) -> Vec<(Family, u32)> {
+    let (family, indices) = match kind {
+        Kind::Reference(family) => (family, vec![kinds::reference(family.word(), value)]),
+        Kind::ReferenceList(family) => {
+            let indices = kinds::reference_list(family.word(), value);
+            (family, indices.unwrap_or_default())
+        }
+        _ => return vec![],
+    };
+    indices.into_iter().map(|index| (family, index)).collect()
 }
 
 /// Notes the key of a three-cell MTD line for rules 6 and 21.
@@ -370,10 +377,10 @@ fn rule_16(section: u32, columns: &[&[u8]], report: &mut Report) {
 }
 
 /// "Cells under an unknown column are text."
-fn kind_of_column(column: Option<Known>) -> char {
+fn kind_of_column(column: Option<Known>) -> Kind {
     match column {
         Some(known) => known.kind,
-        None => 'T',
+        None => Kind::Text,
     }
 }
 
@@ -422,7 +429,7 @@ fn rule_19(at: usize, report: &mut Report) {
 }
 
 /// rule 20: "row's cell, from 2 on, not of its column's kind; that cell"
-fn rule_20(kind: char, cell: &[u8], at: usize, report: &mut Report) {
+fn rule_20(kind: Kind, cell: &[u8], at: usize, report: &mut Report) {
     if !cell_is_of_its_kind(kind, cell) {
         report.add(at, 20);
     }
@@ -431,20 +438,20 @@ fn rule_20(kind: char, cell: &[u8], at: usize, report: &mut Report) {
 /// The kinds of the columns. "In table cells `null` stands for missing in every
 /// column, except protein `accession`, peptide and PSM `sequence`, and
 /// `PSM_ID`, where it is not of the kind."
-fn cell_is_of_its_kind(kind: char, cell: &[u8]) -> bool {
+fn cell_is_of_its_kind(kind: Kind, cell: &[u8]) -> bool {
     if cell == b"null" {
-        return kind != 'K';
+        return kind != Kind::NeverNull;
     }
     match kind {
-        'T' | 'K' => kinds::text(cell),
-        'W' => kinds::whole(cell),
-        'R' => cell == b"1" || cell == b"2" || cell == b"3",
-        'U' => cell == b"0" || cell == b"1",
-        'D' => kinds::decimal(cell),
-        'L' => kinds::decimal_list(cell),
-        'N' => kinds::window(cell),
-        'Q' => kinds::parameter_list(cell),
-        other => unreachable!("no column is of kind {other}"),
+        Kind::Text | Kind::NeverNull => kinds::text(cell),
+        Kind::Whole => kinds::whole(cell),
+        Kind::Reliability => cell == b"1" || cell == b"2" || cell == b"3",
+        Kind::Unique => cell == b"0" || cell == b"1",
+        Kind::Decimal => kinds::decimal(cell),
+        Kind::DecimalList => kinds::decimal_list(cell),
+        Kind::Window => kinds::window(cell),
+        Kind::ParameterList => kinds::parameter_list(cell),
+        other => unreachable!("no column is of kind {other:?}"),
     }
 }
 

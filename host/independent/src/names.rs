@@ -2,195 +2,247 @@
 
 use crate::kinds::index;
 
+/// "The kinds of value", and the three that are fixed by their keys.
+#[derive(Clone, Copy, Debug, PartialEq, Eq)]
+pub enum Kind {
+    Version,
+    Mode,
+    Type,
+    Text,
+    /// Text of a column in which `null` "is not of the kind".
+    NeverNull,
+    Whole,
+    Decimal,
+    DecimalList,
+    Window,
+    Parameter,
+    ParameterList,
+    /// "as the key asks": the family of the id.
+    Reference(Family),
+    ReferenceList(Family),
+    /// That of sections 1 to 3.
+    Reliability,
+    Unique,
+}
+
+/// "There are four families of ids".
+#[derive(Clone, Copy, Debug, PartialEq, Eq, Hash)]
+pub enum Family {
+    Sample,
+    Assay,
+    StudyVariable,
+    MsRun,
+}
+
+pub const FAMILIES: [Family; 4] = [
+    Family::Sample,
+    Family::Assay,
+    Family::StudyVariable,
+    Family::MsRun,
+];
+
+impl Family {
+    /// The word that its ids begin with.
+    pub fn word(self) -> &'static str {
+        match self {
+            Family::Sample => "sample",
+            Family::Assay => "assay",
+            Family::StudyVariable => "study_variable",
+            Family::MsRun => "ms_run",
+        }
+    }
+}
+
 /// What is known of a key or a column by its name.
 #[derive(Clone, Copy, Debug, PartialEq, Eq)]
 pub struct Known {
-    /// T text, K text that is never `null`, W whole, D decimal, L decimal list,
-    /// N window, P parameter, Q parameter list, R reliability of sections 1 to
-    /// 3, U unique, v mzTab-version, m mzTab-mode, t mzTab-type, r reference,
-    /// l reference list.
-    pub kind: char,
-    /// S sample, A assay, V study variable, R run, `-` none: of a key, which
-    /// family of ids its value names; of a column, which its name names.
-    pub family: char,
+    pub kind: Kind,
+    /// Of a column, the family of the id that its name names.
+    pub family: Option<Family>,
     /// The first index of the name, 0 where there is none.
     pub i: u32,
     /// The second index of the name, 0 where there is none.
     pub j: u32,
 }
 
-/// "There are four families of ids": letter and word of each.
-pub const FAMILIES: [(char, &str); 4] = [
-    ('S', "sample"),
-    ('A', "assay"),
-    ('V', "study_variable"),
-    ('R', "ms_run"),
-];
-
-/// The word of a family.
-pub fn word(family: char) -> &'static str {
-    match family {
-        'S' => "sample",
-        'A' => "assay",
-        'V' => "study_variable",
-        'R' => "ms_run",
-        _ => "",
-    }
-}
-
-/// Every metadata key, its kind, and the family its value names.
-/// "n is an index; two in one name may differ."
-pub const KEYS: &[(&str, char, char)] = &[
+/// Every metadata key, by kind. "n is an index; two in one name may differ."
+pub const KEYS: &[(Kind, &[&str])] = &[
     // "Fixed:"
-    ("mzTab-version", 'v', '-'),
-    ("mzTab-mode", 'm', '-'),
-    ("mzTab-type", 't', '-'),
+    (Kind::Version, &["mzTab-version"]),
+    (Kind::Mode, &["mzTab-mode"]),
+    (Kind::Type, &["mzTab-type"]),
     // "Text:"
-    ("mzTab-ID", 'T', '-'),
-    ("title", 'T', '-'),
-    ("description", 'T', '-'),
-    ("software[n]-setting[n]", 'T', '-'),
-    ("publication[n]", 'T', '-'),
-    ("contact[n]-name", 'T', '-'),
-    ("contact[n]-affiliation", 'T', '-'),
-    ("contact[n]-email", 'T', '-'),
-    ("uri[n]", 'T', '-'),
-    ("fixed_mod[n]-site", 'T', '-'),
-    ("fixed_mod[n]-position", 'T', '-'),
-    ("variable_mod[n]-site", 'T', '-'),
-    ("variable_mod[n]-position", 'T', '-'),
-    ("ms_run[n]-location", 'T', '-'),
-    ("sample[n]-description", 'T', '-'),
-    ("assay[n]-quantification_mod[n]-site", 'T', '-'),
-    ("assay[n]-quantification_mod[n]-position", 'T', '-'),
-    ("study_variable[n]-description", 'T', '-'),
-    ("cv[n]-label", 'T', '-'),
-    ("cv[n]-full_name", 'T', '-'),
-    ("cv[n]-version", 'T', '-'),
-    ("cv[n]-url", 'T', '-'),
-    ("colunit-protein", 'T', '-'),
-    ("colunit-peptide", 'T', '-'),
-    ("colunit-psm", 'T', '-'),
-    ("colunit-small_molecule", 'T', '-'),
+    (
+        Kind::Text,
+        &[
+            "mzTab-ID",
+            "title",
+            "description",
+            "software[n]-setting[n]",
+            "publication[n]",
+            "contact[n]-name",
+            "contact[n]-affiliation",
+            "contact[n]-email",
+            "uri[n]",
+            "fixed_mod[n]-site",
+            "fixed_mod[n]-position",
+            "variable_mod[n]-site",
+            "variable_mod[n]-position",
+            "ms_run[n]-location",
+            "sample[n]-description",
+            "assay[n]-quantification_mod[n]-site",
+            "assay[n]-quantification_mod[n]-position",
+            "study_variable[n]-description",
+            "cv[n]-label",
+            "cv[n]-full_name",
+            "cv[n]-version",
+            "cv[n]-url",
+            "colunit-protein",
+            "colunit-peptide",
+            "colunit-psm",
+            "colunit-small_molecule",
+        ],
+    ),
     // "Parameter:"
-    ("instrument[n]-name", 'P', '-'),
-    ("instrument[n]-source", 'P', '-'),
-    ("instrument[n]-analyzer[n]", 'P', '-'),
-    ("instrument[n]-detector", 'P', '-'),
-    ("software[n]", 'P', '-'),
-    ("protein_search_engine_score[n]", 'P', '-'),
-    ("peptide_search_engine_score[n]", 'P', '-'),
-    ("psm_search_engine_score[n]", 'P', '-'),
-    ("smallmolecule_search_engine_score[n]", 'P', '-'),
-    ("fixed_mod[n]", 'P', '-'),
-    ("variable_mod[n]", 'P', '-'),
-    ("quantification_method", 'P', '-'),
-    ("protein-quantification_unit", 'P', '-'),
-    ("peptide-quantification_unit", 'P', '-'),
-    ("small_molecule-quantification_unit", 'P', '-'),
-    ("ms_run[n]-format", 'P', '-'),
-    ("ms_run[n]-id_format", 'P', '-'),
-    ("ms_run[n]-fragmentation_method", 'P', '-'),
-    ("custom[n]", 'P', '-'),
-    ("sample[n]-species[n]", 'P', '-'),
-    ("sample[n]-tissue[n]", 'P', '-'),
-    ("sample[n]-cell_type[n]", 'P', '-'),
-    ("sample[n]-disease[n]", 'P', '-'),
-    ("sample[n]-custom[n]", 'P', '-'),
-    ("assay[n]-quantification_reagent", 'P', '-'),
-    ("assay[n]-quantification_mod[n]", 'P', '-'),
+    (
+        Kind::Parameter,
+        &[
+            "instrument[n]-name",
+            "instrument[n]-source",
+            "instrument[n]-analyzer[n]",
+            "instrument[n]-detector",
+            "software[n]",
+            "protein_search_engine_score[n]",
+            "peptide_search_engine_score[n]",
+            "psm_search_engine_score[n]",
+            "smallmolecule_search_engine_score[n]",
+            "fixed_mod[n]",
+            "variable_mod[n]",
+            "quantification_method",
+            "protein-quantification_unit",
+            "peptide-quantification_unit",
+            "small_molecule-quantification_unit",
+            "ms_run[n]-format",
+            "ms_run[n]-id_format",
+            "ms_run[n]-fragmentation_method",
+            "custom[n]",
+            "sample[n]-species[n]",
+            "sample[n]-tissue[n]",
+            "sample[n]-cell_type[n]",
+            "sample[n]-disease[n]",
+            "sample[n]-custom[n]",
+            "assay[n]-quantification_reagent",
+            "assay[n]-quantification_mod[n]",
+        ],
+    ),
     // "Parameter list:"
-    ("sample_processing[n]", 'Q', '-'),
-    ("false_discovery_rate", 'Q', '-'),
+    (
+        Kind::ParameterList,
+        &["sample_processing[n]", "false_discovery_rate"],
+    ),
     // "References:"
-    ("assay[n]-sample_ref", 'r', 'S'),
-    ("assay[n]-ms_run_ref", 'r', 'R'),
+    (Kind::Reference(Family::Sample), &["assay[n]-sample_ref"]),
+    (Kind::Reference(Family::MsRun), &["assay[n]-ms_run_ref"]),
     // "lists"
-    ("study_variable[n]-assay_refs", 'l', 'A'),
-    ("study_variable[n]-sample_refs", 'l', 'S'),
+    (
+        Kind::ReferenceList(Family::Assay),
+        &["study_variable[n]-assay_refs"],
+    ),
+    (
+        Kind::ReferenceList(Family::Sample),
+        &["study_variable[n]-sample_refs"],
+    ),
 ];
 
-/// Every column but the `opt_` ones: its sections, its name, its kind and the
-/// family its name names. "P, E, S, M are sections 1 to 4."
-pub const COLUMNS: &[(&str, &str, char, char)] = &[
-    // "Text:", K where `null` is not of the kind
-    ("P", "accession", 'K', '-'),
-    ("ES", "accession", 'T', '-'),
-    ("PM", "description", 'T', '-'),
-    ("PM", "species", 'T', '-'),
-    ("PESM", "database", 'T', '-'),
-    ("PESM", "database_version", 'T', '-'),
-    ("P", "ambiguity_members", 'T', '-'),
-    ("PESM", "modifications", 'T', '-'),
-    ("PESM", "uri", 'T', '-'),
-    ("P", "go_terms", 'T', '-'),
-    ("ES", "sequence", 'K', '-'),
-    ("S", "PSM_ID", 'K', '-'),
-    ("ESM", "spectra_ref", 'T', '-'),
-    ("S", "pre", 'T', '-'),
-    ("S", "post", 'T', '-'),
-    ("S", "start", 'T', '-'),
-    ("S", "end", 'T', '-'),
-    ("M", "identifier", 'T', '-'),
-    ("M", "chemical_formula", 'T', '-'),
-    ("M", "smiles", 'T', '-'),
-    ("M", "inchi_key", 'T', '-'),
-    ("M", "reliability", 'T', '-'),
+/// Every column but the `opt_` ones: its sections, its name and its kind. "P, E,
+/// S, M are sections 1 to 4."
+pub const COLUMNS: &[(&str, &str, Kind)] = &[
+    // "Text:", never null where `null` is not of the kind
+    ("P", "accession", Kind::NeverNull),
+    ("ES", "accession", Kind::Text),
+    ("PM", "description", Kind::Text),
+    ("PM", "species", Kind::Text),
+    ("PESM", "database", Kind::Text),
+    ("PESM", "database_version", Kind::Text),
+    ("P", "ambiguity_members", Kind::Text),
+    ("PESM", "modifications", Kind::Text),
+    ("PESM", "uri", Kind::Text),
+    ("P", "go_terms", Kind::Text),
+    ("ES", "sequence", Kind::NeverNull),
+    ("S", "PSM_ID", Kind::NeverNull),
+    ("ESM", "spectra_ref", Kind::Text),
+    ("S", "pre", Kind::Text),
+    ("S", "post", Kind::Text),
+    ("S", "start", Kind::Text),
+    ("S", "end", Kind::Text),
+    ("M", "identifier", Kind::Text),
+    ("M", "chemical_formula", Kind::Text),
+    ("M", "smiles", Kind::Text),
+    ("M", "inchi_key", Kind::Text),
+    ("M", "reliability", Kind::Text),
     // "Whole:"
-    ("PM", "taxid", 'W', '-'),
-    ("ESM", "charge", 'W', '-'),
-    ("P", "num_psms_ms_run[n]", 'W', 'R'),
-    ("P", "num_peptides_distinct_ms_run[n]", 'W', 'R'),
-    ("P", "num_peptides_unique_ms_run[n]", 'W', 'R'),
+    ("PM", "taxid", Kind::Whole),
+    ("ESM", "charge", Kind::Whole),
+    ("P", "num_psms_ms_run[n]", Kind::Whole),
+    ("P", "num_peptides_distinct_ms_run[n]", Kind::Whole),
+    ("P", "num_peptides_unique_ms_run[n]", Kind::Whole),
     // "Reliability PES: `1`, `2` or `3`. Unique ES: `0` or `1`."
-    ("PES", "reliability", 'R', '-'),
-    ("ES", "unique", 'U', '-'),
+    ("PES", "reliability", Kind::Reliability),
+    ("ES", "unique", Kind::Unique),
     // "Decimal:"
-    ("P", "protein_coverage", 'D', '-'),
-    ("E", "mass_to_charge", 'D', '-'),
-    ("SM", "exp_mass_to_charge", 'D', '-'),
-    ("SM", "calc_mass_to_charge", 'D', '-'),
-    ("PEM", "best_search_engine_score[n]", 'D', '-'),
-    ("PEM", "search_engine_score[n]_ms_run[n]", 'D', 'R'),
-    ("S", "search_engine_score[n]", 'D', '-'),
-    ("P", "protein_abundance_assay[n]", 'D', 'A'),
-    ("P", "protein_abundance_study_variable[n]", 'D', 'V'),
-    ("P", "protein_abundance_stdev_study_variable[n]", 'D', 'V'),
+    ("P", "protein_coverage", Kind::Decimal),
+    ("E", "mass_to_charge", Kind::Decimal),
+    ("SM", "exp_mass_to_charge", Kind::Decimal),
+    ("SM", "calc_mass_to_charge", Kind::Decimal),
+    ("PEM", "best_search_engine_score[n]", Kind::Decimal),
+    ("PEM", "search_engine_score[n]_ms_run[n]", Kind::Decimal),
+    ("S", "search_engine_score[n]", Kind::Decimal),
+    ("P", "protein_abundance_assay[n]", Kind::Decimal),
+    ("P", "protein_abundance_study_variable[n]", Kind::Decimal),
+    (
+        "P",
+        "protein_abundance_stdev_study_variable[n]",
+        Kind::Decimal,
+    ),
     (
         "P",
         "protein_abundance_std_error_study_variable[n]",
-        'D',
-        'V',
+        Kind::Decimal,
     ),
-    ("E", "peptide_abundance_assay[n]", 'D', 'A'),
-    ("E", "peptide_abundance_study_variable[n]", 'D', 'V'),
-    ("E", "peptide_abundance_stdev_study_variable[n]", 'D', 'V'),
+    ("E", "peptide_abundance_assay[n]", Kind::Decimal),
+    ("E", "peptide_abundance_study_variable[n]", Kind::Decimal),
+    (
+        "E",
+        "peptide_abundance_stdev_study_variable[n]",
+        Kind::Decimal,
+    ),
     (
         "E",
         "peptide_abundance_std_error_study_variable[n]",
-        'D',
-        'V',
+        Kind::Decimal,
     ),
-    ("M", "smallmolecule_abundance_assay[n]", 'D', 'A'),
-    ("M", "smallmolecule_abundance_study_variable[n]", 'D', 'V'),
+    ("M", "smallmolecule_abundance_assay[n]", Kind::Decimal),
+    (
+        "M",
+        "smallmolecule_abundance_study_variable[n]",
+        Kind::Decimal,
+    ),
     (
         "M",
         "smallmolecule_abundance_stdev_study_variable[n]",
-        'D',
-        'V',
+        Kind::Decimal,
     ),
     (
         "M",
         "smallmolecule_abundance_std_error_study_variable[n]",
-        'D',
-        'V',
+        Kind::Decimal,
     ),
     // "Decimal list:"
-    ("ESM", "retention_time", 'L', '-'),
+    ("ESM", "retention_time", Kind::DecimalList),
     // "Window:"
-    ("E", "retention_time_window", 'N', '-'),
+    ("E", "retention_time_window", Kind::Window),
     // "Parameter list:"
-    ("PESM", "search_engine", 'Q', '-'),
+    ("PESM", "search_engine", Kind::ParameterList),
 ];
 
 /// "Required:" the columns that a header of the section must have.
@@ -204,11 +256,20 @@ pub fn required(section: u32) -> &'static [&'static str] {
     }
 }
 
+/// Every metadata key with its kind, in the order of the lists.
+pub fn keys() -> impl Iterator<Item = (&'static str, Kind)> {
+    let of_kind = |(kind, patterns): &'static (Kind, &[&'static str])| {
+        patterns.iter().map(move |pattern| (*pattern, *kind))
+    };
+    KEYS.iter().flat_map(of_kind)
+}
+
 /// What is known of a metadata key; nothing of an unknown one.
 pub fn key(name: &[u8]) -> Option<Known> {
-    for (pattern, kind, family) in KEYS {
+    for (pattern, kind) in keys() {
         if let Some((i, j)) = fits(pattern, name) {
-            return Some(known(*kind, *family, i, j));
+            let family = None;
+            return Some(Known { kind, family, i, j });
         }
     }
     None
@@ -220,40 +281,51 @@ pub fn column(section: u32, name: &[u8]) -> Option<Known> {
     // "A name that begins `opt_` and has a byte more is known everywhere; text,
     // and names no id."
     if name.starts_with(b"opt_") && name.len() > 4 {
-        return Some(known('T', '-', 0, 0));
+        return Some(OPTIONAL);
     }
-    for (sections, pattern, kind, family) in COLUMNS {
+    for (sections, pattern, kind) in COLUMNS {
         if let Some((i, j)) = fits(pattern, name) {
             if sections.contains(letter) {
-                return Some(known(*kind, *family, i, j));
+                let (kind, family) = (*kind, family_at_end(pattern));
+                return Some(Known { kind, family, i, j });
             }
         }
     }
     None
 }
 
-/// The id, as family letter and index, that a known key begins with.
-pub fn declares(name: &[u8]) -> Option<(char, u32)> {
+const OPTIONAL: Known = Known {
+    kind: Kind::Text,
+    family: None,
+    i: 0,
+    j: 0,
+};
+
+/// A column names an id where its name ends with one.
+fn family_at_end(pattern: &str) -> Option<Family> {
+    let before_index = pattern.strip_suffix("[n]")?;
+    let ends_so = |family: &Family| before_index.ends_with(family.word());
+    FAMILIES.into_iter().find(ends_so)
+}
+
+/// The id, as family and index, that a known key begins with.
+pub fn declares(name: &[u8]) -> Option<(Family, u32)> {
     key(name)?;
-    for (letter, word) in FAMILIES {
-        if let Some((value, _)) = name.strip_prefix(word.as_bytes()).and_then(index) {
-            return Some((letter, value));
+    for family in FAMILIES {
+        let rest = name.strip_prefix(family.word().as_bytes());
+        if let Some((value, _)) = rest.and_then(index) {
+            return Some((family, value));
         }
     }
     None
 }
 
 /// The id that a column's name names: the last index of the name is the id's.
-pub fn named_id(column: &Known) -> Option<(char, u32)> {
-    match (column.family, column.j) {
-        ('-', _) => None,
-        (family, 0) => Some((family, column.i)),
-        (family, j) => Some((family, j)),
+pub fn named_id(column: &Known) -> Option<(Family, u32)> {
+    match column.j {
+        0 => Some((column.family?, column.i)),
+        j => Some((column.family?, j)),
     }
-}
-
-fn known(kind: char, family: char, i: u32, j: u32) -> Known {
-    Known { kind, family, i, j }
 }
 
 fn section_letter(section: u32) -> Option<char> {

@@ -1,5 +1,6 @@
 //! What the binary prints in each of its modes, as bytes.
 
+use crate::names::{Family, Kind, Known};
 use crate::{
     add, cell, cell_or, judge, kinds, names, read, reading, rows, split, weights as weights_of,
     Break, Reading,
@@ -146,11 +147,11 @@ pub fn kinds_of(value: &[u8]) -> String {
     ];
     let indices: Vec<String> = names::FAMILIES
         .iter()
-        .map(|(_, word)| kinds::reference(word, value).to_string())
+        .map(|family| kinds::reference(family.word(), value).to_string())
         .collect();
     let lists: String = names::FAMILIES
         .iter()
-        .map(|(_, word)| bit(kinds::reference_list(word, value).is_some()))
+        .map(|family| bit(kinds::reference_list(family.word(), value).is_some()))
         .collect();
     let seven: String = seven.into_iter().map(bit).collect();
     format!(
@@ -185,17 +186,52 @@ pub fn names_of(name: &[u8]) -> String {
     fields.join(" ; ")
 }
 
-fn known_text(known: Option<names::Known>) -> String {
+fn known_text(known: Option<Known>) -> String {
     match known {
         None => "-".to_string(),
-        Some(k) => format!("{}{} {} {}", k.kind, k.family, k.i, k.j),
+        Some(k) => {
+            let (kind, family) = letters(&k);
+            format!("{kind}{family} {} {}", k.i, k.j)
+        }
     }
 }
 
-fn declared_text(id: Option<(char, u32)>) -> String {
+/// The letters of a kind and a family that the run test prints. They are its
+/// own affair: nothing here judges by them.
+fn letters(known: &Known) -> (char, char) {
+    let kind = match known.kind {
+        Kind::Version => 'v',
+        Kind::Mode => 'm',
+        Kind::Type => 't',
+        Kind::Text => 'T',
+        Kind::NeverNull => 'K',
+        Kind::Whole => 'W',
+        Kind::Decimal => 'D',
+        Kind::DecimalList => 'L',
+        Kind::Window => 'N',
+        Kind::Parameter => 'P',
+        Kind::ParameterList => 'Q',
+        Kind::Reference(family) => return ('r', letter(family)),
+        Kind::ReferenceList(family) => return ('l', letter(family)),
+        Kind::Reliability => 'R',
+        Kind::Unique => 'U',
+    };
+    (kind, known.family.map_or('-', letter))
+}
+
+fn letter(family: Family) -> char {
+    match family {
+        Family::Sample => 'S',
+        Family::Assay => 'A',
+        Family::StudyVariable => 'V',
+        Family::MsRun => 'R',
+    }
+}
+
+fn declared_text(id: Option<(Family, u32)>) -> String {
     match id {
         None => "-".to_string(),
-        Some((family, index)) => format!("{family} {index}"),
+        Some((family, index)) => format!("{} {index}", letter(family)),
     }
 }
 

@@ -120,10 +120,10 @@ fn every_name_is_known_as_the_paper_says() {
 #[test]
 fn the_lists_are_the_same() {
     let mut listed: Vec<String> = Vec::new();
-    for (pattern, _, _) in independent::names::KEYS {
+    for (pattern, _) in independent::names::keys() {
         listed.push(pattern.replacen("[n]", "[3]", 1).replacen("[n]", "[5]", 1));
     }
-    for (_, pattern, _, _) in independent::names::COLUMNS {
+    for (_, pattern, _) in independent::names::COLUMNS {
         listed.push(pattern.replacen("[n]", "[3]", 1).replacen("[n]", "[5]", 1));
     }
     listed.sort();
