@@ -363,6 +363,18 @@ static struct view cell(const uint8_t *f, size_t n, uint32_t section, uint32_t r
     return v;
 }
 
+/* The same with a stand-in. */
+struct either {
+    struct view view;
+    uint32_t stood_in;
+};
+
+static struct either cell_or(const uint8_t *f, size_t n, uint32_t section, uint32_t row, uint32_t column, const char *stand_in) {
+    struct either e = {{0, 77, 77}, 77};
+    e.view.start = mztab_cell_or(f, n, section, row, column, (const uint8_t *)stand_in, strlen(stand_in), &e.view.number, &e.view.length, &e.stood_in);
+    return e;
+}
+
 /* A reading call, with its outcome. */
 struct read {
     uint32_t kind, number, line, cell, places;
@@ -475,6 +487,25 @@ static int same_records(size_t n, size_t breaks) {
     free(places);
     free(faults);
     return same;
+}
+
+/* The call with a stand-in shows it where the cell is `null`, and else what the plain call shows; with a stand-in of no bytes, and of the cell's own. */
+static void stand_ins(void) {
+    static const char *const others[] = {"", "-", "null", "x"};
+    const uint8_t *f = (const uint8_t *)EXAMPLE;
+    size_t n = sizeof EXAMPLE - 1;
+    for (uint32_t section = 0; section < 6; section++)
+        for (uint32_t row = 0; row < 4; row++)
+            for (uint32_t column = 0; column < 7; column++)
+                for (size_t i = 0; i < COUNT(others); i++) {
+                    struct view v = cell(f, n, section, row, column);
+                    struct either e = cell_or(f, n, section, row, column, others[i]);
+                    int null = v.length == 4 && memcmp(f + v.start, "null", 4) == 0;
+                    check(e.view.number == v.number && e.stood_in == (uint32_t)null, "stand-in: number, and which", i);
+                    check(e.view.length == (null ? strlen(others[i]) : v.length), "stand-in: length", i);
+                    check(e.view.start == (null ? 0 : v.start), "stand-in: start", i);
+                }
+    group("stand-ins");
 }
 
 /* The call over records gives what the call over places gives: around its parts of 2,791 to 4,096 breaks, past the last break, and over the limit. */
@@ -1074,6 +1105,7 @@ int main(int words, char **word) {
     if (most == 0 || most > LIMIT) most = LIMIT;
     limits();
     lists();
+    stand_ins();
     records();
     edges();
     views();

@@ -38,6 +38,12 @@ extern "C" {
  * Refused with 1 to 4, and both are then 0. */
 size_t mztab_cell(const uint8_t *file, size_t file_length, uint32_t section, uint32_t row, uint32_t column, uint32_t *number, size_t *length);
 
+/* Shows a cell, found as by mztab_cell, or where it is `null` the stand-in that is lent. *stood_in says which: 0, and the view is
+ * file[answer .. answer + *length]; or 1, and it is stand_in[0 .. *length], all of it. Refused with 1 to 4, and all three are then 0. stand_in is a pointer to
+ * stand_in_length bytes, not null also where that is 0. */
+size_t mztab_cell_or(const uint8_t *file, size_t file_length, uint32_t section, uint32_t row, uint32_t column, const uint8_t *stand_in,
+                     size_t stand_in_length, uint32_t *number, size_t *length, uint32_t *stood_in);
+
 /* Reads a cell, found as by mztab_cell. The answer is the case: 0 missing (`null`), 1 whole, 2 decimal, 3 infinite (`INF`), 4 not a number (`NaN`),
  * 5 long decimal (more than 15 digits), 6 text (all else, an empty cell too). *line and *cell say where it stands. A whole has its value in *whole. A
  * decimal has its signed numerals in *whole, its places after the dot in *places, and in *decimal the numerals divided once by ten to the places as IEEE

@@ -138,6 +138,8 @@ def _typed(library):
     file, asked = [ctypes.c_char_p, size], [u32, u32, u32]
     library.mztab_cell.argtypes = file + asked + [u32_place, ctypes.POINTER(size)]
     library.mztab_cell.restype = size
+    library.mztab_cell_or.argtypes = file + asked + file + [u32_place, ctypes.POINTER(size), u32_place]
+    library.mztab_cell_or.restype = size
     library.mztab_reading.argtypes = (
         file + asked + [u32_place] * 3 + [ctypes.POINTER(ctypes.c_int64), u32_place, ctypes.POINTER(ctypes.c_double)]
     )
@@ -216,12 +218,16 @@ def cell(data: bytes, section: int, row: int, column: int, stand_in: Optional[by
     Row 0 is the section's first header, row r its r-th row. Column c is cell c + 1 of the line; column 0 is refused. Raises TooLong, NoSection,
     NoRow, NoCell, in this order.
     """
-    data = _bytes(data)
-    number, length = ctypes.c_uint32(), ctypes.c_size_t()
-    start = _library.mztab_cell(data, len(data), *_asked(section, row, column), number, length)
+    data, asked = _bytes(data), _asked(section, row, column)
+    number, length, stood_in = ctypes.c_uint32(), ctypes.c_size_t(), ctypes.c_uint32()
+    if stand_in is None:
+        start = _library.mztab_cell(data, len(data), *asked, number, length)
+    else:
+        stand_in = _bytes(stand_in)
+        start = _library.mztab_cell_or(data, len(data), *asked, stand_in, len(stand_in), number, length, stood_in)
     _refuse(number.value)
-    shown = data[start : start + length.value]
-    return stand_in if stand_in is not None and shown == b"null" else shown
+    of = stand_in if stood_in.value else data
+    return of[start : start + length.value]
 
 
 def reading(data: bytes, section: int, row: int, column: int) -> Reading:

@@ -176,11 +176,13 @@ pub fn judge_once(file: &[u8], list: usize) -> Result<Judged, Refusal> {
 pub fn cell(file: &[u8], section: u32, row: u32, column: u32) -> Result<&[u8], Refusal> {
     let answer = raw::cell(file, section, row, column);
     refused(answer.number)?;
-    let shown = answer
-        .start
-        .checked_add(answer.length)
-        .and_then(|end| file.get(answer.start..end));
-    Ok(shown.expect("the view lies in the file"))
+    Ok(view(file, answer.start, answer.length))
+}
+
+/// The part of the bytes from a start on, of this length.
+fn view(bytes: &[u8], start: usize, length: usize) -> &[u8] {
+    let shown = start.checked_add(length).and_then(|end| bytes.get(start..end));
+    shown.expect("the view lies in what was lent")
 }
 
 /// Shows a cell, or the stand-in where the cell is `null`.
@@ -191,10 +193,10 @@ pub fn cell_or<'a>(
     column: u32,
     stand_in: &'a [u8],
 ) -> Result<&'a [u8], Refusal> {
-    match cell(file, section, row, column)? {
-        b"null" => Ok(stand_in),
-        shown => Ok(shown),
-    }
+    let answer = raw::cell_or(file, section, row, column, stand_in);
+    refused(answer.number)?;
+    let of = if answer.stood_in == 1 { stand_in } else { file };
+    Ok(view(of, answer.start, answer.length))
 }
 
 /// What a cell reads as.

@@ -13,6 +13,19 @@ mod c {
             length: *mut usize,
         ) -> usize;
 
+        pub fn mztab_cell_or(
+            file: *const u8,
+            file_length: usize,
+            section: u32,
+            row: u32,
+            column: u32,
+            stand_in: *const u8,
+            stand_in_length: usize,
+            number: *mut u32,
+            length: *mut usize,
+            stood_in: *mut u32,
+        ) -> usize;
+
         pub fn mztab_reading(
             file: *const u8,
             file_length: usize,
@@ -88,6 +101,15 @@ pub struct Cell {
     pub length: usize,
 }
 
+/// What `mztab_cell_or` writes and answers: the view is of the stand-in where `stood_in` is 1.
+#[derive(Clone, Copy, Debug, PartialEq, Eq)]
+pub struct CellOr {
+    pub number: u32,
+    pub start: usize,
+    pub length: usize,
+    pub stood_in: u32,
+}
+
 /// What `mztab_reading` writes and answers.
 #[derive(Clone, Copy, Debug)]
 pub struct Reading {
@@ -142,6 +164,31 @@ pub fn cell(file: &[u8], section: u32, row: u32, column: u32) -> Cell {
         number,
         start,
         length,
+    }
+}
+
+pub fn cell_or(file: &[u8], section: u32, row: u32, column: u32, stand_in: &[u8]) -> CellOr {
+    let (mut number, mut length, mut stood_in) = (UNSET, usize::MAX, UNSET);
+    // As above, of both slices; the three places are our own.
+    let start = unsafe {
+        c::mztab_cell_or(
+            file.as_ptr(),
+            file.len(),
+            section,
+            row,
+            column,
+            stand_in.as_ptr(),
+            stand_in.len(),
+            &mut number,
+            &mut length,
+            &mut stood_in,
+        )
+    };
+    CellOr {
+        number,
+        start,
+        length,
+        stood_in,
     }
 }
 
