@@ -22,17 +22,17 @@ one-of-two : (t : Bool) (other file v w : RefT Bytes) (start : ℕ) → PointsOr
 one-of-two true other file v w start p q = let e = p ∙ sym q in (ap (λ (x : RefT Bytes). x .ptr .0) e, ap (λ (x : RefT Bytes). x .ptr .1) e)
 one-of-two false other file v w start p q = one-place file v w start p q
 
-module _ (file : RefT Bytes) (section row column : ℕ) {n m : ℕ} (v w : RefT Bytes) where
+module _ (file : RefT Bytes) (section row column : ℕ) (v w : RefT Bytes) where
   abbrev found : Sought
   found = sought (file .now) section row column
 
   -- `cell`: one number, the same bytes at the same place
-  pub cell-once : given n (v .now) ≡ shown found → Points file (found .start) v → given m (w .now) ≡ shown found → Points file (found .start) w
+  pub cell-once : {n m : ℕ} → given n (v .now) ≡ shown found → Points file (found .start) v → given m (w .now) ≡ shown found → Points file (found .start) w
       → (n ≡ m) × (v .now ≡ w .now) × (v .ptr .0 ≡ w .ptr .0) × (v .ptr .1 ≡ w .ptr .1)
   cell-once p a q b = let e = one-answer p q in let f = one-place file v w (found .start) a b in (e .0, e .1, f .0, f .1)
 
   -- `cell_or`, whatever the stand-in
-  pub cell-or-once : (other : RefT Bytes) → given n (v .now) ≡ orElse (other .now) (shown found) → PointsOr (is (found .view) "null") other file (found .start) v
+  pub cell-or-once : {n m : ℕ} (other : RefT Bytes) → given n (v .now) ≡ orElse (other .now) (shown found) → PointsOr (is (found .view) "null") other file (found .start) v
       → given m (w .now) ≡ orElse (other .now) (shown found) → PointsOr (is (found .view) "null") other file (found .start) w
       → (n ≡ m) × (v .now ≡ w .now) × (v .ptr .0 ≡ w .ptr .0) × (v .ptr .1 ≡ w .ptr .1)
   cell-or-once other p a q b = let e = one-answer p q in let f = one-of-two (is (found .view) "null") other file v w (found .start) a b in (e .0, e .1, f .0, f .1)

@@ -13,8 +13,8 @@ use Rattle.text_bytes.specs.Bytes.{Bytes}
 use Rattle.text.specs.Lines.{LIMIT, lines}
 use Rattle.rules.specs.Breaks.{Break, breakAt}
 use Rattle.rules.specs.Rules.{breaksBy, breaks}
-use Rattle.scan.specs.Places.{Lent, lent, putAll}
-use Rattle.scan.proofs.Laws.Placing.{Holds, placed-at}
+use Rattle.scan.specs.Places.{Written, Lent, lent, putAll}
+use Rattle.scan.proofs.Laws.Placing.{placed-at}
 use Rattle.judging.specs.Parts.{putSoFar, Parts}
 use Rattle.judging.specs.declared.parts.Stand.{Stand}
 use Rattle.faults.specs.declared.Fault.{Fault}
@@ -72,7 +72,7 @@ records-put bs ys (suc t) i e h =
     let w : 3 * i + 3 ≡ 3 * suc i = omega arith in
     let ps = putAll (lent ys 0) bs .places in
     let b = getD bs i (breakAt 0 0 0) in
-    let held : Holds ps (3 * i) b = rw z at (placed-at bs ys 0 i (omega arith) (omega arith)) in
+    let held : Written ps (3 * i) b = rw z at (placed-at bs ys 0 i (omega arith) (omega arith)) in
     let first : recordAt ps (3 * i) ≡ faultOf b = rw (held .rule, held .line, held .cell) in
     ap (λ (f : Fault). f ∷ records ps (3 * i + 3) t) first ∙ ap (λ (j : ℕ). faultOf b ∷ records ps j t) w ∙ ap (λ (fs : List Fault). faultOf b ∷ fs) (records-put bs ys t (suc i) (omega arith) h)
     ∙ ap (map faultOf) (sym (drop-cons bs i (breakAt 0 0 0) (omega arith)))

@@ -1,5 +1,5 @@
 -- The promises of the judging call over places, from what it ensures. Assumes nothing.
-use mathlib.Core.Path.{_≡_, refl, sym, ap, _∙_}
+use mathlib.Core.Path.{_≡_, refl, sym, ap, subst, _∙_}
 use mathlib.Core.Bool.{Bool, true, false}
 use mathlib.Core.List.{List, []}
 use mathlib.Core.Logic.{_⊎_, ⊎-elim}
@@ -10,10 +10,10 @@ use lib.ListN.{length, getD}
 use borrow.Author.Tests.{le-ltb, lt-ltb, leb-true, leb-false, ltb-true, ltb-false}
 use Rattle.text_bytes.specs.Bytes.{Bytes}
 use Rattle.text.specs.Lines.{LIMIT}
-use Rattle.rules.specs.Breaks.{Break}
+use Rattle.rules.specs.Breaks.{breakAt}
 use Rattle.rules.specs.Rules.{breaks}
 use Rattle.rules.proofs.Laws.Promises.{breaks-reported, accepted-whole, whole-accepted, length-none}
-use Rattle.scan.specs.Places.{lent, putAll}
+use Rattle.scan.specs.Places.{Written, lent, putAll}
 use Rattle.scan.proofs.Laws.Putting.{put-count}
 use Rattle.scan.proofs.Laws.Placing.{placed-length, placed-at, placed-above, placed-short}
 use Rattle.mztab.specs.Judged.{Outcome, outcome, ended, judged}
@@ -61,6 +61,6 @@ module _ (file : Bytes) (ys : List ℕ) {n k : ℕ} {zs : List ℕ} (call : outc
           none-broken = λ z l c r h. accepted-whole file (length-none (breaks file) (sym many ∙ z)) h;
           accepted = λ h. many ∙ ap length (whole-accepted file h);
           long = ap length places ∙ placed-length (breaks file) ys 0;
-          stands = λ i f. let z : 0 + i ≡ i = omega arith in rw (places, ← z) (placed-at (breaks file) ys 0 i (omega (arith, f .0, many)) (omega (arith, f .1)));
+          stands = λ i f. let z : 0 + i ≡ i = omega arith in rw places (subst (λ (j : ℕ). Written (putAll (lent ys 0) (breaks file) .places) (3 * j) (getD (breaks file) i (breakAt 0 0 0))) z (placed-at (breaks file) ys 0 i (omega (arith, f .0, many)) (omega (arith, f .1))));
           untouched = kept;
         }
