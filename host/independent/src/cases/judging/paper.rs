@@ -3,7 +3,7 @@
 use super::{head, wide, wide_row, Cases, EH, ER, MH, MR, PAPER, PH, PR, SH, SR};
 use crate::cases::tabs;
 
-pub fn the_papers_own(c: &mut Cases) {
+pub(super) fn the_papers_own(c: &mut Cases) {
     c.whole(
         "the paper's example",
         PAPER,
@@ -105,7 +105,7 @@ pub fn the_papers_own(c: &mut Cases) {
     c.protein("- is not missing", "taxid", "-", &[(7, 6, 20)]);
 }
 
-pub fn lines_and_cells(c: &mut Cases) {
+pub(super) fn lines_and_cells(c: &mut Cases) {
     c.whole("the five with CR LF", head().replace('\n', "\r\n"), &[]);
     c.whole("the five without the last LF", head().trim_end(), &[]);
     c.whole(

@@ -2,7 +2,7 @@
 
 use super::{Cases, EH, MH, PH, SH};
 
-pub fn rule_20(c: &mut Cases) {
+pub(super) fn rule_20(c: &mut Cases) {
     c.headed(
         "rule 20: null accession",
         format!("{PH}\nPRT→null→null→null→null\n"),

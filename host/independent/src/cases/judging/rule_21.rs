@@ -2,7 +2,7 @@
 
 use super::{Cases, MODE, RUN, TYPE, VERSION, WORDS};
 
-pub fn rule_21(c: &mut Cases) {
+pub(super) fn rule_21(c: &mut Cases) {
     c.whole(
         "rule 21: no version",
         format!("{MODE}\n{TYPE}\n{WORDS}\n{RUN}\n"),

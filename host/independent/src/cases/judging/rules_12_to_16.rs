@@ -2,7 +2,7 @@
 
 use super::{Cases, EH, MH, MR, PH, PR, SH};
 
-pub fn rule_12(c: &mut Cases) {
+pub(super) fn rule_12(c: &mut Cases) {
     c.headed(
         "rule 12: every protein column",
         "MTD→assay[1]-ms_run_ref→ms_run[1]\nMTD→study_variable[1]-description→a\n\
@@ -134,7 +134,7 @@ pub fn rule_12(c: &mut Cases) {
     );
 }
 
-pub fn rule_13(c: &mut Cases) {
+pub(super) fn rule_13(c: &mut Cases) {
     c.headed("rule 13: twice", format!("{PH}→accession\n"), &[(6, 6, 13)]);
     c.headed(
         "rule 13: three times",
@@ -190,7 +190,7 @@ pub fn rule_13(c: &mut Cases) {
     );
 }
 
-pub fn rule_14(c: &mut Cases) {
+pub(super) fn rule_14(c: &mut Cases) {
     c.headed(
         "rule 14: opt_ at the end",
         format!("{PH}→taxid→opt_a→opt_b\n"),
@@ -233,7 +233,7 @@ pub fn rule_14(c: &mut Cases) {
     );
 }
 
-pub fn rule_15(c: &mut Cases) {
+pub(super) fn rule_15(c: &mut Cases) {
     c.headed(
         "rule 15: declared",
         format!("MTD→assay[2]-sample_ref→sample[1]\nMTD→sample[1]-description→a\nMTD→study_variable[3]-description→a\n{PH}→protein_abundance_assay[2]→protein_abundance_study_variable[3]→protein_abundance_stdev_study_variable[3]→protein_abundance_std_error_study_variable[3]→num_psms_ms_run[1]\n"),
@@ -300,7 +300,7 @@ pub fn rule_15(c: &mut Cases) {
     );
 }
 
-pub fn rule_16(c: &mut Cases) {
+pub(super) fn rule_16(c: &mut Cases) {
     for name in ["accession", "description", "database", "search_engine"] {
         let header = format!("{PH}\n").replace(&format!("→{name}"), "→uri");
         c.headed("rule 16: a protein column absent", header, &[(6, 1, 16)]);

@@ -2,7 +2,7 @@
 
 use super::{wide, Cases, EH, ER, MH, MR, PH, PR, SR};
 
-pub fn rule_17(c: &mut Cases) {
+pub(super) fn rule_17(c: &mut Cases) {
     c.headed("rule 17: no header", format!("{PR}\n"), &[(6, 1, 17)]);
     c.headed(
         "rule 17: the header below",
@@ -56,7 +56,7 @@ pub fn rule_17(c: &mut Cases) {
     );
 }
 
-pub fn rule_18(c: &mut Cases) {
+pub(super) fn rule_18(c: &mut Cases) {
     c.headed(
         "rule 18: one less",
         format!("{PH}\nPRT→Y1→null→db\n"),
@@ -99,7 +99,7 @@ pub fn rule_18(c: &mut Cases) {
     );
 }
 
-pub fn rule_19(c: &mut Cases) {
+pub(super) fn rule_19(c: &mut Cases) {
     c.headed(
         "rule 19: in the middle",
         format!("{PH}\nPRT→Y1→→db→null\n"),

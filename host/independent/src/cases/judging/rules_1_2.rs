@@ -3,7 +3,7 @@
 use super::{Cases, PH, PR};
 use crate::cases::tabs;
 
-pub fn rule_1(c: &mut Cases) {
+pub(super) fn rule_1(c: &mut Cases) {
     c.headed("rule 1: byte 31", b"MTD\ttitle\ta\x1fb\n", &[(6, 3, 1)]);
     c.headed("rule 1: byte 32", b"MTD\ttitle\ta b\n", &[]);
     c.headed("rule 1: byte 126", b"MTD\ttitle\t~\n", &[]);
@@ -74,7 +74,7 @@ pub fn rule_1(c: &mut Cases) {
     );
 }
 
-pub fn rule_2(c: &mut Cases) {
+pub(super) fn rule_2(c: &mut Cases) {
     c.headed(
         "rule 2: case counts",
         "mtd→title→a\nMtd→title→a\nprh→x\nPrt→x\nPEp→x\npsm→x\nSMl→x\nCom\n",

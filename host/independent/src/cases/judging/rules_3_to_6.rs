@@ -2,7 +2,7 @@
 
 use super::{head, wide, Cases, EH, MH, MR, PH, RUN, SH, VERSION};
 
-pub fn rule_3(c: &mut Cases) {
+pub(super) fn rule_3(c: &mut Cases) {
     c.headed("rule 3: one cell", "MTD\n", &[(6, 1, 3)]);
     c.headed("rule 3: two cells", "MTD→title\n", &[(6, 1, 3)]);
     c.headed("rule 3: three cells", "MTD→title→a\n", &[]);
@@ -44,7 +44,7 @@ pub fn rule_3(c: &mut Cases) {
     );
 }
 
-pub fn rule_4(c: &mut Cases) {
+pub(super) fn rule_4(c: &mut Cases) {
     c.headed(
         "rule 4: after a header",
         format!("{PH}\nMTD→title→a\n"),
@@ -106,7 +106,7 @@ pub fn rule_4(c: &mut Cases) {
     );
 }
 
-pub fn rule_5(c: &mut Cases) {
+pub(super) fn rule_5(c: &mut Cases) {
     c.headed("rule 5: unknown", "MTD→foo→a\n", &[(6, 2, 5)]);
     c.headed("rule 5: empty key", "MTD→→a\n", &[(6, 2, 5)]);
     c.headed(
@@ -224,7 +224,7 @@ MTD→colunit-small_molecule→retention_time=[UO,UO:0000031, minute,]
 "
 }
 
-pub fn rule_6(c: &mut Cases) {
+pub(super) fn rule_6(c: &mut Cases) {
     c.headed("rule 6: twice", "MTD→title→a\nMTD→title→b\n", &[(7, 2, 6)]);
     c.headed(
         "rule 6: three times",

@@ -2,7 +2,7 @@
 
 use super::{head, Cases, MH};
 
-pub fn rule_7(c: &mut Cases) {
+pub(super) fn rule_7(c: &mut Cases) {
     for value in ["1.0", "1.0.0"] {
         c.whole("rule 7: version", head().replace("1.0.0", value), &[]);
     }
@@ -169,7 +169,7 @@ pub fn rule_7(c: &mut Cases) {
     );
 }
 
-pub fn rule_8(c: &mut Cases) {
+pub(super) fn rule_8(c: &mut Cases) {
     c.headed(
         "rule 8: declared above",
         "MTD→sample[2]-description→a\nMTD→assay[1]-sample_ref→sample[2]\n",

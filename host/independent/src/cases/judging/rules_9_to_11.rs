@@ -2,7 +2,7 @@
 
 use super::{wide, wide_row, Cases, EH, ER, MH, MR, PH, PR, SH};
 
-pub fn rules_9_and_10(c: &mut Cases) {
+pub(super) fn rules_9_and_10(c: &mut Cases) {
     c.headed(
         "rule 9: twice",
         format!("{PH}\n{PR}\n{PH}\n{PR}\n"),
@@ -93,7 +93,7 @@ pub fn rules_9_and_10(c: &mut Cases) {
     );
 }
 
-pub fn rule_11(c: &mut Cases) {
+pub(super) fn rule_11(c: &mut Cases) {
     c.headed("rule 11: 256", format!("{}\n", wide(256)), &[]);
     c.headed("rule 11: 257", format!("{}\n", wide(257)), &[(6, 1, 11)]);
     c.headed(

@@ -2,7 +2,7 @@
 
 use super::Cases;
 
-pub fn several_at_once(c: &mut Cases) {
+pub(super) fn several_at_once(c: &mut Cases) {
     c.whole(
         "many rules in one file",
         "PRT→a\nMTD→foo→a\nMTD→title\nMTD→title→\nPEH→sequence→sequence→opt_→x\n\
