@@ -4,10 +4,11 @@ use std::ffi::OsString;
 use std::io::{self, Write};
 use std::os::unix::ffi::OsStringExt;
 
+use mztab::format::SECTIONS;
 use mztab::{Refusal, Value};
 
-use crate::files;
-use crate::files::tables::{self, SECTIONS};
+use crate::files::tables;
+use crate::files::{self, Unread};
 use crate::output::show;
 use crate::words::failure::Failure;
 use crate::words::{misused, number, Words};
@@ -109,7 +110,7 @@ fn question(command: &str, words: Vec<OsString>) -> Result<Question, Failure> {
 fn every_section() -> String {
     let all: Vec<String> = SECTIONS
         .iter()
-        .map(|(number, name, ..)| format!("{number} {name}"))
+        .map(|section| format!("{} {}", section.number, section.name))
         .collect();
     all.join(", ")
 }
@@ -119,7 +120,7 @@ impl Question {
     fn refused(&self, refusal: Refusal) -> Failure {
         let words = match refusal {
             Refusal::TooLong => {
-                return Failure::Stopped(format!("{} {}", self.name, files::TOO_LONG))
+                return Failure::Stopped(format!("{} {}", self.name, Unread::TooLong))
             }
             Refusal::NoSection => format!(
                 "there is no section {}: ask for {}",

@@ -7,6 +7,7 @@ use mztab::Judged;
 use crate::files::judged::judged;
 use crate::files::{self, Source};
 use crate::output::in_order::{in_order, Out};
+use crate::output::pages::Titles;
 use crate::output::terminal;
 use crate::output::told::Teller;
 use crate::output::write::{Format, Sum, Verdict};
@@ -16,6 +17,8 @@ use crate::words::{self, Words};
 struct Options {
     format: Format,
     most: usize,
+    /// Read from the document once, for all files.
+    titles: Titles,
 }
 
 pub fn run(words: Words) -> Result<u8, Failure> {
@@ -24,6 +27,7 @@ pub fn run(words: Words) -> Result<u8, Failure> {
             coloured: terminal::coloured(),
         },
         most: usize::MAX,
+        titles: Titles::new(),
     };
     let plain = words.sort(|name, words| option(name, words, &mut options))?;
     let sources = files::named("check", plain)?;
@@ -58,8 +62,8 @@ fn judge_all(sources: &[Source], options: &Options) -> Result<Sum, Failure> {
     let mut sum = Sum::default();
     for (source, verdict) in sources.iter().zip(verdicts) {
         let verdict = verdict?;
-        if let Verdict::NotJudged(words) = &verdict {
-            terminal::say(&format!("bolfrake: {} {words}", source.name()));
+        if let Verdict::NotJudged(unread) = &verdict {
+            terminal::say(&format!("bolfrake: {} {unread}", source.name()));
         }
         sum.add(&verdict);
     }
@@ -72,9 +76,9 @@ fn judge_all(sources: &[Source], options: &Options) -> Result<Sum, Failure> {
 fn judge(k: usize, source: &Source, options: &Options, out: &mut Out) -> io::Result<Verdict> {
     let name = source.name();
     match judged(source, options.most, out) {
-        Ok((file, judged)) => print(k, &name, &file, &judged, options.format, out),
-        Err(words) => {
-            let verdict = Verdict::NotJudged(words);
+        Ok((file, judged)) => print(k, &name, &file, &judged, options, out),
+        Err(unread) => {
+            let verdict = Verdict::NotJudged(unread);
             options.format.before(k, &name, &verdict, out)?;
             options.format.after(&name, &verdict, out)?;
             Ok(verdict)
@@ -87,9 +91,10 @@ fn print(
     name: &str,
     file: &[u8],
     judged: &Judged,
-    format: Format,
+    options: &Options,
     out: &mut Out,
 ) -> io::Result<Verdict> {
+    let format = options.format;
     let breaks = judged.breaks();
     let verdict = Verdict::Judged {
         breaks: judged.count,
@@ -97,7 +102,7 @@ fn print(
         bytes: file.len(),
     };
     format.before(k, name, &verdict, out)?;
-    let mut teller = Teller::new(file);
+    let mut teller = Teller::new(file, &options.titles);
     for (k, at) in breaks.enumerate() {
         format.one(k, name, &teller.tell(at), out)?;
     }

@@ -2,9 +2,11 @@
 
 use std::io::{self, Write};
 
+use mztab::format::SECTIONS;
+
 use crate::files::judged::judged;
-use crate::files::tables::{self, Table, SECTIONS};
-use crate::files::{self, Source, TOO_LONG};
+use crate::files::tables::{self, Table};
+use crate::files::{self, Source, Unread};
 use crate::output::columns::table;
 use crate::output::in_order::{in_order, Out};
 use crate::output::show;
@@ -37,8 +39,8 @@ pub fn run(words: Words) -> Result<u8, Failure> {
     for (source, counted) in sources.iter().zip(counted) {
         match counted {
             Ok(tables) => files.push((source.name(), tables)),
-            Err(words) => {
-                terminal::say(&format!("bolfrake: {} {words}", source.name()));
+            Err(unread) => {
+                terminal::say(&format!("bolfrake: {} {unread}", source.name()));
                 status = 2;
             }
         }
@@ -53,10 +55,10 @@ pub fn run(words: Words) -> Result<u8, Failure> {
 }
 
 /// The tables of a file.
-fn count(source: &Source, out: &Out) -> Result<[Table; 4], String> {
+fn count(source: &Source, out: &Out) -> Result<[Table; 4], Unread> {
     let (file, judged) = judged(source, usize::MAX, out)?;
     let broken = judged.breaks().map(|at| at.line);
-    tables::tables(&file, broken).map_err(|_| TOO_LONG.to_string())
+    tables::tables(&file, broken).map_err(|_| Unread::TooLong)
 }
 
 fn line(name: &str, section: &str, table: &Table, number: fn(u64) -> String, none: &str) -> Line {
@@ -79,8 +81,8 @@ fn line(name: &str, section: &str, table: &Table, number: fn(u64) -> String, non
 fn lines(files: &[(String, [Table; 4])], number: fn(u64) -> String, none: &str) -> Vec<Line> {
     let mut all = Vec::new();
     for (name, tables) in files {
-        for (table, (_, section, ..)) in tables.iter().zip(SECTIONS) {
-            all.push(line(name, section, table, number, none));
+        for (table, section) in tables.iter().zip(SECTIONS) {
+            all.push(line(name, section.name, table, number, none));
         }
     }
     all

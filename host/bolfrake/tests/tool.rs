@@ -724,6 +724,11 @@ study variable      weight             share
 study variables 1, 4 have weight 0 and get no share
 ";
     assert_eq!((run.status, run.out.as_str()), (0, expected));
+}
+
+#[test]
+fn a_fee_over_weights_for_programs() {
+    let folder = Folder::new("fee weights for programs");
     let run = folder.run(&["fee", "7.5", "--weights", "0,1", "--format", "csv"]);
     let expected =
         "file,study_variable,description,weight,cents,share\n,2,,1,750,7.50\n,total,,1,750,7.50\n";

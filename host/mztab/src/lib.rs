@@ -13,6 +13,7 @@
 
 #![deny(unsafe_code)]
 
+pub mod format;
 #[allow(unsafe_code)]
 pub mod raw;
 

@@ -14,31 +14,50 @@ pub fn read(word: &OsStr) -> Result<u64, Failure> {
     // What is no UTF-8 is no amount, and is then told byte by byte.
     let text = word.to_str().unwrap_or("?");
     let shown = show::cell(word.as_bytes());
-    cents(text, &shown).map_err(|words| misused("fee", &words))
+    cents(text).map_err(|wrong| misused("fee", &wrong.words(&shown)))
 }
 
-/// The cents, or what is wrong.
-fn cents(text: &str, shown: &str) -> Result<u64, String> {
+/// What is wrong with a word that is no amount.
+enum Wrong {
+    Empty,
+    NoDigits,
+    /// So many after the dot.
+    Places(usize),
+    TooLarge,
+}
+
+impl Wrong {
+    fn words(&self, shown: &str) -> String {
+        match self {
+            Wrong::Empty => "takes an AMOUNT as 1234 or 1234.56, and it is empty".to_string(),
+            Wrong::NoDigits => format!("takes an AMOUNT as 1234 or 1234.56, and `{shown}` is none: write digits alone, or digits, a dot and the cents, without sign, currency, comma or space"),
+            Wrong::Places(count) => format!("takes an AMOUNT with at most two places after the dot, and `{shown}` has {count}: round it to whole cents"),
+            Wrong::TooLarge => format!(
+                "takes an AMOUNT of at most {}, and `{shown}` is more: split it in parts",
+                plain(FEE_LIMIT)
+            ),
+        }
+    }
+}
+
+fn cents(text: &str) -> Result<u64, Wrong> {
     if text.is_empty() {
-        return Err("takes an AMOUNT as 1234 or 1234.56, and it is empty".to_string());
+        return Err(Wrong::Empty);
     }
     let (whole, places) = text.split_once('.').unwrap_or((text, "00"));
     if !is_digits(whole) || !is_digits(places) {
-        return Err(format!("takes an AMOUNT as 1234 or 1234.56, and `{shown}` is none: write digits alone, or digits, a dot and the cents, without sign, currency, comma or space"));
+        return Err(Wrong::NoDigits);
     }
     if places.len() > 2 {
-        return Err(format!("takes an AMOUNT with at most two places after the dot, and `{shown}` has {}: round it to whole cents", places.len()));
+        return Err(Wrong::Places(places.len()));
     }
     let tens = if places.len() == 1 { 10 } else { 1 };
     let rest = places.parse::<u64>().ok().map(|cents| cents * tens);
     let cents = whole.parse::<u64>().ok().and_then(|n| n.checked_mul(100));
     let cents = cents.zip(rest).and_then(|(a, b)| a.checked_add(b));
-    cents.filter(|cents| *cents <= FEE_LIMIT).ok_or_else(|| {
-        format!(
-            "takes an AMOUNT of at most {}, and `{shown}` is more: split it in parts",
-            plain(FEE_LIMIT)
-        )
-    })
+    cents
+        .filter(|cents| *cents <= FEE_LIMIT)
+        .ok_or(Wrong::TooLarge)
 }
 
 fn is_digits(text: &str) -> bool {

@@ -8,7 +8,7 @@ use mztab::{Refusal, STUDY_VARIABLES};
 use super::amount;
 use super::variables::variables;
 use super::Split;
-use crate::files;
+use crate::files::{self, Unread};
 use crate::output::in_order::in_order;
 use crate::output::show;
 use crate::words::failure::Failure;
@@ -53,7 +53,7 @@ fn weights_of(name: &str, file: &[u8]) -> Result<[u32; STUDY_VARIABLES], Failure
 /// Why a fee is not split over a file.
 fn unsplit(name: &str, refusal: Refusal) -> Failure {
     match refusal {
-        Refusal::TooLong => Failure::Stopped(format!("{name} {}", files::TOO_LONG)),
+        Refusal::TooLong => Failure::Stopped(format!("{name} {}", Unread::TooLong)),
         Refusal::AllZero => Failure::Refused(format!(
             "{name} has no study variable with a weight: no protein row has a cell other than `null` under a column `protein_abundance_study_variable[n]`. \
             Fill these columns, or give weights by --weights"

@@ -1,5 +1,6 @@
 //! The study variables that a file declares, and their descriptions. The file is an accepted one: its keys are known, and none comes twice.
 
+use mztab::format::METADATA;
 use mztab::STUDY_VARIABLES;
 
 use crate::files::finder::{cells, code, cut_line};
@@ -17,7 +18,7 @@ pub fn variables(file: &[u8]) -> [Variable<'_>; STUDY_VARIABLES] {
     while !rest.is_empty() {
         let (line, after) = cut_line(rest);
         rest = after;
-        if code(line) == b"MTD" {
+        if code(line) == METADATA {
             declare(line, &mut all);
         }
     }

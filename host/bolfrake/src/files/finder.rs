@@ -1,5 +1,7 @@
 //! Finds the cells that breaks name. Breaks come by line, then cell, so the file is walked once and never back.
 
+use mztab::format::headed;
+
 const LF: u8 = b'\n';
 const CR: u8 = b'\r';
 const TAB: u8 = b'\t';
@@ -121,7 +123,7 @@ pub fn code(line: &[u8]) -> &[u8] {
 }
 
 fn is_header(line: &[u8]) -> bool {
-    matches!(code(line), b"PRH" | b"PEH" | b"PSH" | b"SMH")
+    headed(code(line)).is_some()
 }
 
 #[cfg(test)]

@@ -3,6 +3,7 @@
 pub mod finder;
 pub mod judged;
 pub mod tables;
+mod unread;
 
 use std::ffi::OsString;
 use std::fs::{self, File};
@@ -14,17 +15,14 @@ use mztab::LIMIT;
 use crate::output::show;
 use crate::words::failure::Failure;
 use crate::words::misused;
+pub use unread::Unread;
 
 /// A file to be read, or why a folder gave none.
 pub enum Source {
     Input,
     File(PathBuf),
-    Unfit(PathBuf, String),
+    Unfit(PathBuf, Unread),
 }
-
-pub const TOO_LONG: &str = "is longer than 16,777,216 bytes, so it is not judged: write its sections, or parts of its rows, to files of their own";
-
-const FOLDER: &str = "is a folder: name a file in it";
 
 /// The files that the words name, in their order; a folder stands for the files in it, sorted by name.
 pub fn named(command: &str, words: Vec<OsString>) -> Result<Vec<Source>, Failure> {
@@ -65,7 +63,7 @@ pub fn one(word: OsString) -> Result<(String, Vec<u8>), Failure> {
     let name = source.name();
     match source.read() {
         Ok(file) => Ok((name, file)),
-        Err(words) => Err(Failure::Stopped(format!("{name} {words}"))),
+        Err(unread) => Err(Failure::Stopped(format!("{name} {unread}"))),
     }
 }
 
@@ -73,15 +71,14 @@ fn folder(path: PathBuf, all: &mut Vec<Source>) {
     let before = all.len();
     below(&path, all);
     if all.len() == before {
-        let words = "has no file whose name ends in .mztab: name the file itself".to_string();
-        all.push(Source::Unfit(path, words));
+        all.push(Source::Unfit(path, Unread::NoFile));
     }
 }
 
 /// The files of a folder and of the folders in it, by name. A folder that cannot be read stands among them.
 fn below(path: &Path, all: &mut Vec<Source>) {
     match entries(path) {
-        Err(error) => all.push(Source::Unfit(path.to_path_buf(), cannot(&error))),
+        Err(error) => all.push(Source::Unfit(path.to_path_buf(), error.into())),
         Ok(entries) => {
             for (entry, is_folder) in entries {
                 if is_folder {
@@ -121,19 +118,18 @@ impl Source {
         }
     }
 
-    /// The bytes, or in words why they cannot be judged.
-    pub fn read(&self) -> Result<Vec<u8>, String> {
+    /// The bytes, or why they cannot be judged.
+    pub fn read(&self) -> Result<Vec<u8>, Unread> {
         let bytes = match self {
-            Source::Input => read_all(io::stdin().lock(), 0),
-            Source::File(path) if path.is_dir() => return Err(FOLDER.to_string()),
-            Source::File(path) => read_file(path),
-            Source::Unfit(_, words) => return Err(words.clone()),
+            Source::Input => read_all(io::stdin().lock(), 0)?,
+            Source::File(path) if path.is_dir() => return Err(Unread::Folder),
+            Source::File(path) => read_file(path)?,
+            Source::Unfit(_, unread) => return Err(unread.clone()),
         };
-        match bytes {
-            Ok(bytes) if bytes.len() > LIMIT => Err(TOO_LONG.to_string()),
-            Ok(bytes) => Ok(bytes),
-            Err(error) => Err(cannot(&error)),
+        if bytes.len() > LIMIT {
+            return Err(Unread::TooLong);
         }
+        Ok(bytes)
     }
 }
 
@@ -149,13 +145,4 @@ fn read_all(from: impl Read, length: u64) -> io::Result<Vec<u8>> {
     let mut bytes = Vec::with_capacity(length.min(most) as usize + 1);
     from.take(most).read_to_end(&mut bytes)?;
     Ok(bytes)
-}
-
-fn cannot(error: &io::Error) -> String {
-    let todo = match error.kind() {
-        io::ErrorKind::NotFound => "check the name, or the folder that you are in",
-        io::ErrorKind::PermissionDenied => "ask for leave to read it",
-        _ => "try again, or copy it to another disk",
-    };
-    format!("cannot be read ({error}): {todo}")
 }

@@ -2,29 +2,22 @@
 
 use std::ffi::OsString;
 
+use mztab::format::SECTIONS;
 use mztab::{raw, Refusal};
 
 use crate::files::finder::{cells, cut_line, Finder};
 
-/// Number, name and row code of each section.
-pub const SECTIONS: [(u32, &str, &[u8]); 4] = [
-    (1, "protein", b"PRT"),
-    (2, "peptide", b"PEP"),
-    (3, "psm", b"PSM"),
-    (4, "small-molecule", b"SML"),
-];
-
 /// The name of a section; of another number, the number.
 pub fn name(section: u32) -> String {
-    let found = SECTIONS.iter().find(|one| one.0 == section);
-    found.map_or(section.to_string(), |one| one.1.to_string())
+    let found = SECTIONS.iter().find(|one| one.number == section);
+    found.map_or(section.to_string(), |one| one.name.to_string())
 }
 
 /// The section that a word names, by number or name. Any number is one: the library says whether there is such a section.
 pub fn section(word: &OsString) -> Option<u32> {
     let text = word.to_str()?.to_lowercase().replace('_', "-");
-    let found = SECTIONS.iter().find(|one| one.1 == text);
-    found.map(|one| one.0).or_else(|| text.parse().ok())
+    let found = SECTIONS.iter().find(|one| one.name == text);
+    found.map(|one| one.number).or_else(|| text.parse().ok())
 }
 
 /// What a section has.
@@ -40,9 +33,9 @@ pub struct Table {
 /// The tables of a file. `broken` are the lines of its breaks in rising order; a line may come several times.
 pub fn tables(file: &[u8], broken: impl Iterator<Item = u32>) -> Result<[Table; 4], Refusal> {
     let mut tables = [Table::default(); 4];
-    for (table, (section, ..)) in tables.iter_mut().zip(SECTIONS) {
-        table.columns = columns(file, section);
-        table.rows = mztab::rows(file, section)?;
+    for (table, section) in tables.iter_mut().zip(SECTIONS) {
+        table.columns = columns(file, section.number);
+        table.rows = mztab::rows(file, section.number)?;
     }
     count_breaking(file, broken, &mut tables);
     Ok(tables)
@@ -58,7 +51,7 @@ fn count_breaking(file: &[u8], broken: impl Iterator<Item = u32>, tables: &mut [
         }
         last = line;
         let code = finder.find(line, 1);
-        let section = SECTIONS.iter().position(|one| code == Some(one.2));
+        let section = SECTIONS.iter().position(|one| code == Some(one.row));
         if let Some(k) = section {
             tables[k].breaking += 1;
         }

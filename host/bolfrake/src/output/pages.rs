@@ -87,35 +87,27 @@ impl Titles {
     }
 }
 
-/// The required columns of the header with this code, as the page of rule 16 lists them.
-pub fn required(code: &str) -> Vec<&'static str> {
-    let beginning = format!("| `{code}` | `");
-    let line = DOCUMENT.lines().find(|line| line.starts_with(&beginning));
-    // Names stand between backticks, so they are every second piece; the first of them is the code.
-    let pieces = line.unwrap_or("").split('`').skip(1).step_by(2);
-    pieces.skip(1).collect()
-}
-
 #[cfg(test)]
 mod tests {
+    use mztab::format::{REQUIRED_KEYS, SECTIONS};
+
     use super::*;
 
+    /// The tables of rules 16 and 21 say what the binding has.
     #[test]
-    fn required_columns() {
-        assert_eq!(
-            required("PRH"),
-            ["accession", "description", "database", "search_engine"]
-        );
-        assert_eq!(
-            required("PEH"),
-            ["sequence", "accession", "charge", "mass_to_charge"]
-        );
-        assert_eq!(
-            required("PSH"),
-            ["sequence", "PSM_ID", "accession", "charge", "spectra_ref"]
-        );
-        assert_eq!(required("SMH"), ["identifier", "charge"]);
-        assert!(required("MTD").is_empty());
+    fn what_is_required() {
+        let quoted = |name: &&str| format!("`{name}`");
+        for section in SECTIONS {
+            let names: Vec<String> = section.required.iter().map(quoted).collect();
+            let code = String::from_utf8_lossy(section.header);
+            let line = format!("| `{code}` | {} |\n", names.join(", "));
+            assert!(page_of("16").unwrap().contains(&line), "{line}");
+        }
+        for (k, key) in REQUIRED_KEYS.iter().enumerate() {
+            let any = if key.contains("[n]") { "any " } else { "" };
+            let line = format!("| {} | {any}`{key}` |\n", k + 1);
+            assert!(page_of("21").unwrap().contains(&line), "{line}");
+        }
     }
 
     #[test]

@@ -1,19 +1,11 @@
 //! A break in words: the rule's title, the cell that stands there, and what else helps to mend it.
 
+use mztab::format::{headed, REQUIRED_KEYS};
 use mztab::Break;
 
 use crate::files::finder::{cells, code, Finder};
-use crate::output::pages::{required, Titles};
+use crate::output::pages::Titles;
 use crate::output::show;
-
-/// The keys that rule 21 asks for, by the cell of its break.
-const REQUIRED: [&str; 5] = [
-    "mzTab-version",
-    "mzTab-mode",
-    "mzTab-type",
-    "description",
-    "ms_run[n]-location",
-];
 
 /// A break as it is printed.
 pub struct Told {
@@ -26,7 +18,7 @@ pub struct Told {
 }
 
 pub struct Teller<'a> {
-    titles: Titles,
+    titles: &'a Titles,
     finder: Finder<'a>,
     /// A header, and its cells as they are shown: many breaks name the same.
     header: &'a [u8],
@@ -34,9 +26,9 @@ pub struct Teller<'a> {
 }
 
 impl<'a> Teller<'a> {
-    pub fn new(file: &'a [u8]) -> Teller<'a> {
+    pub fn new(file: &'a [u8], titles: &'a Titles) -> Teller<'a> {
         Teller {
-            titles: Titles::new(),
+            titles,
             finder: Finder::new(file),
             header: b"",
             columns: Vec::new(),
@@ -92,7 +84,7 @@ impl<'a> Teller<'a> {
 }
 
 fn absent(cell: u32) -> String {
-    let key = REQUIRED.get((cell as usize).wrapping_sub(1));
+    let key = REQUIRED_KEYS.get((cell as usize).wrapping_sub(1));
     format!(
         "no MTD line of three cells has the key `{}`",
         key.unwrap_or(&"?")
@@ -105,9 +97,10 @@ fn count(line: &[u8]) -> String {
 
 /// The required columns that a header has not.
 fn lacking(header: &[u8]) -> String {
-    let code = String::from_utf8_lossy(code(header));
-    let names = required(&code).into_iter();
-    let absent = names.filter(|name| !cells(header).any(|cell| cell == name.as_bytes()));
+    let names = headed(code(header)).map_or(&[][..], |section| section.required);
+    let absent = names
+        .iter()
+        .filter(|name| !cells(header).any(|cell| cell == name.as_bytes()));
     let absent: Vec<String> = absent.map(|name| format!("`{name}`")).collect();
     absent.join(", ")
 }
@@ -123,7 +116,8 @@ mod tests {
 
     fn told(file: &[u8]) -> Vec<String> {
         let judged = mztab::judge_all(file).unwrap();
-        let mut teller = Teller::new(file);
+        let titles = Titles::new();
+        let mut teller = Teller::new(file, &titles);
         let all = judged.breaks().map(|at| teller.tell(at));
         all.map(|told| {
             format!(
@@ -143,9 +137,10 @@ mod tests {
 
     #[test]
     fn the_cell_that_is_shown_is_the_one_that_breaks() {
+        let titles = Titles::new();
         for case in independent::cases::judging::all() {
             let judged = mztab::judge_all(&case.file).unwrap();
-            let mut teller = Teller::new(&case.file);
+            let mut teller = Teller::new(&case.file, &titles);
             for at in judged.breaks().filter(|at| at.rule != 21) {
                 let shown = teller.tell(at).shown;
                 assert!(shown.is_some(), "{}", case.label);

@@ -3,6 +3,7 @@
 use std::fmt::Write as _;
 use std::io::{self, Write};
 
+use crate::files::Unread;
 use crate::output::show::{count, counted};
 use crate::output::told::Told;
 
@@ -22,7 +23,7 @@ pub enum Verdict {
         bytes: usize,
     },
     /// Why not.
-    NotJudged(String),
+    NotJudged(Unread),
 }
 
 /// The counts over all files.
@@ -96,10 +97,10 @@ impl Format {
         let comma = if k == 0 { "" } else { "," };
         write!(out, "{comma}\n{{\"file\": {}, ", json(name))?;
         match verdict {
-            Verdict::NotJudged(words) => write!(
+            Verdict::NotJudged(unread) => write!(
                 out,
                 "\"status\": \"not judged\", \"reason\": {}",
-                json(words)
+                json(&unread.to_string())
             ),
             Verdict::Judged {
                 breaks,
@@ -276,7 +277,7 @@ mod tests {
             bytes: 9,
         });
         assert_eq!(sum.status(), 1);
-        sum.add(&Verdict::NotJudged(String::new()));
+        sum.add(&Verdict::NotJudged(Unread::Folder));
         assert_eq!(sum.status(), 2);
         assert_eq!(
             sum.line(),

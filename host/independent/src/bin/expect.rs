@@ -1,5 +1,7 @@
 //! `expect MODE`: reads all of standard input, prints what is to be expected.
 
+#![forbid(unsafe_code)]
+
 use std::io::{self, Read, Write};
 use std::process::ExitCode;
 

@@ -12,8 +12,8 @@ macro_rules! export {
     ($name:literal) => {
         Export {
             name: $name,
-            file: include_bytes!(concat!("../../../tests/exports/", $name, ".mztab")),
-            judged: include_str!(concat!("../../../tests/exports/", $name, ".judged")),
+            file: include_bytes!(concat!("../../exports/", $name, ".mztab")),
+            judged: include_str!(concat!("../../exports/", $name, ".judged")),
         }
     };
 }

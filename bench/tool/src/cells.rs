@@ -12,19 +12,21 @@ use crate::times::{best, mawk, wc};
 /// A row that no file has.
 const FAR: u32 = u32::MAX;
 
+const HEADS: [&str; 9] = [
+    "file",
+    "size",
+    "cell, ms",
+    "independent, ms",
+    "to it",
+    "`wc -l`, ms",
+    "to it",
+    "`mawk`, ms",
+    "to it",
+];
+
 pub fn measure(folder: &Path) -> Result<(), String> {
     println!("\n## mztab_cell");
-    heads(&[
-        "file",
-        "size",
-        "cell, ms",
-        "independent, ms",
-        "to it",
-        "`wc -l`, ms",
-        "to it",
-        "`mawk`, ms",
-        "to it",
-    ]);
+    heads(&HEADS);
     for size in SIZES {
         let file = ordinary(size);
         let rows = file

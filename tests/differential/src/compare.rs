@@ -2,6 +2,7 @@
 
 use std::collections::BTreeMap;
 
+use independent::lines::{self, Code};
 use independent::Reading;
 use mztab::{raw, Break, Value};
 use samples::Draws;
@@ -178,26 +179,20 @@ type Question = (u32, u32, u32);
 fn questions(file: &[u8]) -> Vec<Question> {
     let mut asked = Vec::new();
     for section in 1..=4 {
-        let (header, row) = [
-            (b"PRH", b"PRT"),
-            (b"PEH", b"PEP"),
-            (b"PSH", b"PSM"),
-            (b"SMH", b"SML"),
-        ][section as usize - 1];
         let mut rows = 0;
         let mut headers = 0;
-        for line in independent::lines::lines(file) {
-            let mut cells = independent::lines::cells(line);
-            let code = cells.next().unwrap_or_default();
-            let columns = cells.count() as u32;
-            let at = if code == row {
-                rows += 1;
-                rows
-            } else if code == header && headers == 0 {
-                headers += 1;
-                0
-            } else {
-                continue;
+        for line in lines::lines(file) {
+            let columns = lines::cells(line).skip(1).count() as u32;
+            let at = match lines::code(line) {
+                Code::Row(of) if of == section => {
+                    rows += 1;
+                    rows
+                }
+                Code::Header(of) if of == section && headers == 0 => {
+                    headers += 1;
+                    0
+                }
+                _ => continue,
             };
             asked.extend((0..=columns + 1).map(|column| (section, at, column)));
         }

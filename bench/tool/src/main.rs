@@ -1,4 +1,4 @@
-//! Measures the library and the tool, in one run: `bench FOLDER TOOL`. host/bench/run builds all and runs it.
+//! Measures the library and the tool, in one run: `bench FOLDER TOOL`. bench/tool/run builds all and runs it.
 //!
 //! Judging and cells, on ordinary and hostile files of 1 and 16 MB, beside the independent reading, `wc -l`, and mawk counting the cells;
 //! `bolfrake check` beside the library call and the read of the file; and a folder of 200 files of 1 MB on one core and on all.
@@ -21,7 +21,7 @@ fn main() -> ExitCode {
     let (folder, tool) = match words.as_slice() {
         [folder, tool] => (folder, tool),
         _ => {
-            eprintln!("bench: use host/bench/run, which runs bench FOLDER TOOL");
+            eprintln!("bench: use bench/tool/run, which runs bench FOLDER TOOL");
             return ExitCode::from(2);
         }
     };

@@ -1,0 +1,149 @@
+//! Files to judge, with their breaks: on either side of each rule, of each
+//! "stops" and of each line of the paper's lists. The cases of a rule stand in
+//! the file that names it.
+
+mod paper;
+mod rule_20;
+mod rule_21;
+mod rules_12_to_16;
+mod rules_17_to_19;
+mod rules_1_2;
+mod rules_3_to_6;
+mod rules_7_8;
+mod rules_9_to_11;
+mod several;
+
+use super::tabs;
+
+pub struct Case {
+    pub label: &'static str,
+    pub file: Vec<u8>,
+    pub breaks: Vec<(u32, u32, u32)>,
+}
+
+/// The five pieces of required metadata, one a line.
+const VERSION: &str = "MTD→mzTab-version→1.0.0";
+const MODE: &str = "MTD→mzTab-mode→Summary";
+const TYPE: &str = "MTD→mzTab-type→Identification";
+const WORDS: &str = "MTD→description→Yeast check";
+const RUN: &str = "MTD→ms_run[1]-location→file:///a.mzML";
+
+/// A plain header and a plain row of each section.
+const PH: &str = "PRH→accession→description→database→search_engine";
+const PR: &str = "PRT→Y1→null→db→null";
+const EH: &str = "PEH→sequence→accession→charge→mass_to_charge";
+const ER: &str = "PEP→AB→Y1→2→10.5";
+const SH: &str = "PSH→sequence→PSM_ID→accession→charge→spectra_ref";
+const SR: &str = "PSM→AB→1→Y1→2→ms_run[1]:index=5";
+const MH: &str = "SMH→identifier→charge";
+const MR: &str = "SML→CID:1→1";
+
+const PAPER: &str = "MTD→mzTab-version→1.0.0
+MTD→mzTab-mode→Summary
+MTD→mzTab-type→Identification
+MTD→description→Yeast check
+MTD→ms_run[1]-location→file:///a.mzML
+
+PRH→accession→description→database→search_engine→num_psms_ms_run[2]
+PRT→Y1→null→db→null→
+PRT→null→x→db→null→4
+";
+
+type Triples<'a> = &'a [(u32, u32, u32)];
+
+struct Cases {
+    list: Vec<Case>,
+}
+
+impl Cases {
+    /// A whole file; an arrow is a tab.
+    fn whole(&mut self, label: &'static str, file: impl AsRef<[u8]>, breaks: Triples) {
+        self.list.push(Case {
+            label,
+            file: tabs(file),
+            breaks: breaks.to_vec(),
+        });
+    }
+
+    /// A file whose lines 1 to 5 are the required metadata; an arrow is a tab.
+    fn headed(&mut self, label: &'static str, rest: impl AsRef<[u8]>, breaks: Triples) {
+        let mut file = head().into_bytes();
+        file.extend(rest.as_ref());
+        self.whole(label, file, breaks);
+    }
+
+    /// One more metadata line, line 6, after the five.
+    fn mtd(&mut self, label: &'static str, key: &str, value: &str, breaks: Triples) {
+        self.headed(label, format!("MTD→{key}→{value}\n"), breaks);
+    }
+
+    /// A protein table of one column more; the header is line 6, the row line 7.
+    fn protein(&mut self, label: &'static str, column: &str, cell: &str, breaks: Triples) {
+        self.headed(label, format!("{PH}→{column}\n{PR}→{cell}\n"), breaks);
+    }
+
+    /// The same of the peptide table.
+    fn peptide(&mut self, label: &'static str, column: &str, cell: &str, breaks: Triples) {
+        self.headed(label, format!("{EH}→{column}\n{ER}→{cell}\n"), breaks);
+    }
+
+    /// The same of the PSM table.
+    fn psm(&mut self, label: &'static str, column: &str, cell: &str, breaks: Triples) {
+        self.headed(label, format!("{SH}→{column}\n{SR}→{cell}\n"), breaks);
+    }
+
+    /// The same of the small molecule table.
+    fn molecule(&mut self, label: &'static str, column: &str, cell: &str, breaks: Triples) {
+        self.headed(label, format!("{MH}→{column}\n{MR}→{cell}\n"), breaks);
+    }
+}
+
+fn head() -> String {
+    format!("{VERSION}\n{MODE}\n{TYPE}\n{WORDS}\n{RUN}\n")
+}
+
+/// A protein header of the given number of cells, `opt_` columns at its end.
+fn wide(cells: usize) -> String {
+    let mut header = PH.to_string();
+    for k in 5..cells {
+        header += &format!("→opt_{k}");
+    }
+    header
+}
+
+/// A protein row of the given number of cells.
+fn wide_row(cells: usize) -> String {
+    let mut row = PR.to_string();
+    for k in 5..cells {
+        row += &format!("→{k}");
+    }
+    row
+}
+
+pub fn all() -> Vec<Case> {
+    let mut c = Cases { list: Vec::new() };
+    paper::the_papers_own(&mut c);
+    paper::lines_and_cells(&mut c);
+    rules_1_2::rule_1(&mut c);
+    rules_1_2::rule_2(&mut c);
+    rules_3_to_6::rule_3(&mut c);
+    rules_3_to_6::rule_4(&mut c);
+    rules_3_to_6::rule_5(&mut c);
+    rules_3_to_6::rule_6(&mut c);
+    rules_7_8::rule_7(&mut c);
+    rules_7_8::rule_8(&mut c);
+    rules_9_to_11::rules_9_and_10(&mut c);
+    rules_9_to_11::rule_11(&mut c);
+    rules_12_to_16::rule_12(&mut c);
+    rules_12_to_16::rule_13(&mut c);
+    rules_12_to_16::rule_14(&mut c);
+    rules_12_to_16::rule_15(&mut c);
+    rules_12_to_16::rule_16(&mut c);
+    rules_17_to_19::rule_17(&mut c);
+    rules_17_to_19::rule_18(&mut c);
+    rules_17_to_19::rule_19(&mut c);
+    rule_20::rule_20(&mut c);
+    rule_21::rule_21(&mut c);
+    several::several_at_once(&mut c);
+    c.list
+}
