@@ -263,3 +263,45 @@ fn what_judge_prints_by_the_readme() {
     let lines: Vec<String> = file.lines().map(str::to_string).collect();
     assert_eq!(printed(&lines), shown);
 }
+
+/// The floors of the picture, from the ground up: the crates that each names. The words beside them begin after so many columns.
+fn floors() -> Vec<Vec<String>> {
+    const NAMES: usize = 62;
+    let mut floors: Vec<Vec<String>> = indented("    judge, judge_report")
+        .iter()
+        .map(|line| line.chars().take(NAMES).collect::<String>())
+        .map(|names| names.split([' ', ',']).map(str::to_string).collect())
+        .collect();
+    floors.reverse();
+    floors
+}
+
+/// Whether a floor's name stands for the crate: `line_meta*` is all that begin so.
+fn stands_for(name: &str, of: &str) -> bool {
+    match name.strip_suffix('*') {
+        Some(beginning) => of.starts_with(beginning),
+        None => name == of,
+    }
+}
+
+/// The picture is that of crates.txt: each crate stands in it, and on none that is above it.
+#[test]
+fn the_floors_of_the_readme() {
+    let floors = floors();
+    let floor_of = |name: &str| {
+        let names = |floor: &Vec<String>| floor.iter().any(|one| stands_for(one, name));
+        floors.iter().position(names)
+    };
+    let beside = ["numbers", "walks", "io", "libc"];
+    let crates = include_str!("../../../crates.txt").lines();
+    let crates = crates.filter(|line| !line.starts_with('#') && !line.starts_with("test_"));
+    for (name, below) in crates.filter_map(|line| line.split_once(':')) {
+        if beside.contains(&name) {
+            continue;
+        }
+        let floor = floor_of(name).unwrap_or_else(|| panic!("{name} is not in the picture"));
+        for other in below.split_whitespace().filter(|one| !beside.contains(one)) {
+            assert!(floor_of(other) <= Some(floor), "{name} stands on {other}");
+        }
+    }
+}

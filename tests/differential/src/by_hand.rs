@@ -1,6 +1,7 @@
 //! The files written by hand from the paper: every rule, stop and kind on either side; and the exports.
 
 use independent::cases;
+use mztab::format::SECTIONS;
 
 /// A label and a file each.
 pub fn files() -> Vec<(String, Vec<u8>)> {
@@ -25,10 +26,10 @@ pub fn files() -> Vec<(String, Vec<u8>)> {
     }
     for names in cases::names::all().chunks(100) {
         all.push(("names as keys".to_string(), as_keys(names)));
-        for header in ["PRH", "PEH", "PSH", "SMH"] {
+        for section in SECTIONS {
             all.push((
-                format!("names as columns of {header}"),
-                as_columns(header, names),
+                format!("names as {} columns", section.name),
+                as_columns(section.header, names),
             ));
         }
     }
@@ -68,9 +69,9 @@ fn as_keys(names: &[Vec<u8>]) -> Vec<u8> {
     file
 }
 
-fn as_columns(header: &str, names: &[Vec<u8>]) -> Vec<u8> {
+fn as_columns(header: &[u8], names: &[Vec<u8>]) -> Vec<u8> {
     let mut file = b"MTD\tassay[3]-ms_run_ref\tms_run[5]\nMTD\tms_run[5]-location\ta\n".to_vec();
-    let mut cells: Vec<&[u8]> = vec![header.as_bytes()];
+    let mut cells: Vec<&[u8]> = vec![header];
     cells.extend(names.iter().map(Vec::as_slice));
     line(&mut file, &cells);
     file

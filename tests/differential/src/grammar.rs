@@ -4,17 +4,13 @@ use std::collections::HashSet;
 
 use independent::cases;
 use independent::names::{self, Kind, COLUMNS};
+use mztab::format::{Section, SECTIONS};
 use samples::Draws;
 
 use crate::damage::damage;
 
-/// The sections: letter, header code, row code.
-const SECTIONS: [(char, &str, &str); 4] = [
-    ('P', "PRH", "PRT"),
-    ('E', "PEH", "PEP"),
-    ('S', "PSH", "PSM"),
-    ('M', "SMH", "SML"),
-];
+/// The letters of the sections in the independent reading's list of columns.
+const LETTERS: [char; 4] = ['P', 'E', 'S', 'M'];
 
 /// Values written by hand, on either side of each kind.
 pub fn near_values() -> Vec<Vec<u8>> {
@@ -231,7 +227,8 @@ impl<'d> Source<'d> {
     }
 
     fn section(&mut self, section: usize) {
-        let (letter, header, row) = SECTIONS[section];
+        let Section { header, row, .. } = SECTIONS[section];
+        let letter = LETTERS[section];
         let mut columns: Vec<Column> = Vec::new();
         for name in names::required(section as u32 + 1) {
             if !self.slips() {
@@ -254,7 +251,7 @@ impl<'d> Source<'d> {
             self.abundances(&mut columns);
         }
         self.options(&mut columns);
-        let mut cells = vec![header.as_bytes().to_vec()];
+        let mut cells = vec![header.to_vec()];
         cells.extend(columns.iter().map(|column| column.name.clone()));
         self.end_line(&cells);
         for _ in 0..self.draws.below(10) {
@@ -311,8 +308,8 @@ impl<'d> Source<'d> {
         }
     }
 
-    fn row(&mut self, code: &str, columns: &[Column]) {
-        let mut cells = vec![code.as_bytes().to_vec()];
+    fn row(&mut self, code: &[u8], columns: &[Column]) {
+        let mut cells = vec![code.to_vec()];
         for Column { kind, null, .. } in columns {
             let missing = *kind != Kind::NeverNull && *null > 0 && self.draws.once_in(*null);
             let cell = if missing {

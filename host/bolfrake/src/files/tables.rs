@@ -74,6 +74,7 @@ fn columns(file: &[u8], section: u32) -> Option<u32> {
 #[cfg(test)]
 mod tests {
     use super::*;
+    use crate::words::help;
 
     const FILE: &[u8] =
         b"PRT\tearly\nPRH\ta\tb\r\nPRT\tx\ty\nCOM\nPRT\nPRH\ta\nSML\tno header\nPRTx\n\nPRT\tz";
@@ -127,5 +128,7 @@ mod tests {
         assert_eq!(of("small_molecule"), Some(4));
         assert_eq!(of("7"), Some(7));
         assert_eq!(of("proteins"), None);
+        let names = SECTIONS.map(|section| section.name).join(", ");
+        assert!(help::of("cell").contains(&names), "{names}");
     }
 }
