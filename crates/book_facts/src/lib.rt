@@ -29,6 +29,9 @@ pub struct Facts {
     pub version: u32,
 }
 
+// The first byte of a metadata line.
+const FIRST: u8 = b'M';
+
 // The first of two letters, where 0 is none.
 fn earlier_letter(a: u8, b: u8) -> u8
     ensures { λ r. ⌜ r ≡ earlier a b ⌝ }
@@ -116,7 +119,8 @@ fn survey_line(
     note_line(facts, line, n)
 }
 
-// One pass over all lines: the flags, all false before, say which ids the file declares, index i of a family at place i - 1, and the answer is its facts.
+// One pass over all lines: the flags, all false before, say which ids the file declares, index i of a family at place i - 1, and the answer is its facts. Few
+// lines begin with the byte of metadata lines, and only these are looked at.
 pub fn survey(flags: &mut [[bool; INDICES]; FAMILIES], book: &[u8], file: &[u8]) -> Facts
     requires { ⌜ IsBook (now book) ⌝ }
     requires { ⌜ now flags ≡ replicate 4 (replicate 64 false) ⌝ }
@@ -133,10 +137,13 @@ pub fn survey(flags: &mut [[bool; INDICES]; FAMILIES], book: &[u8], file: &[u8])
     let mut n: u32 = 0;
     while at < file.len() {
         let line = line_at(file, at);
+        let start = at;
         let end = line.end;
         n += 1;
-        facts = survey_line(flags, book, facts, &file[at..end], n);
         at = line.next;
+        if file[start] == FIRST {
+            facts = survey_line(flags, book, facts, &file[start..end], n);
+        }
     }
     facts
 }

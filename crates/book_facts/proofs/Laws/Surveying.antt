@@ -1,5 +1,5 @@
 -- Facts with one line more: what was found before stays, and the lines that are left decide the rest. Assumes nothing.
-use Prim.Native.Nat.{ℕ, zero, suc, _+_, _≤_}
+use Prim.Native.Nat.{ℕ, zero, suc, _+_, _-_, _≤_, _<_}
 use Prim.Native.String.{String}
 use mathlib.Core.Path.{_≡_, refl, sym, ap, _∙_}
 use mathlib.Core.Bool.{Bool, true, false, cond, _&&_, and-false}
@@ -7,12 +7,14 @@ use mathlib.Core.List.{List, [], _∷_}
 use mathlib.Core.Option.{none, some}
 use native.Mathlib.Omega.{arith}
 use lib.Dec.{eqb}
-use lib.ListN.{length, getD, getElem?}
+use lib.ListN.{length, getD, getElem?, take, drop}
+use lib.Seq.{drop-cons}
 use borrow.Author.Tests.{eqb-true, ne-eqb, eq-eqb}
-use Rattle.text_bytes.specs.Bytes.{Bytes, bytes, same, begins}
+use Rattle.text_bytes.specs.Bytes.{Bytes, bytes, same, begins, splitOn, onFirst}
+use Rattle.text_bytes.specs.Places.{part}
 use Rattle.text_bytes.proofs.Laws.Same.{same-equal}
 use Rattle.text_bytes.proofs.Laws.Tests.{absurd-bool}
-use Rattle.text.specs.Lines.{cells, cell, width, isMeta, isField}
+use Rattle.text.specs.Lines.{cells, cell, coded, isMeta, isField}
 use Rattle.book_facts.specs.Facts.{earlier, earliest, modeAt, typeAt, versionAt, modeIn, typeIn, versionIn, modeOf, typeOf, versionOf, FactsOf, notedField, noted}
 use Rattle.book_facts.specs.declared.Facts.{Facts}
 
@@ -38,6 +40,24 @@ other-code l h = rw h
 pub is-field : (l : Bytes) → isMeta l ≡ true → length (cells l) ≡ 3 → isField l ≡ true
 unfolding isField
 is-field l h e = rw (h, eq-eqb (length (cells l)) 3 e)
+
+-- A LINE THAT BEGINS WITH ANOTHER BYTE than metadata lines is none
+begins-other : (l : Bytes) → (getD l 0 0 ≡ 77 → ⊥) → isMeta l ≡ false
+unfolding coded splitOn onFirst same bytes
+begins-other [] h = refl
+begins-other (x ∷ xs) h = go (eqb x 9) (splitOn 9 xs)
+  where
+    go : (t : Bool) (cs : List Bytes) → same (getD (cond t ([] ∷ cs) (onFirst x cs)) 0 []) (bytes "MTD") ≡ false
+    go true cs = refl
+    go false [] = rw (ne-eqb x 77 h)
+    go false (c ∷ cs) = rw (ne-eqb x 77 h)
+
+pub other-first : (file : Bytes) (at end : ℕ) → at < length file → (getD file at 0 ≡ 77 → ⊥) → isMeta (part at end file) ≡ false
+other-first file at end l h = begins-other (part at end file) (go (end - at))
+  where
+    go : (n : ℕ) → getD (take n (drop at file)) 0 0 ≡ 77 → ⊥
+    go zero e = absurd (omega (arith, e))
+    go (suc n) e = h (sym (ap (λ (s : Bytes). getD (take (suc n) s) 0 0) (drop-cons file at 0 l)) ∙ e)
 
 -- A VALUE of a kind with the key that is sought
 module _ (p k : Bool) (x : ℕ) where

@@ -1,19 +1,21 @@
 -- `book_facts::survey`: the flags and the facts so far, and the lines that are left, decide. Assumes nothing.
 use borrow.Author.Needs.{needs}
 use native.Mathlib.Omega.{arith}
-use mathlib.Core.Path.{_≡_, refl, sym, subst⁻¹}
+use mathlib.Core.Path.{_≡_, refl, sym, ap, subst⁻¹}
 use mathlib.Core.List.{List}
 use mathlib.Core.Bool.{Bool}
-use Prim.Native.Nat.{_+_, _-_, _≤_}
+use Prim.Native.Nat.{ℕ, _+_, _-_, _≤_}
 use lib.ListN.{length, drop}
 use Rattle.text_bytes.specs.Places.{part}
 use Rattle.text.specs.Lines.{lines}
 use Rattle.text.proofs.Laws.Lines.{lines-done}
+use Rattle.book.specs.Book.{Book}
 use Rattle.book.specs.Text.{bookIn}
-use Rattle.book_ids.specs.Ids.{Flags, lineId}
-use Rattle.book_ids.proofs.Laws.Marks.{Left as IdsLeft, start-flags, left-start as ids-start, left-next as ids-next, left-done as ids-done, marked-flags, line-range}
+use Rattle.book_facts.specs.Facts.{noted}
+use Rattle.book_ids.specs.Ids.{Flags, lineId, marked}
+use Rattle.book_ids.proofs.Laws.Marks.{line-other, Left as IdsLeft, start-flags, left-start as ids-start, left-next as ids-next, left-done as ids-done, marked-flags, line-range}
 use Rattle.book_facts.specs.declared.Facts.{Facts}
-use Rattle.book_facts.proofs.Laws.Surveying.{Left, left-start, left-next, left-done}
+use Rattle.book_facts.proofs.Laws.Surveying.{other-first, other-code, noted-none, Left, left-start, left-next, left-done}
 use Rattle.book_facts.proofs.survey.Statement.{statement}
 use Rattle.book_facts.proofs.survey.Tie as tie
 
@@ -38,24 +40,53 @@ loop-holds c =
       left-start _ _ refl refl refl,
     )
 
+-- the line, and what is known before it
+abbrev lines-from : tie.After-line-at Inv-loop μ-loop → tie.At-loop Inv-loop μ-loop
+lines-from a = a .before .before
+
+module _ (a : tie.After-line-at Inv-loop μ-loop) where
+  abbrev file : List ℕ
+  file = start (lines-from a) .args .file .now
+
+  abbrev book : Book
+  book = bookIn (start (lines-from a) .args .book .now)
+
+  abbrev at : ℕ
+  at = lines-from a .loop .at
+
+  abbrev next : ℕ
+  next = a .line-at .result .next
+
+  abbrev line : List ℕ
+  line = part at (a .line-at .result .end) file
+
+  -- with the line's id and what it says
+  after : (u : List (List Bool)) (x : Facts) → u ≡ marked (lines-from a .loop .flags) (lineId book line) → x ≡ noted (lines-from a .loop .facts) (lines-from a .loop .n + 1) line
+      → (next ≤ length file) × (lines-from a .loop .n + 1 ≤ next) × Flags u × IdsLeft book u file next × Left (lines file) x (lines-from a .loop .n + 1) (lines (drop next file))
+  after u x d e =
+      let t = lines-from a .loop .flags in
+      let cut = a .line-at .ensures in
+      let i = lines-from a .loop .inv in (
+        cut .within,
+        omega (arith, cut .on, i .1),
+        subst⁻¹ Flags d (marked-flags t (i .2) (lineId book line) (line-range book line)),
+        subst⁻¹ (λ (v : List (List Bool)). IdsLeft book v file next) d (ids-next book t file at (a .line-at .result .end) next (i .2) cut (i .3)),
+        subst⁻¹ (λ (y : Facts). Left (lines file) y (lines-from a .loop .n + 1) (lines (drop next file))) e (left-next line (lines (drop next file)) (cut .cut) (i .4)),
+      )
+
 loop-again : tie.Need-loop-again Inv-loop μ-loop
-loop-again c =
-    let a = c .before .before .before in
-    let l = a .before .before in
-    let file = start l .args .file .now in
-    let t = l .loop .flags in
-    let b = bookIn (start l .args .book .now) in
-    let next = a .line-at .result .next in
-    let line = part (l .loop .at) (a .line-at .result .end) file in
-    let cut = a .line-at .ensures in
-    let i = l .loop .inv in
-    let e = c .survey-line .ensures in (
-      cut .within,
-      omega (arith, cut .on, i .1),
-      subst⁻¹ Flags (e .0) (marked-flags t (i .2) (lineId b line) (line-range b line)),
-      subst⁻¹ (λ (u : List (List Bool)). IdsLeft b u file next) (e .0) (ids-next b t file (l .loop .at) (a .line-at .result .end) next (i .2) cut (i .3)),
-      subst⁻¹ (λ (x : Facts). Left (lines file) x (l .loop .n + 1) (lines (drop next file))) (e .1) (left-next line (lines (drop next file)) (cut .cut) (i .4)),
-    )
+loop-again c = let e = c .survey-line .ensures in after (c .before .before .before .before .before) _ _ (e .0) (e .1)
+
+-- a line that begins with another byte
+loop-again-2 : tie.Need-loop-again-2 Inv-loop μ-loop
+unfolding marked
+loop-again-2 c =
+    let a = c .before .before in
+    let l = lines-from a in
+    let none = other-first (file a) (at a) (a .line-at .result .end) (a .before .loop-test .taken) (c .if1 .left) in
+    after a _ _
+    (sym (ap (marked (l .loop .flags)) (line-other (book a) (line a) none)))
+    (sym (noted-none (l .loop .facts) (l .loop .n + 1) (line a) (other-code (line a) none)))
 
 returns : tie.Need-returns Inv-loop μ-loop
 returns c =
@@ -78,7 +109,10 @@ survey-spec =
     (λ c. search needs)
     (λ c. search needs)
     (λ c. search needs)
+    (λ c. search needs)
     (λ c κs. search needs)
     (λ c. search needs)
     loop-again
+    (λ c. search needs)
+    loop-again-2
     returns)
