@@ -182,7 +182,9 @@ pub fn cell(file: &[u8], section: u32, row: u32, column: u32) -> Result<&[u8], R
 
 /// The part of the bytes from a start on, of this length.
 fn view(bytes: &[u8], start: usize, length: usize) -> &[u8] {
-    let shown = start.checked_add(length).and_then(|end| bytes.get(start..end));
+    let shown = start
+        .checked_add(length)
+        .and_then(|end| bytes.get(start..end));
     shown.expect("the view lies in what was lent")
 }
 
