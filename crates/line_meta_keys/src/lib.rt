@@ -3,7 +3,7 @@ use book::is_colunit;
 use book::slots::start_of;
 use book_names::Found;
 use line_meta_values::judge_value;
-use scan::places::both;
+use text_bytes::both;
 use value_references::FAMILIES;
 use value_references::INDICES;
 ghost use mathlib.Core.Path.{_≡_};

@@ -3,7 +3,7 @@ use book_kinds::family_number;
 use book_kinds::of_kind;
 use book_kinds::reference_to;
 use book_kinds::references_to;
-use scan::places::both;
+use text_bytes::both;
 use value_references::FAMILIES;
 use value_references::INDICES;
 ghost use mathlib.Core.Path.{_≡_};

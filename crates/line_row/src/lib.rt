@@ -1,11 +1,11 @@
 // Judging a row: rules 1 and 17 to 20, put into the lent places.
 use book_kinds::cell_of_kind;
 use scan::places::Tag;
-use scan::places::both;
-use scan::places::either;
 use scan::places::put_if;
 use text::cells::cell_end;
 use text::cells::count_cells;
+use text_bytes::both;
+use text_bytes::either;
 ghost use Prim.Native.Nat.{_+_, _≤_};
 ghost use lib.ListN.{length, drop};
 ghost use Rattle.text.specs.Lines.{cells};

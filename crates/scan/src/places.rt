@@ -1,6 +1,5 @@
 // The lent places that breaks are put into, three for each: rule, line, cell.
 ghost use mathlib.Core.Path.{_≡_};
-ghost use mathlib.Core.Bool.{_&&_, _||_};
 ghost use Prim.Native.Nat.{_+_, _≤_};
 ghost use Rattle.rules.specs.Breaks.{breakAt, when};
 ghost use Rattle.scan.specs.Places.{CEILING, lent, Puts};
@@ -9,19 +8,6 @@ ghost use Rattle.scan.specs.Places.{CEILING, lent, Puts};
 pub struct Tag {
     pub line: u32,
     pub control: u32,
-}
-
-// Tests are computed and not branched on, so that a judgement is a row of puts.
-pub fn both(a: bool, b: bool) -> bool
-    ensures { λ r. ⌜ r ≡ (a && b) ⌝ }
-{
-    if a { b } else { false }
-}
-
-pub fn either(a: bool, b: bool) -> bool
-    ensures { λ r. ⌜ r ≡ (a || b) ⌝ }
-{
-    if a { true } else { b }
 }
 
 // One break more, where `yes` says so: counted in any case, and written where its three places are there.

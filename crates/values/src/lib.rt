@@ -1,17 +1,32 @@
 // Text, whole, decimal, decimal list, window and null. Each answers for any bytes, the empty ones too.
 use text_bytes::BAR;
+use text_bytes::both;
 use text_bytes::same_bytes;
 use text_bytes::seek;
+use value_references::index::byte_at;
+use value_references::index::digits_end;
 use value_references::index::is_digit;
 ghost use mathlib.Core.Path.{_≡_};
-ghost use Rattle.text_bytes.specs.Bytes.{splitOn};
-ghost use Rattle.values.specs.Values.{DOT as dot, areDigits, unsigned, dotted, isText, isWhole, isDecimal, isDecimals, isWindow, isNull};
+ghost use Rattle.values.specs.Values.{areDigits, unsigned, unmarked, isE, isExponent, isUnsigned, CutAt, isText, isWhole, isDecimal, isDecimals, isWindow, isNull};
 
 pub const MINUS: u8 = b'-';
 
-pub const DOT: u8 = b'.';
+pub const PLUS: u8 = b'+';
+
+// The dot, as `byte_at` answers it.
+const DOT: usize = 46;
 
 pub const WHOLE_DIGITS: usize = 9;
+
+pub const EXPONENT_DIGITS: usize = 3;
+
+// Where a numeral without its minus is cut: its digits before a dot end at `whole`, those after it stand from `from` to `to`, and from there on its exponent. And whether it is a numeral.
+pub struct Cuts {
+    pub good: bool,
+    pub whole: usize,
+    pub from: usize,
+    pub to: usize,
+}
 
 // Whether there is at least one byte.
 pub fn is_text(s: &[u8]) -> bool
@@ -57,18 +72,73 @@ pub fn without_minus(s: &[u8]) -> &[u8]
     s
 }
 
-// Whether there are digits, or digits on each side of one dot. A second dot is no digit.
-pub fn is_dotted(u: &[u8]) -> bool
-    ensures { λ r. ⌜ r ≡ dotted (splitOn dot (now (u .entry))) ⌝ }
+// What stands after one leading plus or minus; all of it where there is none.
+pub fn without_mark(s: &[u8]) -> &[u8]
+    ensures { λ r. ⌜ now r ≡ unmarked (now (s .entry)) ⌝ }
 {
-    let d = seek(u, 0, DOT);
-    if d == u.len() {
-        return is_digits(u);
+    if s.len() == 0 {
+        return s;
     }
-    if is_digits(&u[..d]) {
-        return is_digits(&u[d + 1..]);
+    if s[0] == PLUS {
+        return &s[1..];
     }
-    false
+    if s[0] == MINUS {
+        return &s[1..];
+    }
+    s
+}
+
+// Whether a byte is the letter of an exponent.
+fn is_e(b: u8) -> bool
+    ensures { λ r. ⌜ r ≡ isE b ⌝ }
+{
+    if b == b'E' {
+        return true;
+    }
+    b == b'e'
+}
+
+// Whether nothing stands there, or `E` or `e`, an optional plus or minus and 1 to 3 digits.
+fn is_exponent(s: &[u8]) -> bool
+    ensures { λ r. ⌜ r ≡ isExponent (now (s .entry)) ⌝ }
+{
+    if s.len() == 0 {
+        return true;
+    }
+    if !is_e(s[0]) {
+        return false;
+    }
+    let d = without_mark(&s[1..]);
+    if d.len() > EXPONENT_DIGITS {
+        return false;
+    }
+    is_digits(d)
+}
+
+// Where a numeral without its minus is cut, found in one walk from left to right, and whether it is one.
+pub fn cut(u: &[u8]) -> Cuts
+    ensures { λ r. ⌜ CutAt (now (u .entry)) r ⌝ }
+{
+    let whole = digits_end(u, 0);
+    if byte_at(u, whole) != DOT {
+        let good = both(0 < whole, is_exponent(&u[whole..]));
+        return Cuts {
+            good,
+            whole,
+            from: whole,
+            to: whole,
+        };
+    }
+    let from = whole + 1;
+    let to = digits_end(u, from);
+    let sides = both(0 < whole, from < to);
+    let good = both(sides, is_exponent(&u[to..]));
+    Cuts {
+        good,
+        whole,
+        from,
+        to,
+    }
 }
 
 // Whether it is an optional minus and 1 to 9 digits.
@@ -82,11 +152,12 @@ pub fn is_whole(s: &[u8]) -> bool
     is_digits(u)
 }
 
-// Whether it is a decimal: an optional minus with a dotted number, or `INF`, or `NaN`, which take no minus.
+// Whether it is a decimal: a numeral after an optional minus, or `INF`, or `NaN`, which take no minus.
 pub fn is_decimal(s: &[u8]) -> bool
     ensures { λ r. ⌜ r ≡ isDecimal (now (s .entry)) ⌝ }
 {
-    if is_dotted(without_minus(s)) {
+    let numeral = cut(without_minus(s));
+    if numeral.good {
         return true;
     }
     if same_bytes(s, b"INF") {

@@ -10,7 +10,8 @@ use Rattle.text_bytes.specs.Bytes.{is, all, splitOn}
 use Rattle.text_bytes.specs.Places.{Ends}
 use Rattle.text_bytes.proofs.Laws.Pieces.{piece-cut, piece-last, count-last, count-next}
 use Rattle.text_bytes.proofs.Laws.Each.{split-some}
-use Rattle.values.specs.Values.{unsigned, dotted, isNumeral, isDecimal, isDecimals, isWindow}
+use Rattle.values.specs.Values.{unsigned, isNumeral, isDecimal, isDecimals, isWindow, CutAt}
+use Rattle.values.specs.declared.Cuts.{Cuts}
 
 -- at the first bar, at none, and at a second
 module _ {f : List ℕ} {e : ℕ} (h : Ends 124 f 0 e) where
@@ -35,16 +36,16 @@ module _ {f : List ℕ} {e : ℕ} (h : Ends 124 f 0 e) where
     pub window-bad : k ≡ length f → isDecimal (take e f) ≡ false → isWindow f ≡ false
     window-bad q g = window-two q ∙ rw g
 
--- the three ways to be a decimal
-pub decimal-dotted : (l u : List ℕ) → u ≡ unsigned l → dotted (splitOn 46 u) ≡ true → true ≡ isDecimal l
-unfolding isDecimal isNumeral
-decimal-dotted l u e d = rw (← e, d)
-
-module _ (l u : List ℕ) (e : u ≡ unsigned l) (d : dotted (splitOn 46 u) ≡ false) where
-  pub decimal-inf : is l "INF" ≡ true → true ≡ isDecimal l
+-- the three ways to be a decimal, by where its text after the minus is cut
+module _ (l : List ℕ) {u : List ℕ} {m : Cuts} (e : u ≡ unsigned l) (h : CutAt u m) where
+  pub decimal-numeral : m .good ≡ true → true ≡ isDecimal l
   unfolding isDecimal isNumeral
-  decimal-inf i = rw (← e, d, i)
+  decimal-numeral g = rw (← e, ← h .good, g)
 
-  pub decimal-nan : is l "INF" ≡ false → is l "NaN" ≡ isDecimal l
+  pub decimal-inf : m .good ≡ false → is l "INF" ≡ true → true ≡ isDecimal l
   unfolding isDecimal isNumeral
-  decimal-nan i = rw (← e, d, i)
+  decimal-inf g i = rw (← e, ← h .good, g, i)
+
+  pub decimal-nan : m .good ≡ false → is l "INF" ≡ false → is l "NaN" ≡ isDecimal l
+  unfolding isDecimal isNumeral
+  decimal-nan g i = rw (← e, ← h .good, g, i)

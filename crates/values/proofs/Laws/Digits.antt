@@ -1,5 +1,5 @@
--- Digits, the minus in front of them, and the dot among them. Assumes nothing.
-use mathlib.Core.Path.{_≡_, refl, ap, _∙_}
+-- Digits, the marks in front of them, and the dot among them. Assumes nothing.
+use mathlib.Core.Path.{_≡_, refl}
 use mathlib.Core.Bool.{Bool, true, false, cond, _&&_, not, and-true, and-false}
 use mathlib.Core.List.{List, [], _∷_}
 use mathlib.Core.Logic.{⊎-elim}
@@ -11,12 +11,12 @@ use lib.Dec.{eqb, ltb}
 use lib.ListN.{length, take, drop, getD}
 use lib.Seq.{take-all}
 use Rattle.text_bytes.specs.Bytes.{isEmpty, all, splitOn}
-use Rattle.text_bytes.specs.Places.{upTo, Ends}
-use Rattle.text_bytes.proofs.Laws.Pieces.{upTo-le, split-cut, split-last, piece-cut, piece-last}
-use Rattle.text_bytes.proofs.Laws.Each.{split-some, to-end}
+use Rattle.text_bytes.specs.Places.{upTo}
+use Rattle.text_bytes.proofs.Laws.Pieces.{upTo-le, split-cut, split-last}
+use Rattle.text_bytes.proofs.Laws.Each.{split-some}
 use Rattle.value_references.specs.Index.{isDigit}
 use Rattle.value_references.proofs.Laws.Indices.{digit-low}
-use Rattle.values.specs.Values.{areDigits, unsigned, dotted, isText, isWhole}
+use Rattle.values.specs.Values.{areDigits, unsigned, unmarked, dotted, isText, isWhole}
 
 -- what is empty
 pub text-is : (l : List ℕ) → ltb 0 (length l) ≡ isText l
@@ -50,6 +50,27 @@ unfolding unsigned
 unsigned-plain [] h = refl
 unsigned-plain (x ∷ xs) h = rw (ne-eqb x 45 h)
 
+-- a plus or a minus in front
+pub unmarked-none : (l : List ℕ) → length l ≡ 0 → l ≡ unmarked l
+unfolding unmarked
+unmarked-none [] h = refl
+unmarked-none (x ∷ xs) h = absurd (omega arith)
+
+pub unmarked-plus : (l : List ℕ) → (length l ≡ 0 → ⊥) → getD l 0 0 ≡ 43 → take (length l - 1) (drop 1 l) ≡ unmarked l
+unfolding unmarked
+unmarked-plus [] h e = absurd (h refl)
+unmarked-plus (x ∷ xs) h e = rw (eq-eqb x 43 e) (take-all (suc (length xs) - 1) xs (omega arith))
+
+pub unmarked-minus : (l : List ℕ) → (length l ≡ 0 → ⊥) → (getD l 0 0 ≡ 43 → ⊥) → getD l 0 0 ≡ 45 → take (length l - 1) (drop 1 l) ≡ unmarked l
+unfolding unmarked
+unmarked-minus [] h p e = absurd (h refl)
+unmarked-minus (x ∷ xs) h p e = rw (ne-eqb x 43 p, eq-eqb x 45 e) (take-all (suc (length xs) - 1) xs (omega arith))
+
+pub unmarked-plain : (l : List ℕ) → (getD l 0 0 ≡ 43 → ⊥) → (getD l 0 0 ≡ 45 → ⊥) → l ≡ unmarked l
+unfolding unmarked
+unmarked-plain [] p e = refl
+unmarked-plain (x ∷ xs) p e = rw (ne-eqb x 43 p, ne-eqb x 45 e)
+
 -- a whole has nine digits at most
 module _ (l u : List ℕ) (e : u ≡ unsigned l) where
   pub whole-long : 9 < length u → isWhole l ≡ false
@@ -70,14 +91,9 @@ dot-breaks (x ∷ xs) h = go (eqb x 46) refl h (dot-breaks xs)
     go true e k ih = rw (digit-low x (omega (arith, eqb-true x 46 e)))
     go false e k ih = rw (ih (omega arith)) (and-false (isDigit x))
 
-pub digits-dot : (l : List ℕ) → upTo 46 l < length l → areDigits l ≡ false
+digits-dot : (l : List ℕ) → upTo 46 l < length l → areDigits l ≡ false
 unfolding areDigits
 digits-dot l h = rw (dot-breaks l h) (and-false (not (isEmpty l)))
-
--- no dot, and one dot and what follows it
-pub dotted-none : {l : List ℕ} {d : ℕ} → Ends 46 l 0 d → d ≡ length l → dotted (splitOn 46 l) ≡ areDigits l
-unfolding dotted
-dotted-none {l} {d} h q = let z : d - 0 ≡ length l = omega arith in rw (piece-last h q, z) (ap areDigits (take-all (length l) l (omega arith)))
 
 -- three pieces are too many
 too-many : (a c : List ℕ) (ps : List (List ℕ)) → (length ps ≡ 0 → ⊥) → dotted (a ∷ (c ∷ ps)) ≡ false
@@ -85,7 +101,8 @@ unfolding dotted
 too-many a c [] h = absurd (h refl)
 too-many a c (p ∷ ps) h = refl
 
-after-dot : (a l : List ℕ) → dotted (a ∷ splitOn 46 l) ≡ (areDigits a && areDigits l)
+-- after a dot there are digits and no second dot
+pub after-dot : (a l : List ℕ) → dotted (a ∷ splitOn 46 l) ≡ (areDigits a && areDigits l)
 unfolding dotted
 after-dot a l = ⊎-elim one more (eq-or-lt-of-le (upTo-le 46 l))
   where
@@ -96,13 +113,3 @@ after-dot a l = ⊎-elim one more (eq-or-lt-of-le (upTo-le 46 l))
     more lt =
         let rest = drop (upTo 46 l + 1) l in
         rw (split-cut 46 l lt, digits-dot l lt, and-false (areDigits a)) (too-many a (take (upTo 46 l) l) (splitOn 46 rest) (split-some 46 rest))
-
-module _ {l : List ℕ} {d : ℕ} (h : Ends 46 l 0 d) (lt : d < length l) where
-  pub dotted-one : dotted (splitOn 46 l) ≡ (areDigits (take d l) && areDigits (drop (d + 1) l))
-  dotted-one = let z : d - 0 ≡ d = omega arith in rw (piece-cut h lt, z) (after-dot (take d l) (drop (d + 1) l))
-
-  pub dotted-good : areDigits (take d l) ≡ true → dotted (splitOn 46 l) ≡ areDigits (take (length l - (d + 1)) (drop (d + 1) l))
-  dotted-good g = dotted-one ∙ rw (g, to-end l (d + 1))
-
-  pub dotted-bad : areDigits (take d l) ≡ false → dotted (splitOn 46 l) ≡ false
-  dotted-bad g = dotted-one ∙ rw g
