@@ -1,30 +1,40 @@
 // The reading of a cell: what its bytes say.
 use text_bytes::same_bytes;
-use text_bytes::seek;
-use values::DOT;
+use values::Cuts;
 use values::MINUS;
-use values::is_dotted;
+use values::cut;
 use values::is_null;
 use values::is_whole;
+use values::without_mark;
 use values::without_minus;
 ghost use mathlib.Core.Path.{_≡_};
 ghost use mathlib.Core.Bool.{true, cond};
 ghost use Prim.Native.Nat.{_+_, _≤_, _<_, _^_};
 ghost use lib.ListN.{length};
-ghost use Rattle.text_bytes.specs.Bytes.{is, all, splitOn};
+ghost use lib.Dec.{leb};
+ghost use lib.Ieee.{binary64, ofInt};
+ghost use lib.IntN.{pos, natAbs, _-ℤ_};
+ghost use Rattle.text_bytes.specs.Bytes.{is, all};
 ghost use Rattle.value_references.specs.Index.{isDigit, number};
-ghost use Rattle.values.specs.Values.{DOT as dot, dotted};
-ghost use Rattle.value_readings.specs.Reading.{hasMinus, signed, double, beforeDot, afterDot, decimalOf, isShort, valueOf};
+ghost use Rattle.values.specs.Values.{isExponent, isUnsigned, CutAt};
+ghost use Rattle.value_readings.specs.Reading.{hasMinus, signed, ten, times, double, exponentOf, decimalOf, isShort, numeralOf, valueOf};
 
-// A decimal of more digits is a long one.
+// A decimal of more digits is a long one, and so is one whose power of ten is below the lowest or above the highest: no double is ten to the 23rd.
 pub const DECIMAL_DIGITS: usize = 15;
+
+const LOWEST: i32 = -22;
+
+const HIGHEST: i32 = 22;
+
+// Ten to so much is held by a cast.
+const CAST: u32 = 15;
 
 pub enum Value {
     Missing,
     Whole(i64),
     Decimal {
         numerals: i64,
-        places: u32,
+        power: i32,
         double: f64,
     },
     Infinite,
@@ -89,25 +99,87 @@ fn with_sign(minus: bool, n: u64) -> i64
     z
 }
 
-// One division of two whole numbers that are held exactly, and the sign last.
-fn divided(minus: bool, n: u64, p: u32) -> f64
-    requires { ⌜ (n < 10 ^ 15) × (p ≤ 15) ⌝ }
+// A whole number as a double: the cast loses nothing.
+fn exact(n: u64) -> f64
+    requires { ⌜ n ≤ 10 ^ 15 ⌝ }
+    ensures { λ r. ⌜ r ≡ ofInt binary64 (pos n) ⌝ }
+{
+    let z = n as i64;
+    z as f64
+}
+
+// Ten to the p as a double, exactly: a cast up to ten to the 15th, above that the product of two casts, which is exact too.
+fn ten_to(p: u32) -> f64
+    requires { ⌜ p ≤ 22 ⌝ }
+    ensures { λ r. ⌜ r ≡ ten p ⌝ }
+{
+    if p <= CAST {
+        return exact(power(p));
+    }
+    exact(power(CAST)) * exact(power(p - CAST))
+}
+
+// One division or one multiplication of two numbers that are held exactly.
+fn scaled(n: u64, p: i32) -> f64
+    requires { ⌜ (n < 10 ^ 15) × (natAbs p ≤ 22) ⌝ }
+    ensures { λ r. ⌜ r ≡ times n p ⌝ }
+{
+    let top = exact(n);
+    if p < 0 {
+        return top / ten_to((-p) as u32);
+    }
+    top * ten_to(p as u32)
+}
+
+// The sign last.
+fn double_of(minus: bool, n: u64, p: i32) -> f64
+    requires { ⌜ (n < 10 ^ 15) × (natAbs p ≤ 22) ⌝ }
     ensures { λ r. ⌜ r ≡ double minus n p ⌝ }
 {
-    let top = n as i64;
-    let ten = power(p);
-    let bottom = ten as i64;
-    let q = (top as f64) / (bottom as f64);
+    let q = scaled(n, p);
     if minus {
         return -q;
     }
     q
 }
 
-// The reading of the digits a before a dot and c after it.
-fn decimal(minus: bool, a: &[u8], c: &[u8]) -> Value
-    requires { ⌜ (all isDigit (now a) ≡ true) × (all isDigit (now c) ≡ true) ⌝ }
-    ensures { λ r. ⌜ r ≡ cond (isShort (now (a .entry)) (now (c .entry))) (decimalOf minus (now (a .entry)) (now (c .entry))) Value.LongDecimal ⌝ }
+// The number that an exponent writes.
+fn exponent(x: &[u8]) -> i32
+    requires { ⌜ isExponent (now x) ≡ true ⌝ }
+    ensures { λ r. ⌜ (r ≡ exponentOf (now (x .entry))) × (natAbs r ≤ 999) ⌝ }
+{
+    if x.len() == 0 {
+        return 0;
+    }
+    let rest = &x[1..];
+    let minus = has_minus(rest);
+    let n = number_on(without_mark(rest), 0, 0);
+    let z = with_sign(minus, n);
+    z as i32
+}
+
+// The exponent less the places.
+fn less(x: i32, places: usize) -> i32
+    requires { ⌜ (natAbs x ≤ 999) × (places ≤ 15) ⌝ }
+    ensures { λ r. ⌜ r ≡ x -ℤ pos places ⌝ }
+{
+    x - (places as i32)
+}
+
+// Whether a power of ten is one of -22 to 22.
+fn is_near(p: i32) -> bool
+    ensures { λ r. ⌜ r ≡ leb (natAbs p) 22 ⌝ }
+{
+    if p < LOWEST {
+        return false;
+    }
+    p <= HIGHEST
+}
+
+// The reading of the digits a before a dot and c after it with the exponent x.
+fn decimal(minus: bool, a: &[u8], c: &[u8], x: i32) -> Value
+    requires { ⌜ (all isDigit (now a) ≡ true) × (all isDigit (now c) ≡ true) × (natAbs x ≤ 999) ⌝ }
+    ensures { λ r. ⌜ r ≡ cond (isShort (now (a .entry)) (now (c .entry)) x) (decimalOf minus (now (a .entry)) (now (c .entry)) x) Value.LongDecimal ⌝ }
 {
     if a.len() > DECIMAL_DIGITS {
         return Value::LongDecimal;
@@ -115,28 +187,31 @@ fn decimal(minus: bool, a: &[u8], c: &[u8]) -> Value
     if c.len() > DECIMAL_DIGITS - a.len() {
         return Value::LongDecimal;
     }
+    let p = less(x, c.len());
+    if !is_near(p) {
+        return Value::LongDecimal;
+    }
     let k = number_on(a, 0, 0);
     let n = number_on(c, k, a.len());
-    let places = c.len() as u32;
     let numerals = with_sign(minus, n);
-    let double = divided(minus, n, places);
+    let double = double_of(minus, n, p);
     Value::Decimal {
         numerals,
-        places,
+        power: p,
         double,
     }
 }
 
-// The reading of digits, or of digits on each side of a dot.
-fn numeral(minus: bool, u: &[u8]) -> Value
-    requires { ⌜ dotted (splitOn dot (now u)) ≡ true ⌝ }
-    ensures { λ r. ⌜ r ≡ cond (isShort (beforeDot (now (u .entry))) (afterDot (now (u .entry)))) (decimalOf minus (beforeDot (now (u .entry))) (afterDot (now (u .entry)))) Value.LongDecimal ⌝ }
+// The reading of a numeral without its minus, by where it is cut.
+fn numeral(minus: bool, u: &[u8], m: Cuts) -> Value
+    requires { ⌜ CutAt (now u) m × (isUnsigned (now u) ≡ true) ⌝ }
+    ensures { λ r. ⌜ r ≡ numeralOf minus (now (u .entry)) ⌝ }
 {
-    let d = seek(u, 0, DOT);
-    if d == u.len() {
-        return decimal(minus, u, &u[d..]);
-    }
-    decimal(minus, &u[..d], &u[d + 1..])
+    let whole = m.whole;
+    let from = m.from;
+    let to = m.to;
+    let x = exponent(&u[to..]);
+    decimal(minus, &u[..whole], &u[from..to], x)
 }
 
 // The reading of a whole without its minus.
@@ -173,8 +248,9 @@ pub fn read(s: &[u8]) -> Value
     if is_whole(s) {
         return whole(minus, u);
     }
-    if is_dotted(u) {
-        return numeral(minus, u);
+    let m = cut(u);
+    if m.good {
+        return numeral(minus, u, m);
     }
     word(s)
 }

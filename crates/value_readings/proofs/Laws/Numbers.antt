@@ -8,7 +8,7 @@ use native.Mathlib.Nat.{pow-suc, pow-le-pow-right}
 use native.Mathlib.Numerals.{add-one}
 use borrow.Author.Tests.{leb-true}
 use lib.Dec.{T, leb, lit<, le→leb}
-use lib.Ieee.{binary64, inFloat, ofInt, div}
+use lib.Ieee.{binary64, inFloat}
 use lib.IntN.{ℤ, pos, negℤ, _-ℤ_, +ℤ-idl}
 use lib.ListN.{length, getD, drop, drop-of-length-le}
 use mir.Syntax.{w64}
@@ -17,7 +17,6 @@ use mir.ValLaws.{toZ-pos}
 use Rattle.text_bytes.specs.Bytes.{all}
 use Rattle.text_bytes.proofs.Laws.Pieces.{drop-step}
 use Rattle.value_references.specs.Index.{isDigit, more, number}
-use Rattle.value_readings.specs.Reading.{quotient}
 use Rattle.text_bytes.proofs.Laws.Tests.{and-left, and-right}
 use Rattle.text_bytes.proofs.Laws.Each.{all-next}
 
@@ -59,6 +58,9 @@ ten-more i = rw (add-one, pow-suc)
 pub ten-le : (i : ℕ) → i ≤ 15 → 10 ^ i ≤ 10 ^ 15
 ten-le i h = pow-le-pow-right (lit< tt) h
 
+pub three-le : (i : ℕ) → i ≤ 3 → 10 ^ i ≤ 10 ^ 3
+three-le i h = pow-le-pow-right (lit< tt) h
+
 -- WHAT AN i64 AND A DOUBLE HOLD
 
 pub as-i64 : (n : ℕ) → n ≤ 10 ^ 15 → toZ w64 n ≡ pos n
@@ -78,8 +80,3 @@ minus-fits n h = subst (SFits w64) (sym (minus-is n h)) (neg-fits n h)
 pub in-float : (n : ℕ) → n ≤ 10 ^ 15 → T (inFloat binary64 (toZ w64 n))
 unfolding inFloat
 in-float n h = subst (λ (z : ℤ). T (inFloat binary64 z)) (sym (as-i64 n h)) (le→leb n (2 ^ 53) (omega arith))
-
--- the quotient that the code computes is the one that is meant
-pub quotient-is :
-    (n t p : ℕ) → n ≤ 10 ^ 15 → t ≤ 10 ^ 15 → t ≡ 10 ^ p → div binary64 (ofInt binary64 (toZ w64 n)) (ofInt binary64 (toZ w64 t)) ≡ quotient n p
-quotient-is n t p h k e = rw (as-i64 n h, as-i64 t k, e)

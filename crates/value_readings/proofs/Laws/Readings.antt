@@ -1,27 +1,24 @@
 -- The reading of a cell, case by case. Assumes nothing.
 use Prim.Native.Nat.{ℕ, _+_, _-_, _≤_, _<_}
 use mathlib.Core.Path.{_≡_, refl, ap, sym, _∙_}
-use mathlib.Core.Bool.{Bool, true, false, cond, _&&_, not}
+use mathlib.Core.Bool.{Bool, true, false, cond, _&&_, not, and-false}
 use mathlib.Core.List.{List, [], _∷_, _++_}
-use mathlib.Core.Logic.{⊎-elim}
-use native.Mathlib.Nat.{eq-or-lt-of-le}
 use native.Mathlib.Omega.{arith}
-use borrow.Author.Tests.{le-leb, lt-leb, leb-true}
-use lib.Dec.{leb}
+use borrow.Author.Tests.{eqb-true, le-leb, lt-leb, leb-true}
+use lib.Dec.{eqb, leb}
 use lib.Ieee.{Float}
-use lib.IntN.{ℤ}
-use lib.ListN.{length, take, drop, getD, length-append, drop-of-length-le}
+use lib.IntN.{ℤ, pos, natAbs}
+use lib.ListN.{length, take, drop, getD, length-append}
 use Rattle.text_bytes.specs.Bytes.{bytes, same, is, isEmpty, all, onFirst, splitOn}
-use Rattle.text_bytes.specs.Places.{upTo, Ends}
-use Rattle.text_bytes.proofs.Laws.Pieces.{upTo-le, split-last, piece-cut}
-use Rattle.value_references.specs.Index.{isDigit, number}
-use Rattle.values.specs.Values.{areDigits, unsigned, dotted, isNull, isWhole, isNumeral}
-use Rattle.value_readings.specs.Reading.{hasMinus, signed, double, beforeDot, afterDot, decimalOf, isShort, valueOf}
-use Rattle.value_readings.specs.declared.Value.the-variants.{Missing, Whole, Decimal, Infinite, NotANumber, LongDecimal, Text}
+use Rattle.text_bytes.specs.Places.{part}
 use Rattle.text_bytes.proofs.Laws.Same.{same-equal}
-use Rattle.text_bytes.proofs.Laws.Tests.{and-left, and-right}
+use Rattle.text_bytes.proofs.Laws.Tests.{absurd-bool, and-left, and-right}
 use Rattle.text_bytes.proofs.Laws.Each.{to-end}
-use Rattle.values.proofs.Laws.Digits.{dotted-none, dotted-one, digits-dot}
+use Rattle.value_references.specs.Index.{isDigit, number}
+use Rattle.values.specs.Values.{areDigits, unsigned, unmarked, dotted, isE, mantissa, exponent, isExponent, isNull, isWhole, isUnsigned, isNumeral, beforeDot, afterDot, CutAt}
+use Rattle.values.specs.declared.Cuts.{Cuts}
+use Rattle.value_readings.specs.Reading.{hasMinus, signed, double, exponentOf, scaleOf, decimalOf, isShort, numeralOf, valueOf}
+use Rattle.value_readings.specs.declared.Value.the-variants.{Missing, Whole, Decimal, Infinite, NotANumber, LongDecimal, Text}
 use Rattle.value_readings.proofs.Laws.Numbers.{number-append}
 
 pub minus-none : (l : List ℕ) → length l ≡ 0 → hasMinus l ≡ false
@@ -38,11 +35,11 @@ no-word b w e f = go (same b w) refl
     go false s = refl
 
 no-inf : (b : List ℕ) → isNumeral b ≡ true → is b "INF" ≡ false
-unfolding isNumeral dotted splitOn onFirst unsigned areDigits all isEmpty bytes
+unfolding isNumeral isUnsigned mantissa isE dotted splitOn onFirst unsigned areDigits all isEmpty bytes
 no-inf b e = no-word b (bytes "INF") e refl
 
 no-nan : (b : List ℕ) → isNumeral b ≡ true → is b "NaN" ≡ false
-unfolding isNumeral dotted splitOn onFirst unsigned areDigits all isEmpty bytes
+unfolding isNumeral isUnsigned mantissa isE dotted splitOn onFirst unsigned areDigits all isEmpty bytes
 no-nan b e = no-word b (bytes "NaN") e refl
 
 -- THE CASES, in order
@@ -57,15 +54,13 @@ module _ (b u : List ℕ) (m : Bool) (n : isNull b ≡ false) (ms : m ≡ hasMin
   value-whole w = rw (n, w, ms, e)
 
   module _ (w : isWhole b ≡ false) where
-    pub value-numeral : dotted (splitOn 46 u) ≡ true → cond (isShort (beforeDot u) (afterDot u)) (decimalOf m (beforeDot u) (afterDot u)) LongDecimal ≡ valueOf b
-    unfolding valueOf isNumeral
-    value-numeral d =
-        let g : isNumeral b ≡ true = ap (λ (x : List ℕ). dotted (splitOn 46 x)) (sym e) ∙ d in
-        rw (n, w, no-inf b g, no-nan b g, ms, e, g)
+    pub value-numeral : isNumeral b ≡ true → numeralOf m u ≡ valueOf b
+    unfolding valueOf
+    value-numeral g = rw (n, w, no-inf b g, no-nan b g, ms, e, g)
 
-    pub value-word : dotted (splitOn 46 u) ≡ false → cond (is b "INF") Infinite (cond (is b "NaN") NotANumber Text) ≡ valueOf b
-    unfolding valueOf isNumeral
-    value-word d = let g : dotted (splitOn 46 (unsigned b)) ≡ false = ap (λ (x : List ℕ). dotted (splitOn 46 x)) (sym e) ∙ d in rw (n, w, g)
+    pub value-word : isNumeral b ≡ false → cond (is b "INF") Infinite (cond (is b "NaN") NotANumber Text) ≡ valueOf b
+    unfolding valueOf
+    value-word g = rw (n, w, g)
 
 -- WHAT A WHOLE AND A NUMERAL ARE MADE OF
 
@@ -79,59 +74,82 @@ whole-digits b u e w =
     let v : (areDigits u && leb (length u) 9) ≡ true = ap (λ (x : List ℕ). areDigits x && leb (length x) 9) e ∙ w in
     (omega (arith, leb-true (length u) 9 (and-right (areDigits u) (leb (length u) 9) v)), digits-all u (and-left (areDigits u) (leb (length u) 9) v))
 
--- digits have no dot
-digits-plain : (l : List ℕ) → areDigits l ≡ true → splitOn 46 l ≡ l ∷ []
-digits-plain l e = ⊎-elim (split-last 46 l) (λ (lt : upTo 46 l < length l). absurd (let q = digits-dot l lt in let z : _≡_ {A = ℕ} 0 1 = cc in omega arith)) (eq-or-lt-of-le (upTo-le 46 l))
+-- the pieces of a mantissa are digits: that before the dot, and that after it, of which there may be none
+piece-digits : (ps : List (List ℕ)) → dotted ps ≡ true → (all isDigit (getD ps 0 []) ≡ true) × (all isDigit (getD ps 1 []) ≡ true)
+unfolding dotted all
+piece-digits [] e = absurd-bool e
+piece-digits (a ∷ []) e = (digits-all a e, refl)
+piece-digits (a ∷ (c ∷ [])) e = (digits-all a (and-left (areDigits a) (areDigits c) e), digits-all c (and-right (areDigits a) (areDigits c) e))
+piece-digits (a ∷ (c ∷ (d ∷ ps))) e = absurd-bool e
 
--- a numeral of the digits a and c, before and after its dot
-pub record Parts (u a c : List ℕ) : Type 0 where
-  pub before : a ≡ beforeDot u
-  pub after : c ≡ afterDot u
-  pub whole : all isDigit a ≡ true
-  pub rest : all isDigit c ≡ true
+-- EXPONENTS
 
-module _ {u : List ℕ} {d : ℕ} (h : Ends 46 u 0 d) (g : dotted (splitOn 46 u) ≡ true) where
-  pub parts-plain : d ≡ length u → Parts u u (take (length u - d) (drop d u))
-  unfolding all
-  parts-plain q =
-      let e : areDigits u ≡ true = sym (dotted-none h q) ∙ g in
-      let n : take (length u - d) (drop d u) ≡ [] = to-end u d ∙ drop-of-length-le u {i = d} (omega arith) in
-      record {
-        before = ap (λ (ps : List (List ℕ)). getD ps 0 []) (sym (digits-plain u e));
-        after = n ∙ ap (λ (ps : List (List ℕ)). getD ps 1 []) (sym (digits-plain u e));
-        whole = digits-all u e;
-        rest = rw n;
-      }
+pub exponent-zero : (l : List ℕ) → length l ≡ 0 → pos 0 ≡ exponentOf l
+unfolding exponentOf
+exponent-zero [] h = refl
+exponent-zero (x ∷ xs) h = absurd (omega arith)
 
-  pub parts-dotted : d < length u → Parts u (take d u) (take (length u - (d + 1)) (drop (d + 1) u))
-  parts-dotted lt =
-      let e : (areDigits (take d u) && areDigits (drop (d + 1) u)) ≡ true = sym (dotted-one h lt) ∙ g in
-      let ea = and-left (areDigits (take d u)) (areDigits (drop (d + 1) u)) e in
-      let ec = and-right (areDigits (take d u)) (areDigits (drop (d + 1) u)) e in
-      let z : d - 0 ≡ d = omega arith in
-      let s : splitOn 46 u ≡ take d u ∷ (drop (d + 1) u ∷ []) = rw (piece-cut h lt, z, digits-plain (drop (d + 1) u) ec) in
-      record {
-        before = ap (λ (ps : List (List ℕ)). getD ps 0 []) (sym s);
-        after = to-end u (d + 1) ∙ ap (λ (ps : List (List ℕ)). getD ps 1 []) (sym s);
-        whole = digits-all (take d u) ea;
-        rest = rw (to-end u (d + 1)) (digits-all (drop (d + 1) u) ec);
-      }
+written : (l : List ℕ) → (length l ≡ 0 → ⊥) → isExponent l ≡ true → (areDigits (unmarked (drop 1 l)) && leb (length (unmarked (drop 1 l))) 3) ≡ true
+unfolding isExponent
+written [] h g = absurd (h refl)
+written (b ∷ bs) h g = and-right (isE b) (areDigits (unmarked bs) && leb (length (unmarked bs)) 3) g
 
-pub parts-read : {u a c : List ℕ} (m : Bool) → Parts u a c
-    → cond (isShort a c) (decimalOf m a c) LongDecimal ≡ cond (isShort (beforeDot u) (afterDot u)) (decimalOf m (beforeDot u) (afterDot u)) LongDecimal
-parts-read m p = rw (p .before, p .after)
+writes : (l : List ℕ) → (length l ≡ 0 → ⊥) → signed (hasMinus (drop 1 l)) (number 0 (unmarked (drop 1 l))) ≡ exponentOf l
+unfolding exponentOf
+writes [] h = absurd (h refl)
+writes (b ∷ bs) h = refl
+
+module _ (l d : List ℕ) (h : length l ≡ 0 → ⊥) (q : d ≡ unmarked (take (length l - 1) (drop 1 l))) where
+  rest-is : d ≡ unmarked (drop 1 l)
+  rest-is = q ∙ ap unmarked (to-end l 1)
+
+  pub exponent-digits : isExponent l ≡ true → (length d ≤ 3) × (all isDigit d ≡ true)
+  exponent-digits g =
+      let w : (areDigits d && leb (length d) 3) ≡ true = rw rest-is (written l h g) in
+      (leb-true (length d) 3 (and-right (areDigits d) (leb (length d) 3) w), digits-all d (and-left (areDigits d) (leb (length d) 3) w))
+
+  pub exponent-some : (m : Bool) (n : ℕ) → m ≡ hasMinus (take (length l - 1) (drop 1 l)) → n ≡ number 0 d → signed m n ≡ exponentOf l
+  exponent-some m n e f =
+      let g : m ≡ hasMinus (drop 1 l) = e ∙ ap hasMinus (to-end l 1) in
+      rw (g, f, rest-is) (writes l h)
 
 -- A DECIMAL
 
-module _ (m : Bool) (a c : List ℕ) where
-  pub long-decimal : 15 < length a + length c → LongDecimal ≡ cond (isShort a c) (decimalOf m a c) LongDecimal
+module _ (m : Bool) (a c : List ℕ) (x : ℤ) where
+  pub long-digits : 15 < length a + length c → LongDecimal ≡ cond (isShort a c x) (decimalOf m a c x) LongDecimal
   unfolding isShort
-  long-decimal h = rw (lt-leb (length (a ++ c)) 15 (omega (arith, length-append a c)))
+  long-digits h = rw (lt-leb (length (a ++ c)) 15 (omega (arith, length-append a c)))
 
-  pub short-decimal :
-      (k n p : ℕ) (z : ℤ) (d : Float) → length a + length c ≤ 15 → k ≡ number 0 a → n ≡ number k c → p ≡ length c → z ≡ signed m n → d ≡ double m n p
-      → Decimal z p d ≡ cond (isShort a c) (decimalOf m a c) LongDecimal
-  unfolding isShort decimalOf
-  short-decimal k n p z d h ek en ep ez ed =
-      let w : n ≡ number 0 (a ++ c) = en ∙ ap (λ (j : ℕ). number j c) ek ∙ sym (number-append 0 a c) in
-      rw (le-leb (length (a ++ c)) 15 (omega (arith, length-append a c)), ez, ed, ep, w)
+  module _ (q : ℤ) (e : q ≡ scaleOf c x) where
+    pub long-power : leb (natAbs q) 22 ≡ false → LongDecimal ≡ cond (isShort a c x) (decimalOf m a c x) LongDecimal
+    unfolding isShort
+    long-power f = rw (← e, f, and-false (leb (length (a ++ c)) 15))
+
+    pub short-decimal :
+        (k n : ℕ) (z : ℤ) (d : Float) → length a + length c ≤ 15 → leb (natAbs q) 22 ≡ true → k ≡ number 0 a → n ≡ number k c → z ≡ signed m n → d ≡ double m n q
+        → Decimal z q d ≡ cond (isShort a c x) (decimalOf m a c x) LongDecimal
+    unfolding isShort decimalOf
+    short-decimal k n z d h f ek en ez ed =
+        let w : n ≡ number 0 (a ++ c) = en ∙ ap (λ (j : ℕ). number j c) ek ∙ sym (number-append 0 a c) in
+        rw (le-leb (length (a ++ c)) 15 (omega (arith, length-append a c)), ez, ed, ← e, f, w)
+
+-- A NUMERAL, by where it is cut
+
+module _ {u : List ℕ} {m : Cuts} (h : CutAt u m) (g : isUnsigned u ≡ true) where
+  pub cut-exponent : isExponent (take (length u - m .to) (drop (m .to) u)) ≡ true
+  unfolding isUnsigned
+  cut-exponent = rw (to-end u (m .to), h .past g) (and-right (dotted (splitOn 46 (mantissa u))) (isExponent (exponent u)) g)
+
+  pieces : dotted (splitOn 46 (mantissa u)) ≡ true
+  unfolding isUnsigned
+  pieces = and-left (dotted (splitOn 46 (mantissa u))) (isExponent (exponent u)) g
+
+  pub cut-before : all isDigit (take (m .whole) u) ≡ true
+  cut-before = rw (h .before g) (piece-digits (splitOn 46 (mantissa u)) pieces .0)
+
+  pub cut-after : all isDigit (part (m .from) (m .to) u) ≡ true
+  cut-after = rw (h .after g) (piece-digits (splitOn 46 (mantissa u)) pieces .1)
+
+  pub cut-read : (s : Bool) (x : ℤ) → x ≡ exponentOf (take (length u - m .to) (drop (m .to) u))
+      → cond (isShort (take (m .whole) u) (part (m .from) (m .to) u) x) (decimalOf s (take (m .whole) u) (part (m .from) (m .to) u) x) LongDecimal ≡ numeralOf s u
+  cut-read s x e = let f : x ≡ exponentOf (exponent u) = e ∙ ap exponentOf (to-end u (m .to) ∙ h .past g) in rw (h .before g, h .after g, f)

@@ -1,53 +1,45 @@
--- `value_readings::numeral` meets its contract: the first dot parts the digits as the definition does, and without one none stand after it. Assumes nothing.
+-- `value_readings::numeral` meets its contract: where it is cut are its digits and its exponent. Assumes nothing.
 use mathlib.Core.Path.{sym, _∙_}
-use native.Mathlib.Omega.{arith}
 use lib.Seq.{length-take-le}
-use Rattle.value_readings.proofs.Laws.Readings.{parts-plain, parts-dotted, parts-read}
+use mir.Syntax.{w32}
+use mir.ValLaws.{toZ-ofZ}
+use Rattle.value_readings.proofs.Laws.Readings.{cut-exponent, cut-before, cut-after, cut-read}
 use borrow.Author.Needs.{needs}
 use Rattle.value_readings.proofs.numeral.Statement.{statement}
 use Rattle.value_readings.proofs.numeral.Tie as tie
 
-decimal-requires : tie.Need-decimal-requires
-decimal-requires c κs =
-    let at-seek = c .before .before in
-    let p = parts-plain (at-seek .seek .ensures) (at-seek .before .before .pre) (c .before .if1 .taken) in
-    (p .whole, p .rest)
-
-returns : tie.Need-returns
-returns c =
-    let at-seek = c .before .before .before in
-    c .decimal .ensures ∙ parts-read (at-seek .before .before .args .minus) (parts-plain (at-seek .seek .ensures) (at-seek .before .before .pre) (c .before .before .if1 .taken))
+exponent-requires : tie.Need-exponent-requires
+exponent-requires c κs = let s = c .before .before in cut-exponent (s .pre .0) (s .pre .1)
 
 slice-aggregate-decimal : tie.Need-slice-aggregate-decimal
 slice-aggregate-decimal c =
-    let at-seek = c .before .before in
-    sym (length-take-le (at-seek .seek .result) (at-seek .before .before .args .u .now) (at-seek .seek .ensures .within))
+    let s = c .before .before .before .before in
+    sym (length-take-le (s .args .m .whole) (s .args .u .now) (s .pre .0 .first))
 
-decimal-requires-2 : tie.Need-decimal-requires-2
-decimal-requires-2 c κs =
-    let at-seek = c .before .before .before in
-    let p = parts-dotted (at-seek .seek .ensures) (at-seek .before .before .pre) (omega arith) in
-    (p .whole, p .rest)
+decimal-requires : tie.Need-decimal-requires
+decimal-requires c κs =
+    let x = c .before .before .exponent in
+    let s = c .before .before .before .before .before in
+    (cut-before (s .pre .0) (s .pre .1), cut-after (s .pre .0) (s .pre .1), rw (toZ-ofZ w32 (x .result) (record { sfits = x .ok })) (x .ensures .1))
 
-returns-2 : tie.Need-returns-2
-returns-2 c =
-    let at-seek = c .before .before .before .before in
-    c .decimal2 .ensures ∙ parts-read (at-seek .before .before .args .minus) (parts-dotted (at-seek .seek .ensures) (at-seek .before .before .pre) (omega arith))
+returns : tie.Need-returns
+returns c =
+    let at-exponent = c .before .before .before in
+    let s = at-exponent .before .before .before in
+    let x = at-exponent .exponent in
+    c .decimal .ensures ∙ cut-read (s .pre .0) (s .pre .1) (s .args .minus) _ (toZ-ofZ w32 (x .result) (record { sfits = x .ok }) ∙ x .ensures .0)
 
 pub numeral-spec : {M : Type 1} → statement M
 numeral-spec =
     tie.close
     (tie.spec
-    (λ c κs. search needs)
     (λ c. search needs)
     (λ c. search needs)
     (λ c. search needs)
-    decimal-requires
-    returns
+    exponent-requires
     slice-aggregate-decimal
     (λ c. search needs)
     (λ c. search needs)
     (λ c. search needs)
-    (λ c. search needs)
-    decimal-requires-2
-    returns-2)
+    decimal-requires
+    returns)
