@@ -39,19 +39,43 @@ pub fn whole(bytes: &[u8]) -> bool {
 }
 
 /// "Decimal: an optional minus, digits, and optionally a dot with digits after
-/// it; or `INF`; or `NaN`."
+/// it; or `INF`; or `NaN`." The request 2026-04: "A decimal may end in `E` or
+/// `e`, an optional plus or minus and 1 to 3 digits; `INF` and `NaN` take none."
 pub fn decimal(bytes: &[u8]) -> bool {
     bytes == b"INF" || bytes == b"NaN" || numeral(bytes)
 }
 
 /// A decimal that is neither `INF` nor `NaN`.
-/// "At least one digit on each side of a dot."
 pub fn numeral(bytes: &[u8]) -> bool {
+    let (before, after) = at_exponent(bytes);
+    mantissa(before) && after.map_or(true, exponent)
+}
+
+/// The bytes before the first `E` or `e`, and those after it where there is one.
+pub fn at_exponent(bytes: &[u8]) -> (&[u8], Option<&[u8]>) {
+    match bytes.iter().position(|b| matches!(b, b'E' | b'e')) {
+        None => (bytes, None),
+        Some(letter) => (&bytes[..letter], Some(&bytes[letter + 1..])),
+    }
+}
+
+/// "an optional minus, digits, and optionally a dot with digits after it"
+/// "At least one digit on each side of a dot."
+fn mantissa(bytes: &[u8]) -> bool {
     let rest = after_minus(bytes);
     match rest.iter().position(|b| *b == b'.') {
         None => digits(rest),
         Some(dot) => digits(&rest[..dot]) && digits(&rest[dot + 1..]),
     }
+}
+
+/// "an optional plus or minus and 1 to 3 digits"
+fn exponent(bytes: &[u8]) -> bool {
+    let rest = match bytes {
+        [b'+' | b'-', rest @ ..] => rest,
+        _ => bytes,
+    };
+    digits(rest) && rest.len() <= 3
 }
 
 /// The bytes after "an optional minus".

@@ -121,8 +121,8 @@ pub fn reading_text(reading: &Reading) -> String {
         Reading::Missing => "missing".to_string(),
         Reading::Whole(value) => format!("whole {value}"),
         Reading::Decimal {
-            numerals, places, ..
-        } => format!("decimal {numerals} {places}"),
+            numerals, power, ..
+        } => format!("decimal {numerals} {power}"),
         Reading::Infinite => "infinite".to_string(),
         Reading::NotANumber => "nan".to_string(),
         Reading::LongDecimal => "long".to_string(),

@@ -1,5 +1,7 @@
 //! "Calls and what they give back": the two cell calls and the reading call.
 
+use std::ops::RangeInclusive;
+
 use crate::kinds;
 use crate::lines::{cells, code, lines, Code};
 use crate::LIMIT;
@@ -21,7 +23,8 @@ pub enum Reading {
     Whole(i64),
     Decimal {
         numerals: i64,
-        places: u32,
+        /// "one power of ten, the exponent less the places"
+        power: i32,
         double: f64,
     },
     Infinite,
@@ -117,46 +120,91 @@ fn find_cell(line: &[u8], column: u32) -> Option<(u32, &[u8])> {
     None
 }
 
+/// "With at most 15 mantissa digits"
+const MOST_DIGITS: usize = 15;
+
+/// "and a power from -22 to 22"
+const POWERS: RangeInclusive<i32> = -22..=22;
+
 /// The readings, "tried so over the bytes".
 pub fn read(bytes: &[u8]) -> Reading {
     if bytes == b"null" {
         Reading::Missing
     } else if kinds::whole(bytes) {
         Reading::Whole(signed_numerals(bytes))
-    } else if kinds::numeral(bytes) && count_digits(bytes) <= 15 {
-        read_decimal(bytes)
+    } else if let Some(decimal) = read_decimal(bytes) {
+        decimal
     } else if bytes == b"INF" {
         Reading::Infinite
     } else if bytes == b"NaN" {
         Reading::NotANumber
     } else if kinds::numeral(bytes) {
-        // "More digits make a long decimal."
+        // "otherwise it is a long decimal"
         Reading::LongDecimal
     } else {
         Reading::Text
     }
 }
 
-/// "it carries its signed numerals, the places after the dot, and a double"
-fn read_decimal(bytes: &[u8]) -> Reading {
-    let places = places_after_dot(bytes);
-    Reading::Decimal {
-        numerals: signed_numerals(bytes),
-        places,
-        double: double(unsigned_numerals(bytes), places, has_minus(bytes)),
+/// "A reading carries numerals and one power of ten, the exponent less the
+/// places." Nothing where there are too many digits or the power is too far off.
+fn read_decimal(bytes: &[u8]) -> Option<Reading> {
+    let (mantissa, exponent) = kinds::at_exponent(bytes);
+    if !kinds::numeral(bytes) || count_digits(mantissa) > MOST_DIGITS {
+        return None;
+    }
+    let power = exponent.map_or(0, exponent_value) - places_after_dot(mantissa);
+    if !POWERS.contains(&power) {
+        return None;
+    }
+    Some(Reading::Decimal {
+        numerals: signed_numerals(mantissa),
+        power,
+        double: double(unsigned_numerals(mantissa), power, has_minus(mantissa)),
+    })
+}
+
+/// "the double is one division or one multiplication by an exact power of ten",
+/// of numerals "held exactly and unsigned, negated last for a minus"
+fn double(numerals: u64, power: i32, minus: bool) -> f64 {
+    let unsigned = nearest(numerals, power);
+    if minus {
+        -unsigned
+    } else {
+        unsigned
     }
 }
 
-/// "the numerals divided once, as IEEE 754 binary64, by ten to the places, both
-/// held exactly and unsigned, negated last for a minus"
-fn double(numerals: u64, places: u32, minus: bool) -> f64 {
-    // Both are under 2 to the 53rd: 15 digits at most, so both are held exactly.
-    let quotient = numerals as f64 / 10u64.pow(places) as f64;
-    if minus {
-        -quotient
+/// One operation of IEEE 754 on exact numbers gives the double nearest to the
+/// exact result, an even one of two as near. It is found here without that
+/// operation, from the exact result, which is in whole numbers: under ten to the
+/// 37th where the power is not below zero.
+fn nearest(numerals: u64, power: i32) -> f64 {
+    let ten_to_the_power = 10u128.pow(power.unsigned_abs());
+    if power < 0 {
+        nearest_quotient(u128::from(numerals), ten_to_the_power)
     } else {
-        quotient
+        (u128::from(numerals) * ten_to_the_power) as f64
     }
+}
+
+/// Long division in base two: a bit of the quotient at each step, until there
+/// are two more than a double holds or nothing is left to divide.
+fn nearest_quotient(top: u128, bottom: u128) -> f64 {
+    let (mut quotient, mut left) = (top / bottom, top % bottom);
+    let mut bits_after_point = 0;
+    while left != 0 && quotient < 1 << 54 {
+        left *= 2;
+        quotient = 2 * quotient + left / bottom;
+        left %= bottom;
+        bits_after_point += 1;
+    }
+    // What is still left only says that the quotient is beyond its last bit.
+    if left != 0 {
+        quotient |= 1;
+    }
+    // The cast goes to the nearest, to an even one of two; a half is exact.
+    (0..bits_after_point).fold(quotient as f64, |value, _| value / 2.0)
 }
 
 fn has_minus(bytes: &[u8]) -> bool {
@@ -167,11 +215,17 @@ fn count_digits(bytes: &[u8]) -> usize {
     bytes.iter().filter(|b| b.is_ascii_digit()).count()
 }
 
-fn places_after_dot(bytes: &[u8]) -> u32 {
-    match bytes.iter().position(|b| *b == b'.') {
-        Some(dot) => (bytes.len() - dot - 1) as u32,
+/// Called with at most 15 digits.
+fn places_after_dot(mantissa: &[u8]) -> i32 {
+    match mantissa.iter().position(|b| *b == b'.') {
+        Some(dot) => (mantissa.len() - dot - 1) as i32,
         None => 0,
     }
+}
+
+/// "an optional plus or minus and 1 to 3 digits"
+fn exponent_value(exponent: &[u8]) -> i32 {
+    signed_numerals(exponent) as i32
 }
 
 /// All digits of the bytes as one number; called with at most 15 digits.

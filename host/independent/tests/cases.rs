@@ -52,7 +52,7 @@ rules! {
     rule_17_and_17_stops_18_to_20 "rule 17:" 11;
     rule_18_and_18_stops_19_and_20 "rule 18:" 8;
     rule_19_and_19_stops_20_at_its_cell "rule 19:" 8;
-    rule_20 "rule 20:" 100;
+    rule_20 "rule 20:" 200;
     rule_21 "rule 21:" 13;
 }
 
@@ -96,7 +96,7 @@ fn every_question_has_its_answer() {
 
 #[test]
 fn every_value_has_its_kinds() {
-    assert!(kinds::all().len() >= 200);
+    assert!(kinds::all().len() >= 700);
     for (value, line) in kinds::all() {
         assert_eq!(printing::kinds_of(&value), line, "{}", show(&value));
     }
@@ -190,7 +190,7 @@ fn the_variants_of_names() {
 
 #[test]
 fn doubles_of_decimals() {
-    let cases: [(&str, f64); 12] = [
+    let cases: [(&str, f64); 33] = [
         ("0.1", 0.1),
         ("-0.1", -0.1),
         ("0.0", 0.0),
@@ -203,11 +203,32 @@ fn doubles_of_decimals() {
         ("3.24159265358979", 3.241_592_653_589_79),
         ("-1123.2", -1123.2),
         ("99999.9999999999", 99_999.999_999_999_9),
+        ("1.2E-5", 1.2e-5),
+        ("3e2", 300.0),
+        ("1E0", 1.0),
+        ("1E000", 1.0),
+        ("-1.5e+003", -1500.0),
+        ("3.2e-05", 3.2e-5),
+        ("6.229394e06", 6_229_394.0),
+        ("-0E5", -0.0),
+        ("-0.00e+02", -0.0),
+        ("-0e-22", -0.0),
+        ("0E5", 0.0),
+        ("0e-22", 0.0),
+        ("1E22", 1e22),
+        ("1.0E23", 1e23),
+        ("-1E-22", -1e-22),
+        ("1.0E-21", 1e-21),
+        ("123456789012345E22", 123_456_789_012_345e22),
+        ("123456789012345E-22", 123_456_789_012_345e-22),
+        ("999999999999999E22", 999_999_999_999_999e22),
+        ("-999999999999999e-22", -999_999_999_999_999e-22),
+        ("12345678901234.5e23", 12_345_678_901_234.5e23),
     ];
     for (value, expected) in cases {
         match read(value.as_bytes()) {
-            // One exact division of exact numbers is the nearest double, as the
-            // compiler's own reading of the same literal is.
+            // One division or multiplication of exact numbers is the nearest
+            // double, as the compiler's own reading of the same literal is.
             Reading::Decimal { double, .. } => {
                 assert_eq!(double.to_bits(), expected.to_bits(), "{value}")
             }
@@ -215,9 +236,10 @@ fn doubles_of_decimals() {
         }
     }
     assert_eq!(
-        printing::doubles(b"0.5\n-0.0\n7\nnull\n\nINF"),
-        "decimal 5 1 3fe0000000000000\n\
-         decimal 0 1 8000000000000000\nwhole 7\nmissing\ntext\ninfinite\n"
+        printing::doubles(b"0.5\n-0.0\n-0E5\n3e2\n7\nnull\n\nINF\n1E23"),
+        "decimal 5 -1 3fe0000000000000\n\
+         decimal 0 -1 8000000000000000\ndecimal 0 5 8000000000000000\n\
+         decimal 3 2 4072c00000000000\nwhole 7\nmissing\ntext\ninfinite\nlong\n"
     );
 }
 
@@ -241,10 +263,10 @@ fn the_double_is_the_nearest() {
         match read(text.as_bytes()) {
             Reading::Decimal {
                 numerals: n,
-                places: p,
+                power,
                 double,
             } => {
-                assert_eq!((n as u64, p as usize), (numerals, places), "{text}");
+                assert_eq!((n as u64, power), (numerals, -(places as i32)), "{text}");
                 assert_eq!(
                     double.to_bits(),
                     text.parse::<f64>().unwrap().to_bits(),
@@ -254,6 +276,138 @@ fn the_double_is_the_nearest() {
             other => panic!("{text} {other:?}"),
         }
     }
+}
+
+/// "the double is one division or one multiplication by an exact power of ten":
+/// the operation itself, and the reader of the standard library, beside the exact
+/// way by which `read` finds it.
+#[test]
+fn one_division_or_multiplication() {
+    let mut state: u64 = 1_181_783_497_276_652_981;
+    let mut mantissas: Vec<u64> = vec![0, 1, 2, 3, 5, 7, 10, 999_999_999_999_999];
+    mantissas.extend((0..50).map(|k| 1 << k));
+    for _ in 0..5_000 {
+        state ^= state << 13;
+        state ^= state >> 7;
+        state ^= state << 17;
+        mantissas.push((state >> 4) % 10u64.pow(1 + (state >> 60) as u32 % 15));
+    }
+    for power in -22..=22_i32 {
+        let ten_to_the_power = 10u128.pow(power.unsigned_abs());
+        let held = ten_to_the_power as f64;
+        assert_eq!(held as u128, ten_to_the_power);
+        for numerals in &mantissas {
+            let held_numerals = *numerals as f64;
+            assert_eq!(held_numerals as u64, *numerals);
+            let expected = if power < 0 {
+                held_numerals / held
+            } else {
+                held_numerals * held
+            };
+            double_is(*numerals, power, expected);
+        }
+    }
+}
+
+/// The reading of the numerals with that exponent, and of its negative.
+fn double_is(numerals: u64, power: i32, expected: f64) {
+    for (minus, expected) in [("", expected), ("-", -expected)] {
+        let text = format!("{minus}{numerals}E{power}");
+        let parsed: f64 = text.parse().unwrap();
+        match read(text.as_bytes()) {
+            Reading::Decimal {
+                numerals: n,
+                power: p,
+                double,
+            } => {
+                assert_eq!((n.unsigned_abs(), p), (numerals, power), "{text}");
+                assert_eq!(n < 0, !minus.is_empty() && numerals > 0, "{text}");
+                assert_eq!(double.to_bits(), expected.to_bits(), "{text}");
+                assert_eq!(double.to_bits(), parsed.to_bits(), "{text}");
+            }
+            other => panic!("{text} {other:?}"),
+        }
+    }
+}
+
+/// The exponent and the dot are two ways to say one power.
+#[test]
+fn the_power_is_the_exponent_less_the_places() {
+    for places in 1..=14_i32 {
+        let mantissa = format!("7.{}", "3".repeat(places as usize));
+        let numerals: i64 = mantissa.replace('.', "").parse().unwrap();
+        for exponent in -999..=999_i32 {
+            let power = exponent - places;
+            let text = format!("{mantissa}e{exponent:+04}");
+            match read(text.as_bytes()) {
+                Reading::Decimal {
+                    numerals: n,
+                    power: p,
+                    ..
+                } => {
+                    assert_eq!((n, p), (numerals, power), "{text}");
+                    assert!(power.abs() <= 22, "{text}");
+                }
+                Reading::LongDecimal => assert!(power.abs() > 22, "{text}"),
+                other => panic!("{text} {other:?}"),
+            }
+        }
+    }
+}
+
+/// Where a walk over the bytes of a decimal stands.
+#[derive(Clone, Copy, PartialEq)]
+enum Walk {
+    Start,
+    Minus,
+    Digits,
+    Dot,
+    Places,
+    Letter,
+    Sign,
+    /// So many digits of the exponent.
+    Exponent(u32),
+    Broken,
+}
+
+fn step(walk: Walk, byte: u8) -> Walk {
+    match (walk, byte) {
+        (Walk::Start, b'-') => Walk::Minus,
+        (Walk::Start | Walk::Minus | Walk::Digits, b'0'..=b'9') => Walk::Digits,
+        (Walk::Digits, b'.') => Walk::Dot,
+        (Walk::Dot | Walk::Places, b'0'..=b'9') => Walk::Places,
+        (Walk::Digits | Walk::Places, b'E' | b'e') => Walk::Letter,
+        (Walk::Letter, b'+' | b'-') => Walk::Sign,
+        (Walk::Letter | Walk::Sign, b'0'..=b'9') => Walk::Exponent(1),
+        (Walk::Exponent(count @ 1..=2), b'0'..=b'9') => Walk::Exponent(count + 1),
+        _ => Walk::Broken,
+    }
+}
+
+/// Every text of up to seven bytes that have a meaning in a decimal, and one
+/// that has none, against a second writing of the same words.
+#[test]
+fn every_short_text_is_a_decimal_or_not() {
+    const BYTES: &[u8] = b"07-+.Ee/";
+    let mut decimals = 0;
+    for length in 0..=7 {
+        for number in 0..BYTES.len().pow(length) {
+            let text: Vec<u8> = (0..length)
+                .map(|k| BYTES[number / BYTES.len().pow(k) % BYTES.len()])
+                .collect();
+            let end = text.iter().fold(Walk::Start, |walk, b| step(walk, *b));
+            let expected = matches!(end, Walk::Digits | Walk::Places | Walk::Exponent(_));
+            decimals += u32::from(expected);
+            assert_eq!(
+                independent::kinds::decimal(&text),
+                expected,
+                "{}",
+                show(&text)
+            );
+            assert_eq!(read(&text) != Reading::Text, expected, "{}", show(&text));
+        }
+    }
+    assert_eq!(decimals, 3_924);
 }
 
 #[test]

@@ -10,7 +10,12 @@ pub fn all() -> Values {
     wholes(&mut v);
     decimals(&mut v);
     near_numbers(&mut v);
+    exponents(&mut v);
+    exponents_and_powers(&mut v);
+    near_exponents(&mut v);
+    other_bytes_in_exponents(&mut v);
     lists_of_decimals(&mut v);
+    lists_with_exponents(&mut v);
     parameters(&mut v);
     parameter_lists(&mut v);
     references(&mut v);
@@ -22,6 +27,12 @@ pub fn all() -> Values {
 /// Nothing but text.
 fn plain(v: &mut Values, value: impl AsRef<[u8]>) {
     add(v, value, "1000000 0 0 0 0 0000 text");
+}
+
+fn plains(v: &mut Values, values: &[&str]) {
+    for value in values {
+        plain(v, value);
+    }
 }
 
 fn add(v: &mut Values, value: impl AsRef<[u8]>, line: &str) {
@@ -68,26 +79,27 @@ fn decimals(v: &mut Values) {
         ("-123456789012345", "decimal -123456789012345 0"),
         ("999999999999999", "decimal 999999999999999 0"),
         ("000000000000000", "decimal 0 0"),
-        ("0.0", "decimal 0 1"),
-        ("-0.0", "decimal 0 1"),
-        ("0.5", "decimal 5 1"),
-        ("-0.5", "decimal -5 1"),
-        ("00.50", "decimal 50 2"),
-        ("1.5", "decimal 15 1"),
-        ("-1.5", "decimal -15 1"),
-        ("10.2", "decimal 102 1"),
-        ("1123.2", "decimal 11232 1"),
-        ("1.0", "decimal 10 1"),
-        ("1.00000000", "decimal 100000000 8"),
-        ("123456789.5", "decimal 1234567895 1"),
-        ("123.0", "decimal 1230 1"),
-        ("0.00000000000001", "decimal 1 14"),
-        ("-0.00000000000001", "decimal -1 14"),
-        ("0.12345678901234", "decimal 12345678901234 14"),
-        ("12345678901234.5", "decimal 123456789012345 1"),
-        ("-12345678901234.5", "decimal -123456789012345 1"),
-        ("1234567.89012345", "decimal 123456789012345 8"),
-        ("00000000000000.1", "decimal 1 1"),
+        ("0.0", "decimal 0 -1"),
+        ("-0.0", "decimal 0 -1"),
+        ("0.5", "decimal 5 -1"),
+        ("-0.5", "decimal -5 -1"),
+        ("00.50", "decimal 50 -2"),
+        ("1.5", "decimal 15 -1"),
+        ("-1.5", "decimal -15 -1"),
+        ("10.2", "decimal 102 -1"),
+        ("12.50", "decimal 1250 -2"),
+        ("1123.2", "decimal 11232 -1"),
+        ("1.0", "decimal 10 -1"),
+        ("1.00000000", "decimal 100000000 -8"),
+        ("123456789.5", "decimal 1234567895 -1"),
+        ("123.0", "decimal 1230 -1"),
+        ("0.00000000000001", "decimal 1 -14"),
+        ("-0.00000000000001", "decimal -1 -14"),
+        ("0.12345678901234", "decimal 12345678901234 -14"),
+        ("12345678901234.5", "decimal 123456789012345 -1"),
+        ("-12345678901234.5", "decimal -123456789012345 -1"),
+        ("1234567.89012345", "decimal 123456789012345 -8"),
+        ("00000000000000.1", "decimal 1 -1"),
         ("INF", "infinite"),
         ("NaN", "nan"),
         ("1234567890123456", "long"),
@@ -111,11 +123,10 @@ fn decimals(v: &mut Values) {
 fn near_numbers(v: &mut Values) {
     for value in [
         ".5", "5.", "-.5", "-5.", ".", "-", "--1", "-.", "+1", "+1.5", "+INF", "1,000", "1,5",
-        "1 000", " 1", "1 ", "1.5 ", " 1.5", "- 1", "1-", "1.-5", "1..5", "1.5.2", "1.5.", "1e5",
-        "1E5", "1.5e3", "0x10", "1f", "-INF", "inf", "Inf", "INFINITY", "INF ", " INF", "INF1",
-        "1INF", "IN", "nan", "NAN", "Nan", "-NaN", "NaN ", "NaNN", "NA", "null", "NULL", "Null",
-        "null ", " null", "nulll", "-null", "1a", "a1", "1\t2", "1\r", "\r", "1.5\r", "INF\r",
-        "null\r",
+        "1 000", " 1", "1 ", "1.5 ", " 1.5", "- 1", "1-", "1.-5", "1..5", "1.5.2", "1.5.", "0x10",
+        "1f", "-INF", "inf", "Inf", "INFINITY", "INF ", " INF", "INF1", "1INF", "IN", "nan", "NAN",
+        "Nan", "-NaN", "NaN ", "NaNN", "NA", "null", "NULL", "Null", "null ", " null", "nulll",
+        "-null", "1a", "a1", "1\t2", "1\r", "\r", "1.5\r", "INF\r", "null\r",
     ] {
         if value == "null" {
             add(v, value, "1000000 0 0 0 0 0000 missing");
@@ -129,6 +140,288 @@ fn near_numbers(v: &mut Values) {
     plain(v, b"\xb2");
     // The empty value.
     add(v, "", "0000000 0 0 0 0 0000 text");
+}
+
+/// "A decimal may end in `E` or `e`, an optional plus or minus and 1 to 3
+/// digits": every shape of it.
+fn exponents(v: &mut Values) {
+    for (value, reading) in [
+        ("1E5", "decimal 1 5"),
+        ("1e5", "decimal 1 5"),
+        ("1E+5", "decimal 1 5"),
+        ("1e+5", "decimal 1 5"),
+        ("1E-5", "decimal 1 -5"),
+        ("1e-5", "decimal 1 -5"),
+        ("-1E5", "decimal -1 5"),
+        ("-1e5", "decimal -1 5"),
+        ("-1E+5", "decimal -1 5"),
+        ("-1e-5", "decimal -1 -5"),
+        ("1.5E3", "decimal 15 2"),
+        ("1.5e3", "decimal 15 2"),
+        ("1.5E+3", "decimal 15 2"),
+        ("1.5e-3", "decimal 15 -4"),
+        ("-1.5E3", "decimal -15 2"),
+        ("-1.5e-3", "decimal -15 -4"),
+        // One, two and three digits, zeros before them.
+        ("1E0", "decimal 1 0"),
+        ("1E00", "decimal 1 0"),
+        ("1E000", "decimal 1 0"),
+        ("1E+0", "decimal 1 0"),
+        ("1e-0", "decimal 1 0"),
+        ("1E+000", "decimal 1 0"),
+        ("1e-000", "decimal 1 0"),
+        ("1E01", "decimal 1 1"),
+        ("1E001", "decimal 1 1"),
+        ("1e-01", "decimal 1 -1"),
+        ("1e-001", "decimal 1 -1"),
+        ("1E+010", "decimal 1 10"),
+        ("1E10", "decimal 1 10"),
+        ("1E-10", "decimal 1 -10"),
+        ("1E09", "decimal 1 9"),
+        ("1E9", "decimal 1 9"),
+        ("5E0", "decimal 5 0"),
+        ("5.0E0", "decimal 50 -1"),
+        ("3e2", "decimal 3 2"),
+        ("1.2E-5", "decimal 12 -6"),
+        ("-1.5e+003", "decimal -15 2"),
+        ("3.2e-05", "decimal 32 -6"),
+        ("6.229394e06", "decimal 6229394 0"),
+        ("12.50E0", "decimal 1250 -2"),
+        ("12.50E2", "decimal 1250 0"),
+        ("12.50e3", "decimal 1250 1"),
+        ("007E1", "decimal 7 1"),
+        ("-00.70e1", "decimal -70 -1"),
+        ("123456789E0", "decimal 123456789 0"),
+        ("-123456789e1", "decimal -123456789 1"),
+        ("1234567890E-1", "decimal 1234567890 -1"),
+        // Zero has no sign as numerals.
+        ("0E0", "decimal 0 0"),
+        ("-0E0", "decimal 0 0"),
+        ("0e5", "decimal 0 5"),
+        ("-0E5", "decimal 0 5"),
+        ("-0e-5", "decimal 0 -5"),
+        ("00E0", "decimal 0 0"),
+        ("0.0E0", "decimal 0 -1"),
+        ("0.0e1", "decimal 0 0"),
+        ("-0.0E0", "decimal 0 -1"),
+        ("-0.00e+02", "decimal 0 0"),
+    ] {
+        add(v, value, &format!("1011000 0 0 0 0 0000 {reading}"));
+    }
+}
+
+/// "With at most 15 mantissa digits and a power from -22 to 22": either side of
+/// both.
+fn exponents_and_powers(v: &mut Values) {
+    for (value, reading) in [
+        ("1E21", "decimal 1 21"),
+        ("1E22", "decimal 1 22"),
+        ("1e+022", "decimal 1 22"),
+        ("-1E22", "decimal -1 22"),
+        ("1E23", "long"),
+        ("1E+23", "long"),
+        ("1e023", "long"),
+        ("-1E23", "long"),
+        ("1E-21", "decimal 1 -21"),
+        ("1E-22", "decimal 1 -22"),
+        ("1e-022", "decimal 1 -22"),
+        ("-1E-22", "decimal -1 -22"),
+        ("1E-23", "long"),
+        ("1e-023", "long"),
+        ("-1E-23", "long"),
+        ("0E22", "decimal 0 22"),
+        ("0E23", "long"),
+        ("0e-22", "decimal 0 -22"),
+        ("-0e-22", "decimal 0 -22"),
+        ("0e-23", "long"),
+        ("-0E23", "long"),
+        ("0.0E-21", "decimal 0 -22"),
+        ("0.0E-22", "long"),
+        // The exponent less the places.
+        ("1.0E-21", "decimal 10 -22"),
+        ("1.0E-22", "long"),
+        ("1.0E22", "decimal 10 21"),
+        ("1.0E23", "decimal 10 22"),
+        ("1.0E24", "long"),
+        ("9.99e24", "decimal 999 22"),
+        ("9.99e25", "long"),
+        ("9.99e-20", "decimal 999 -22"),
+        ("9.99e-21", "long"),
+        ("0.00000000000001E14", "decimal 1 0"),
+        ("0.00000000000001E36", "decimal 1 22"),
+        ("0.00000000000001E37", "long"),
+        ("0.00000000000001E-8", "decimal 1 -22"),
+        ("0.00000000000001E-9", "long"),
+        // Mantissas of 15 digits.
+        ("123456789012345E0", "decimal 123456789012345 0"),
+        ("123456789012345E000", "decimal 123456789012345 0"),
+        ("123456789012345e-022", "decimal 123456789012345 -22"),
+        ("123456789012345E-22", "decimal 123456789012345 -22"),
+        ("123456789012345E-23", "long"),
+        ("123456789012345E22", "decimal 123456789012345 22"),
+        ("123456789012345E23", "long"),
+        ("999999999999999E22", "decimal 999999999999999 22"),
+        ("-999999999999999e-22", "decimal -999999999999999 -22"),
+        ("-12345678901234.5E+001", "decimal -123456789012345 0"),
+        ("12345678901234.5E-21", "decimal 123456789012345 -22"),
+        ("12345678901234.5E-22", "long"),
+        ("12345678901234.5e23", "decimal 123456789012345 22"),
+        ("12345678901234.5e24", "long"),
+        ("1.23456789012345E+14", "decimal 123456789012345 0"),
+        ("1.23456789012345E-8", "decimal 123456789012345 -22"),
+        ("1.23456789012345E-9", "long"),
+        ("000000000000001E1", "decimal 1 1"),
+        ("000000000000000E1", "decimal 0 1"),
+        ("-0.00000000000000e14", "decimal 0 0"),
+        // Mantissas of 16 digits and more.
+        ("9007199254740992E0", "long"),
+        ("9007199254740993E0", "long"),
+        ("1234567890123456E-1", "long"),
+        ("-1234567890123456e1", "long"),
+        ("123456789012345.6E1", "long"),
+        ("1.234567890123456E0", "long"),
+        ("1.000000000000000e15", "long"),
+        ("0000000000000001E1", "long"),
+        ("0000000000000000E0", "long"),
+        ("-0.000000000000000E0", "long"),
+        ("123456789012345678901234567890E-29", "long"),
+        ("12345678901234567890.12345678901234567890e+000", "long"),
+        // Powers far off.
+        ("1E99", "long"),
+        ("1E099", "long"),
+        ("1E100", "long"),
+        ("1E308", "long"),
+        ("1E309", "long"),
+        ("1E-324", "long"),
+        ("1E999", "long"),
+        ("1e+999", "long"),
+        ("-1E999", "long"),
+        ("1E-999", "long"),
+        ("-1e-999", "long"),
+        ("0E999", "long"),
+        ("0.0e-999", "long"),
+        ("1.7976931348623157E308", "long"),
+    ] {
+        add(v, value, &format!("1011000 0 0 0 0 0000 {reading}"));
+    }
+}
+
+fn near_exponents(v: &mut Values) {
+    // What stands before the letter is no decimal.
+    plains(
+        v,
+        &[
+            ".5E1", "5.E1", "-.5E1", "-5.E1", "5.e1", ".5e1", ".E1", "-.E1", "E5", "e5", "-E5",
+            "-e5", "+E5", "E", "e", "-E", "E+", "E-", "E-5", "E+5", "E0", "+1E5", "+1.5e3",
+            "--1E5", "-+1E5", "1-E5", "1+E5", "1.-5E1", "1..5E1", "1.5.2E1", "1.5.E1", "1,5E3",
+            "1,000E3", "1aE5", "aE5",
+        ],
+    );
+    // No digit after it.
+    plains(
+        v,
+        &[
+            "1E", "1e", "-1E", "1.5E", "1.5e", "1E+", "1E-", "1e+", "1e-", "-1.5E+", "-1.5e-",
+        ],
+    );
+    // Four digits and more.
+    plains(
+        v,
+        &[
+            "1E1000", "1e1000", "1E0000", "1e0001", "1E+1000", "1E-1000", "1E+0001", "1e-0000",
+            "1.5E0005", "1E00000", "0E0000",
+        ],
+    );
+    plain(v, "1E1234567890");
+    plain(v, "1E99999999999999999999");
+    // Signs twice, or not in front.
+    plains(
+        v,
+        &[
+            "1E++5", "1E--5", "1E+-5", "1E-+5", "1e--5", "1E---5", "1E5+", "1E5-", "1E5-5",
+            "1E5+5", "1e-5-", "1E+5+",
+        ],
+    );
+    // A dot after it.
+    plains(
+        v,
+        &[
+            "1.2E-5.0", "1E5.0", "1E5.", "1E.5", "1E.", "1E-.5", "1E+5.", "1.5e3.0", "1e0.5",
+        ],
+    );
+    // The letter twice.
+    plains(
+        v,
+        &[
+            "1E5E5", "1e5e5", "1E5e5", "1e5E5", "1EE5", "1ee5", "1Ee5", "1eE5", "1E5E", "1e5e",
+            "1E5E-5", "1E+5E+5", "1.5E1E1", "1EE", "EE5", "1E+E5",
+        ],
+    );
+    // "`INF` and `NaN` take none"; nor does `null`.
+    plains(
+        v,
+        &[
+            "INFE5", "INFe5", "INFE0", "INFE", "INFe", "INFE+5", "INFe-5", "INF E5", "-INFE5",
+            "INF.0E5", "infe5", "InfE5", "INF5", "1INFE5", "NaNE5", "NaNe5", "NaNE0", "NaNE",
+            "NaNe", "NaNE+5", "NaNe-5", "NaN E5", "-NaNE5", "nanE5", "NANE5", "NaN5", "NaNE5E5",
+            "E5INF", "1EINF", "1e-INF", "1ENaN", "1E-NaN", "1EN", "nullE5", "nulle5", "nulle",
+            "1Enull", "1E5null",
+        ],
+    );
+}
+
+fn other_bytes_in_exponents(v: &mut Values) {
+    // Spaces and other bytes between.
+    plains(
+        v,
+        &[
+            "1 E5", "1E 5", "1E5 ", " 1E5", "1E+ 5", "1E- 5", "1E -5", "1.5 e3", "- 1E5", "1E1 0",
+            "1E ", "1\tE5", "1E\t5", "1E5\t", "1E5\r", "1E\r5", "1E\r", "1E1,0", "1E_5", "1E1_0",
+            "1E5x", "1E5a", "1Ex5", "1xE5", "x1E5", "1E0x5", "0x1E5", "0xE5", "1E5f", "1E5F",
+            "1E5d", "1E5L", "1E'5", "1E(5)", "1E5%", "(1E5)", "\"1E5\"",
+        ],
+    );
+    // Bytes beside the digits and the signs.
+    plains(
+        v,
+        &[
+            "1E/", "1E:", "1E5/", "1E5:", "1/E5", "1:E5", "1E*5", "1E,5", "1E/5",
+        ],
+    );
+    // Other letters, and other ways of writing a power.
+    plains(
+        v,
+        &[
+            "1D5", "1d5", "1F5", "1f5", "1C5", "1c5", "1G5", "1g5", "1B5", "1A5", "1a5", "1P5",
+            "1p5", "1U5", "1u5", "1X5", "1x5", "1D-5", "1d+05", "1F-5", "1f+05", "1.5D3", "1.5d3",
+            "1.5F3", "1.5f-3", "1DE5", "1ED5", "1eF5", "1^5", "1E^5", "10^5", "10**5", "1*10^5",
+            "1.2*10-5",
+        ],
+    );
+    // Letters, minus signs and digits of other scripts.
+    plains(
+        v,
+        &[
+            "1.2×10-5",
+            "1.2\u{415}-5",
+            "1\u{435}5",
+            "1\u{ff25}5",
+            "1E\u{2212}5",
+            "\u{2212}1E5",
+            "1E\u{2013}5",
+            "1E\u{ff15}",
+        ],
+    );
+    plain(v, b"1E\xb2");
+    plain(v, b"1E\xd9\xa1");
+    // The letters with other highest bits.
+    plain(v, b"1\x055");
+    plain(v, b"1\x255");
+    plain(v, b"1\xc55");
+    plain(v, b"1\xe55");
+    plain(v, b"1E5\xff");
+    plain(v, b"1E\x005");
+    plain(v, b"1E5\x00");
 }
 
 fn lists_of_decimals(v: &mut Values) {
@@ -169,6 +462,68 @@ fn lists_of_decimals(v: &mut Values) {
         "1:2",
         "1\\|2",
         "1\"|\"2",
+    ] {
+        plain(v, value);
+    }
+}
+
+/// "Rules 7 and 20, lists and windows follow."
+fn lists_with_exponents(v: &mut Values) {
+    for value in [
+        "1E5|2E5",
+        "1e-5|1",
+        "1|1E+005",
+        "1.2E-5|3.4e-05",
+        "-1E5|-2.5e03",
+        "1123.2e0|1145.3E0",
+        "INF|1E5",
+        "1e5|NaN",
+        "1E999|1E-999",
+        "1234567890123456E1|-0E0",
+    ] {
+        add(v, value, "1001100 0 0 0 0 0000 text");
+    }
+    for value in [
+        "1E5|2E5|3E5",
+        "1|1e1|1.0E+1",
+        "1E5|INF|NaN|-2.5e-03",
+        "1E1|1E1|1E1|1E1|1E1|1E1|1E1|1E1",
+    ] {
+        add(v, value, "1001000 0 0 0 0 0000 text");
+    }
+    for value in [
+        "1E|2",
+        "1|2E",
+        "E1|2",
+        "1|E2",
+        "1E|5",
+        "1E-|5",
+        "1E+|5",
+        "1E5|",
+        "|1E5",
+        "1E5||2E5",
+        "1E5|2E5|",
+        "1E5|2E5|3E",
+        "1E5|2E+",
+        "1E5|2E5E5",
+        "1E5|2E5.0",
+        "1E5|2E1000",
+        "1E0000|2E5",
+        "1E5|+2E5",
+        "1E5|2.E5",
+        "1E5|.2E5",
+        "1E5|2D5",
+        "1d5|2e5",
+        "1E5 |2E5",
+        "1E5| 2E5",
+        "1E 5|2E5",
+        "INFE1|1",
+        "1|NaNE1",
+        "1E5|null",
+        "null|1E5",
+        "1E5;2E5",
+        "1E5,2E5",
+        "1E5-2E5",
     ] {
         plain(v, value);
     }
@@ -388,6 +743,8 @@ fn references(v: &mut Values) {
             "a",
             "1a",
             "1.0",
+            "1E0",
+            "1e1",
             "1,2",
             "4294967297",
             "18446744073709551617",

@@ -143,6 +143,7 @@ pub fn all() -> Vec<Case> {
     rules_17_to_19::rule_18(&mut c);
     rules_17_to_19::rule_19(&mut c);
     rule_20::rule_20(&mut c);
+    rule_20::rule_20_with_exponents(&mut c);
     rule_21::rule_21(&mut c);
     several::several_at_once(&mut c);
     c.list
