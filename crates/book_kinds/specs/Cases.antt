@@ -1,10 +1,10 @@
--- The paper's cases of the kinds, as one statement over one list, to which a floor above appends its own; and values by the letters of their kinds. Assumes nothing.
+-- The paper's cases of the kinds, with four of request 2026-04, as one statement over one list, to which a floor above appends its own; and values by the letters of their kinds. Assumes nothing.
 use mathlib.Core.Path.{_≡_, refl}
 use mathlib.Core.Bool.{Bool, true, false, Bool·beq}
 use mathlib.Core.List.{List, [], _∷_}
 use Rattle.text_bytes.specs.Bytes.{Bytes, bytes, same, begins, isEmpty, all, onFirst, splitOn, isSpace}
 use Rattle.value_references.specs.Index.{digits, number, bracketed, indexAt}
-use Rattle.values.specs.Values.{areDigits, unsigned, dotted, isNumeral, isText, isWhole, isDecimal, isDecimals, isWindow, isNull}
+use Rattle.values.specs.Values.{areDigits, unsigned, unmarked, dotted, isE, mantissa, exponent, isExponent, isUnsigned, isNumeral, isText, isWhole, isDecimal, isDecimals, isWindow, isNull}
 use Rattle.value_parameters.specs.Parameters.{quotedAfter, cutOutside, hasFields, isParameter}
 use Rattle.value_references.specs.References.{family, refTo, isIndex}
 use Rattle.book_kinds.specs.Kinds.{familyNumber, isKept, isFixed, ofKind, cellOfKind}
@@ -42,6 +42,10 @@ cases =
     ∷ isNot isDecimal (bytes ".5")
     ∷ isNot isDecimal (bytes "5.")
     ∷ isNot isDecimal (bytes "1,000")
+    ∷ isA isDecimal (bytes "1.2E-5")
+    ∷ isA isDecimal (bytes "1e5")
+    ∷ isNot isDecimal (bytes "1E")
+    ∷ isNot isDecimal (bytes "INFE1")
     ∷ isA isWindow (bytes "1123.2|1145.3")
     ∷ isNot isWindow (bytes "10.2")
     ∷ isA isWhole (bytes "123456789")
@@ -49,7 +53,7 @@ cases =
     ∷ []
 
 pub all-hold : all agrees cases ≡ true
-unfolding cases all bytes same begins isEmpty onFirst splitOn digits number bracketed indexAt areDigits unsigned dotted isNumeral isWhole isDecimal isDecimals isWindow quotedAfter cutOutside isSpace hasFields isParameter refTo
+unfolding cases all bytes same begins isEmpty onFirst splitOn digits number bracketed indexAt areDigits unsigned unmarked dotted isE mantissa exponent isExponent isUnsigned isNumeral isWhole isDecimal isDecimals isWindow quotedAfter cutOutside isSpace hasFields isParameter refTo
 all-hold = refl
 
 -- values: a reference to a sample, a version, and `null`, which stands for missing save in a column that is never null

@@ -10,7 +10,7 @@ use Rattle.mztab.specs.Shown.{Sought, Placed, orElse}
 use Rattle.mztab.specs.declared.cells.Place.{Place}
 use lib.IntN.{ℤ}
 use lib.Ieee.{Float}
-use Rattle.value_readings.specs.Reading.{numberOf, wholeOf, placesOf, doubleOf}
+use Rattle.value_readings.specs.Reading.{numberOf, wholeOf, powerOf, doubleOf}
 use Rattle.mztab.specs.Readings.{Told, told}
 use Rattle.mztab.specs.declared.records.Reading.{Reading}
 use Rattle.capi.specs.Answers.{CellAt, CellOrAt, ReadAs}
@@ -54,15 +54,15 @@ module _ {file other : Bytes} {s : Sought} {p : Place} (h : Placed file s p) whe
       }
 
 -- a record, and the values of its case
-pub told-as : {t : Told} {n case : ℕ} {r : Reading} {whole : ℤ} {places : ℕ} {double : Float} → told n r ≡ t
-    → case ≡ numberOf (r .value) → whole ≡ wholeOf (r .value) → places ≡ placesOf (r .value) → double ≡ doubleOf (r .value)
-    → ReadAs t n case (r .line) (r .cell) whole places double
+pub told-as : {t : Told} {n case : ℕ} {r : Reading} {whole power : ℤ} {double : Float} → told n r ≡ t
+    → case ≡ numberOf (r .value) → whole ≡ wholeOf (r .value) → power ≡ powerOf (r .value) → double ≡ doubleOf (r .value)
+    → ReadAs t n case (r .line) (r .cell) whole power double
 told-as e a b c d = record {
   says = ap (λ (x : Told). x .number) e;
   is = a ∙ ap (λ (x : Told). numberOf (x .reading .value)) e;
   on = ap (λ (x : Told). x .reading .line) e;
   at = ap (λ (x : Told). x .reading .cell) e;
   wholes = b ∙ ap (λ (x : Told). wholeOf (x .reading .value)) e;
-  placed = c ∙ ap (λ (x : Told). placesOf (x .reading .value)) e;
+  scaled = c ∙ ap (λ (x : Told). powerOf (x .reading .value)) e;
   doubles = d ∙ ap (λ (x : Told). doubleOf (x .reading .value)) e;
 }

@@ -6,7 +6,7 @@ use mathlib.Core.Bool.{cond}
 use Rattle.text_bytes.specs.Bytes.{Bytes, is}
 use lib.IntN.{ℤ}
 use lib.Ieee.{Float}
-use Rattle.value_readings.specs.Reading.{numberOf, wholeOf, placesOf, doubleOf}
+use Rattle.value_readings.specs.Reading.{numberOf, wholeOf, powerOf, doubleOf}
 use Rattle.mztab.specs.Shown.{Sought, shown, orElse}
 use Rattle.mztab.specs.Readings.{Told}
 
@@ -28,11 +28,11 @@ pub record CellOrAt (file other : Bytes) (s : Sought) (number start size stood :
   pub views : take size (drop start (cond (is (s .view) "null") other file)) ≡ (orElse other (shown s)) .view
 
 -- `mztab_reading`: the number, the case and what it carries, the line and the cell
-pub record ReadAs (t : Told) (number case line cell : ℕ) (whole : ℤ) (places : ℕ) (double : Float) : Type 0 where
+pub record ReadAs (t : Told) (number case line cell : ℕ) (whole power : ℤ) (double : Float) : Type 0 where
   pub says : number ≡ t .number
   pub is : case ≡ numberOf (t .reading .value)
   pub on : line ≡ t .reading .line
   pub at : cell ≡ t .reading .cell
   pub wholes : whole ≡ wholeOf (t .reading .value)
-  pub placed : places ≡ placesOf (t .reading .value)
+  pub scaled : power ≡ powerOf (t .reading .value)
   pub doubles : double ≡ doubleOf (t .reading .value)

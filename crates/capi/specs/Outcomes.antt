@@ -17,7 +17,7 @@ pub mztab-cell-or-once : {file other : Bytes} {s : Sought} {n m a b k l t u : �
 mztab-cell-or-once p q = (p .says ∙ sym (q .says), p .from ∙ sym (q .from), p .long ∙ sym (q .long), p .stands ∙ sym (q .stands))
 
 -- `mztab_reading`: one of each
-pub mztab-reading-once : {t : Told} {n m r q l k c d : ℕ} {w v : ℤ} {p o : ℕ} {x y : Float} → ReadAs t n r l c w p x → ReadAs t m q k d v o y
+pub mztab-reading-once : {t : Told} {n m r q l k c d : ℕ} {w v p o : ℤ} {x y : Float} → ReadAs t n r l c w p x → ReadAs t m q k d v o y
     → (n ≡ m) × (r ≡ q) × (l ≡ k) × (c ≡ d) × (w ≡ v) × (p ≡ o) × (x ≡ y)
 mztab-reading-once a b =
-    (a .says ∙ sym (b .says), a .is ∙ sym (b .is), a .on ∙ sym (b .on), a .at ∙ sym (b .at), a .wholes ∙ sym (b .wholes), a .placed ∙ sym (b .placed), a .doubles ∙ sym (b .doubles))
+    (a .says ∙ sym (b .says), a .is ∙ sym (b .is), a .on ∙ sym (b .on), a .at ∙ sym (b .at), a .wholes ∙ sym (b .wholes), a .scaled ∙ sym (b .scaled), a .doubles ∙ sym (b .doubles))

@@ -1,7 +1,7 @@
 // What each case of a reading is to a host: its number, and the values that it carries.
 use value_readings::Value;
 ghost use mathlib.Core.Path.{_≡_};
-ghost use Rattle.value_readings.specs.Reading.{numberOf, wholeOf, placesOf, doubleOf};
+ghost use Rattle.value_readings.specs.Reading.{numberOf, wholeOf, powerOf, doubleOf};
 
 // 0 missing, 1 whole, 2 decimal, 3 infinite, 4 not a number, 5 long decimal, 6 text.
 pub fn number_of(value: Value) -> u32
@@ -12,7 +12,7 @@ pub fn number_of(value: Value) -> u32
         Value::Whole(_) => 1,
         Value::Decimal {
             numerals: _,
-            places: _,
+            power: _,
             double: _,
         } => 2,
         Value::Infinite => 3,
@@ -31,7 +31,7 @@ pub fn whole_of(value: Value) -> i64
         Value::Whole(n) => n,
         Value::Decimal {
             numerals,
-            places: _,
+            power: _,
             double: _,
         } => numerals,
         Value::Infinite => 0,
@@ -41,18 +41,18 @@ pub fn whole_of(value: Value) -> i64
     }
 }
 
-// The places of a decimal, 0 for any other.
-pub fn places_of(value: Value) -> u32
-    ensures { λ r. ⌜ r ≡ placesOf value ⌝ }
+// The power of ten of a decimal, 0 for any other.
+pub fn power_of(value: Value) -> i32
+    ensures { λ r. ⌜ r ≡ powerOf value ⌝ }
 {
     match value {
         Value::Missing => 0,
         Value::Whole(_) => 0,
         Value::Decimal {
             numerals: _,
-            places,
+            power,
             double: _,
-        } => places,
+        } => power,
         Value::Infinite => 0,
         Value::NotANumber => 0,
         Value::LongDecimal => 0,
@@ -69,7 +69,7 @@ pub fn double_of(value: Value) -> f64
         Value::Whole(_) => 0.0,
         Value::Decimal {
             numerals: _,
-            places: _,
+            power: _,
             double,
         } => double,
         Value::Infinite => 0.0,

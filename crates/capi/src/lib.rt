@@ -3,7 +3,7 @@ mod cases;
 
 use cases::double_of;
 use cases::number_of;
-use cases::places_of;
+use cases::power_of;
 use cases::whole_of;
 use faults::Fault;
 use faults::judge;
@@ -100,17 +100,17 @@ pub extern "C" fn mztab_reading(
     line: &mut u32,
     cell: &mut u32,
     whole: &mut i64,
-    places: &mut u32,
+    power: &mut i32,
     double: &mut f64,
 ) -> u32
-    ensures { λ r. ⌜ ReadAs (readingOf (sought (now (file .entry)) section row column)) (now (number .exit)) r (now (line .exit)) (now (cell .exit)) (now (whole .exit)) (now (places .exit)) (now (double .exit)) ⌝ }
+    ensures { λ r. ⌜ ReadAs (readingOf (sought (now (file .entry)) section row column)) (now (number .exit)) r (now (line .exit)) (now (cell .exit)) (now (whole .exit)) (now (power .exit)) (now (double .exit)) ⌝ }
 {
     let record = reading(file, section, row, column, number);
     let value = record.value;
     *line = record.line;
     *cell = record.cell;
     *whole = whole_of(value);
-    *places = places_of(value);
+    *power = power_of(value);
     *double = double_of(value);
     number_of(value)
 }

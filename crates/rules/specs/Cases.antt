@@ -8,7 +8,7 @@ use Rattle.book_kinds.specs.Cases.{Case, isA, agrees, cases}
 use Rattle.text_bytes.specs.Bytes.{Bytes, bytes, same, begins, isEmpty, any, all, onFirst, splitOn, isSpace}
 use Rattle.text.specs.Lines.{lines, startsLf, coded, cell, isField, control, firstControl}
 use Rattle.value_references.specs.Index.{written, digits, number, bracketed, indexAt}
-use Rattle.values.specs.Values.{areDigits, unsigned, dotted, isText, isWhole, isNumeral, isDecimal, isDecimals, isWindow, isNull}
+use Rattle.values.specs.Values.{areDigits, unsigned, unmarked, dotted, isE, mantissa, exponent, isExponent, isUnsigned, isText, isWhole, isNumeral, isDecimal, isDecimals, isWindow, isNull}
 use Rattle.value_parameters.specs.Parameters.{quotedAfter, cutOutside, hasFields, isParameter, isParameters}
 use Rattle.book_names.specs.Names.{piecesFrom, entryOf, fits, firstOf}
 use Rattle.book.specs.Keys.{keys, isColunit}
@@ -24,7 +24,7 @@ use Rattle.rules.specs.Rules.{sameKey, namedIn, isUndeclared, lacksColum
 
 pub example : breaks (bytes "MTD\tmzTab-version\t1.0.0\nMTD\tmzTab-mode\tSummary\nMTD\tmzTab-type\tIdentification\nMTD\tdescription\tYeast check\nMTD\tms_run[1]-location\tfile:///a.mzML\n\nPRH\taccession\tdescription\tdatabase\tsearch_engine\tnum_psms_ms_run[2]\nPRT\tY1\tnull\tdb\tnull\t\nPRT\tnull\tx\tdb\tnull\t4\n")
     ≡ breakAt 7 6 15 ∷ breakAt 8 6 19 ∷ breakAt 9 2 20 ∷ []
-unfolding bytes same begins isEmpty any all onFirst splitOn lines startsLf coded cell isField control firstControl written digits number bracketed indexAt areDigits unsigned dotted isText isWhole isNumeral isDecimal isDecimals isWindow isNull quotedAfter cutOutside isSpace hasFields isParameter isParameters piecesFrom entryOf fits firstOf keys isColunit proteinColumns peptideColumns psmColumns moleculeColumns proteinRequired peptideRequired psmRequired moleculeRequired mzTab demands bookOf isSection sectionOf codedFrom keyOf isOpt optOf columnOf declares refTo trimmed refsTo isReferences familyNumber isKept isFixed namedIn ofKind cellOfKind codeSort sortOf isSilent each atCell atLine inLines atEnd sameKey isUndeclared lacksColumn nearestIn rules hasForm hasKey asks modeOf typeOf earliest isPresent isAsked upFrom wantsOf wantsIn isUnmet lastCell endRules breaksBy breaks
+unfolding bytes same begins isEmpty any all onFirst splitOn lines startsLf coded cell isField control firstControl written digits number bracketed indexAt areDigits unsigned unmarked dotted isE mantissa exponent isExponent isUnsigned isText isWhole isNumeral isDecimal isDecimals isWindow isNull quotedAfter cutOutside isSpace hasFields isParameter isParameters piecesFrom entryOf fits firstOf keys isColunit proteinColumns peptideColumns psmColumns moleculeColumns proteinRequired peptideRequired psmRequired moleculeRequired mzTab demands bookOf isSection sectionOf codedFrom keyOf isOpt optOf columnOf declares refTo trimmed refsTo isReferences familyNumber isKept isFixed namedIn ofKind cellOfKind codeSort sortOf isSilent each atCell atLine inLines atEnd sameKey isUndeclared lacksColumn nearestIn rules hasForm hasKey asks modeOf typeOf earliest isPresent isAsked upFrom wantsOf wantsIn isUnmet lastCell endRules breaksBy breaks
 example = refl
 
 -- the same breaks, one by one
@@ -49,5 +49,5 @@ files =
     ∷ []
 
 pub all-hold : all agrees (cases ++ files) ≡ true
-unfolding cases files sameBreaks bytes same begins isEmpty any all onFirst splitOn lines startsLf coded cell isField control firstControl written digits number bracketed indexAt areDigits unsigned dotted isText isWhole isNumeral isDecimal isDecimals isWindow isNull quotedAfter cutOutside isSpace hasFields isParameter isParameters piecesFrom entryOf fits firstOf keys isColunit proteinColumns peptideColumns psmColumns moleculeColumns proteinRequired peptideRequired psmRequired moleculeRequired mzTab demands bookOf isSection sectionOf codedFrom keyOf isOpt optOf columnOf declares refTo trimmed refsTo isReferences familyNumber isKept isFixed namedIn ofKind cellOfKind codeSort sortOf isSilent each atCell atLine inLines atEnd sameKey isUndeclared lacksColumn nearestIn rules hasForm hasKey asks modeOf typeOf earliest isPresent isAsked upFrom wantsOf wantsIn isUnmet lastCell endRules breaksBy breaks
+unfolding cases files sameBreaks bytes same begins isEmpty any all onFirst splitOn lines startsLf coded cell isField control firstControl written digits number bracketed indexAt areDigits unsigned unmarked dotted isE mantissa exponent isExponent isUnsigned isText isWhole isNumeral isDecimal isDecimals isWindow isNull quotedAfter cutOutside isSpace hasFields isParameter isParameters piecesFrom entryOf fits firstOf keys isColunit proteinColumns peptideColumns psmColumns moleculeColumns proteinRequired peptideRequired psmRequired moleculeRequired mzTab demands bookOf isSection sectionOf codedFrom keyOf isOpt optOf columnOf declares refTo trimmed refsTo isReferences familyNumber isKept isFixed namedIn ofKind cellOfKind codeSort sortOf isSilent each atCell atLine inLines atEnd sameKey isUndeclared lacksColumn nearestIn rules hasForm hasKey asks modeOf typeOf earliest isPresent isAsked upFrom wantsOf wantsIn isUnmet lastCell endRules breaksBy breaks
 all-hold = refl

@@ -28,11 +28,11 @@ fn whole(v: i64) {
     signed(v);
 }
 
-fn decimal(numerals: i64, places: u32) {
+fn decimal(numerals: i64, power: i32) {
     io::write_all(OUT, b"decimal ");
     signed(numerals);
     io::write_all(OUT, b" ");
-    io::print_decimal(OUT, places as u64);
+    signed(power as i64);
 }
 
 // The word of a case that carries nothing.
@@ -54,16 +54,16 @@ fn word(n: u32) {
     }
 }
 
-// Prints a value: missing, whole V, decimal NUMERALS PLACES, infinite, nan, long or text.
+// Prints a value: missing, whole V, decimal NUMERALS POWER, infinite, nan, long or text.
 pub fn tell(value: Value) {
     match value {
         Value::Missing => word(0),
         Value::Whole(n) => whole(n),
         Value::Decimal {
             numerals,
-            places,
+            power,
             double: _,
-        } => decimal(numerals, places),
+        } => decimal(numerals, power),
         Value::Infinite => word(3),
         Value::NotANumber => word(4),
         Value::LongDecimal => word(5),
