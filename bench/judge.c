@@ -1,6 +1,6 @@
-/* How long `mztab_judge` takes: on ordinary files of 16 MB and 1 MB beside `mawk` and `wc -l` on the same file in the same run, and on the hostile files of
- * tests/host.c of 16 MB and 4 MB; a byte that takes over four times what `mawk` takes for one of the ordinary rows is called slow. Best of five each; of fewer
- * where one file takes over ten seconds in all. Fails where a count is wrong. */
+/* How long `mztab_judge` takes: on ordinary files of 16 MB and 1 MB beside `mawk` and `wc -l` on the same file in the same run, on the same rows whose numbers
+ * end in an exponent, and on the hostile files of tests/host.c of 16 MB and 4 MB; a byte that takes over four times what `mawk` takes for one of the ordinary
+ * rows is called slow. Best of five each; of fewer where one file takes over ten seconds in all. Fails where a count is wrong. */
 #define HOSTILE_FILES_ONLY
 #include "../tests/host.c"
 #include "ordinary.h"
@@ -85,6 +85,8 @@ int main(void) {
     size_t quarter = LIMIT / 4, mega = LIMIT / 16;
     double t4 = judge("ordinary rows", quarter, ordinary(quarter));
     printf("%-30s %10.2f %10.3f %10.3f %11.2f\n", "ordinary rows", t, usual, t4 * 1e6 / (double)quarter, 1.0);
+    double e4 = judge("rows with exponents", quarter, rows(quarter, 1)), e = judge("rows with exponents", LIMIT, rows(LIMIT, 1));
+    printf("%-30s %10.2f %10.3f %10.3f %11.2f\n", "rows with exponents", e, e * 1e6 / LIMIT, e4 * 1e6 / (double)quarter, e / t);
     double t1 = judge("ordinary rows", mega, ordinary(mega));
     printf("%-30s %10.2f %10.3f %22.2f\n", "ordinary rows, 1 MB", t1, t1 * 1e6 / (double)mega, t1 * 1e6 / (double)mega / usual);
     char *awk[] = {"mawk", "-F\t", "{n+=NF} END{print n}", path, NULL}, *wc[] = {"wc", "-l", path, NULL};

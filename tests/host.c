@@ -239,6 +239,23 @@ static struct want decimals(size_t n) {
     return want(5, 21, 3, 1);
 }
 
+static struct want exponent_list(size_t n) {
+    begin(n);
+    put("PEH\tsequence\taccession\tcharge\tmass_to_charge\tretention_time\nPEP\ta\tb\t1\t1.5\t");
+    over("1.5E-05|", n - 1);
+    fill('1', n);
+    return want(5, 21, 3, 1);
+}
+
+/* No decimal: it has an exponent after its first. */
+static struct want exponents_in_one(size_t n) {
+    begin(n);
+    put("PRH\taccession\tdescription\tdatabase\tsearch_engine\tbest_search_engine_score[1]\nPRT\ta\tb\tc\tnull\t1");
+    over("E5", n);
+    fill('5', n);
+    return want(6, 20, 2, 6);
+}
+
 static struct want empty_cells(size_t n) {
     begin(n);
     put(line_of("PRH", 255, last_opt_name));
@@ -297,6 +314,8 @@ static const struct hostile {
     {"255 like names of 60,000", alike_names},
     {"one cell of digits", digits},
     {"decimal list", decimals},
+    {"decimal list, with exponents", exponent_list},
+    {"one cell of exponents", exponents_in_one},
     {"rows of empty cells", empty_cells},
     {"rows of null", null_cells},
     {"rows of two cells", short_rows},
@@ -377,14 +396,15 @@ static struct either cell_or(const uint8_t *f, size_t n, uint32_t section, uint3
 
 /* A reading call, with its outcome. */
 struct read {
-    uint32_t kind, number, line, cell, places;
+    uint32_t kind, number, line, cell;
+    int32_t power;
     int64_t whole;
     double decimal;
 };
 
 static struct read reading(const uint8_t *f, size_t n, uint32_t section, uint32_t row, uint32_t column) {
     struct read r = {77, 77, 77, 77, 77, 77, 77.0};
-    r.kind = mztab_reading(f, n, section, row, column, &r.number, &r.line, &r.cell, &r.whole, &r.places, &r.decimal);
+    r.kind = mztab_reading(f, n, section, row, column, &r.number, &r.line, &r.cell, &r.whole, &r.power, &r.decimal);
     return r;
 }
 
@@ -392,7 +412,7 @@ static int same_double(double a, double b) { return memcmp(&a, &b, sizeof a) == 
 
 static int refused_view(struct view v, uint32_t number) { return v.number == number && v.start == 0 && v.length == 0; }
 
-static int bare(struct read r) { return r.whole == 0 && r.places == 0 && same_double(r.decimal, 0.0); }
+static int bare(struct read r) { return r.whole == 0 && r.power == 0 && same_double(r.decimal, 0.0); }
 
 static int refused_reading(struct read r, uint32_t number) {
     return r.number == number && r.kind == 0 && r.line == 0 && r.cell == 0 && bare(r);
@@ -429,7 +449,7 @@ static void limits(void) {
     check(refused_view(cell(file, LIMIT, 1, 2, 1), 3), "limit: no such row", 0);
     check(refused_view(cell(file, LIMIT + 1, 1, 1, 1), 1), "over the limit: cell", 0);
     struct read r = reading(file, LIMIT, 1, 1, 1);
-    check(r.number == 0 && r.kind == 2 && r.line == 2 && r.cell == 2 && r.whole == 125 && r.places == 1 && r.decimal == 12.5, "limit: reading", r.number);
+    check(r.number == 0 && r.kind == 2 && r.line == 2 && r.cell == 2 && r.whole == 125 && r.power == -1 && r.decimal == 12.5, "limit: reading", r.number);
     check(refused_reading(reading(file, LIMIT + 1, 1, 1, 1), 1), "over the limit: reading", 0);
     group("limits");
 }
@@ -571,7 +591,7 @@ static void views(void) {
             struct read r = reading(f, n, 1, row, column);
             check(r.number == 0 && r.kind == kinds[row][column - 1], "reading: case", row * 10 + column);
             check(r.line == row + 7 && r.cell == column + 1, "reading: where", row * 10 + column);
-            check(r.kind == 1 ? r.whole == 4 && r.places == 0 && same_double(r.decimal, 0.0) : bare(r), "reading: carries", row * 10 + column);
+            check(r.kind == 1 ? r.whole == 4 && r.power == 0 && same_double(r.decimal, 0.0) : bare(r), "reading: carries", row * 10 + column);
         }
     group("views");
 }
@@ -674,7 +694,7 @@ static void doubles(void) {
         check(r.number == 0 && r.kind == 2, "decimal: case", i);
         check(r.line == 4 + i / WIDTH && r.cell == i % WIDTH + 2, "decimal: where", i);
         check(r.whole == (n.minus ? -(int64_t)n.digits : (int64_t)n.digits), "decimal: numerals", i);
-        check(r.places == n.places, "decimal: places", i);
+        check(r.power == -(int32_t)n.places, "decimal: power", i);
         check(same_double(r.decimal, d), "decimal: double", i);
         check(same_double(r.decimal, strtod(spelled(n), NULL)), "decimal: nearest double", i);
     }
@@ -689,14 +709,14 @@ static void doubles(void) {
     for (uint32_t i = 0; i < COUNT(wholes); i++) {
         struct read r = reading(file, at, 1, 1, i + 1);
         check(r.number == 0 && r.kind == 1 && r.whole == wholes[i].value, "whole", i);
-        check(r.places == 0 && same_double(r.decimal, 0.0) && r.line == 1 && r.cell == i + 2, "whole: the rest", i);
+        check(r.power == 0 && same_double(r.decimal, 0.0) && r.line == 1 && r.cell == i + 2, "whole: the rest", i);
     }
     group("wholes");
 
     static const struct { const char *text; uint32_t kind; } others[] = {
         {"null", 0}, {"INF", 3}, {"NaN", 4}, {"1234567890123456", 5}, {"-1234567890123456", 5}, {"0000000000000000", 5}, {"1.234567890123456", 5},
         {"-0.000000000000000", 5}, {"123456789012345678901234567890.5", 5}, {"", 6}, {"-", 6}, {".", 6}, {".5", 6}, {"5.", 6}, {"-.5", 6}, {"-5.", 6},
-        {"1,000", 6}, {"--1", 6}, {"1-", 6}, {"+1", 6}, {"1.2.3", 6}, {"1..2", 6}, {"1e5", 6}, {"0x10", 6}, {" 1", 6}, {"1 ", 6}, {"-INF", 6}, {"-NaN", 6},
+        {"1,000", 6}, {"--1", 6}, {"1-", 6}, {"+1", 6}, {"1.2.3", 6}, {"1..2", 6}, {"1e", 6}, {"0x10", 6}, {" 1", 6}, {"1 ", 6}, {"-INF", 6}, {"-NaN", 6},
         {"inf", 6}, {"nan", 6}, {"NAN", 6}, {"NULL", 6}, {"null ", 6}, {"nul", 6}, {"nulll", 6}, {"NA", 6}, {"1/2", 6}, {"1:2", 6}, {"\xC3\xA9", 6}, {"1|2", 6}};
     begin(LIMIT);
     put("SML");
@@ -707,6 +727,89 @@ static void doubles(void) {
         check(bare(r), "case: carries nothing", i);
     }
     group("other cases");
+}
+
+/* One cell, read. */
+static struct read read_text(const char *text) {
+    begin(LIMIT);
+    put("SML\t");
+    put(text);
+    return reading(file, at, 4, 1, 1);
+}
+
+/* A drawn numeral of so many digits, some of them places, and some after zeros. */
+static struct numeral numeral(uint32_t length) {
+    struct numeral n = {(int)draw(2), 0, length, (uint32_t)draw(length)};
+    for (uint32_t k = draw(3) ? 0 : (uint32_t)draw(length); k < length; k++) n.digits = n.digits * 10 + draw(10);
+    return n;
+}
+
+/* The numeral with the exponent that gives it the power: either letter, a plus or none, and up to two zeros in front of one digit. */
+static const char *with_power(struct numeral n, int32_t power) {
+    static char s[64];
+    int32_t exponent = power + (int32_t)n.places;
+    const char *sign = exponent < 0 ? "-" : draw(2) ? "+" : exponent == 0 && draw(2) ? "-" : "";
+    sprintf(s, "%s%c%s%0*d", spelled(n), draw(2) ? 'E' : 'e', sign, 1 + (int)draw(3), abs(exponent));
+    return s;
+}
+
+/* A decimal with an exponent is a short one with a power from -22 to 22. */
+enum { POWER = 22, EACH_POWER = 120, LONG = 2000 };
+
+/* Drawn numerals with each power: one division or one multiplication by an exact power of ten, which gives the nearest double. */
+static void powers(void) {
+    for (int32_t power = -POWER; power <= POWER; power++) {
+        double ten = 1;
+        for (int32_t k = 0; k < abs(power); k++) ten *= 10; /* exact: five to the 22 has 52 bits */
+        for (uint32_t i = 0; i < EACH_POWER; i++) {
+            struct numeral n = numeral(1 + (uint32_t)draw(15));
+            const char *text = with_power(n, power);
+            struct read r = read_text(text);
+            double d = power < 0 ? (double)n.digits / ten : (double)n.digits * ten;
+            if (n.minus) d = -d;
+            check(r.number == 0 && r.kind == 2 && r.line == 1 && r.cell == 2, text, r.kind);
+            check(r.whole == (n.minus ? -(int64_t)n.digits : (int64_t)n.digits), text, i);
+            check(r.power == power, text, i);
+            check(same_double(r.decimal, d), text, i);
+            check(same_double(r.decimal, strtod(text, NULL)), text, i);
+        }
+    }
+    group("powers of ten");
+    /* powers of 23 and more, and of 16 digits and more any power */
+    for (uint32_t i = 0; i < LONG; i++) {
+        int32_t beyond = POWER + 1 + (i % 4 < 2 ? 0 : (int32_t)draw(960));
+        const char *text = with_power(numeral(1 + (uint32_t)draw(15)), i % 2 ? beyond : -beyond);
+        struct read r = read_text(text);
+        check(r.number == 0 && r.kind == 5 && bare(r), text, r.kind);
+        text = with_power(numeral(16 + (uint32_t)draw(3)), (int32_t)draw(2 * POWER + 1) - POWER);
+        r = read_text(text);
+        check(r.number == 0 && r.kind == 5 && bare(r), text, r.kind);
+    }
+    group("long decimals");
+}
+
+static void exponents(void) {
+    static const struct { const char *text; int64_t numerals; int32_t power; } shorts[] = {
+        {"12.50", 1250, -2}, {"1.2E-5", 12, -6}, {"3e2", 3, 2}, {"3.2e-05", 32, -6}, {"6.229394e06", 6229394, 0}, {"1.2E+06", 12, 5}, {"-1E000", -1, 0},
+        {"1E-0", 1, 0}, {"1e+0", 1, 0}, {"0E22", 0, 22}, {"-0e-22", 0, -22}, {"-0E0", 0, 0}, {"007.50E-002", 750, -4}, {"123456789e0", 123456789, 0},
+        {"999999999999999E22", 999999999999999, 22}, {"-9.99999999999999e36", -999999999999999, 22}, {"0.00000000000001E-8", 1, -22}, {"1.0E-21", 10, -22}};
+    for (size_t i = 0; i < COUNT(shorts); i++) {
+        struct read r = read_text(shorts[i].text);
+        check(r.number == 0 && r.kind == 2 && r.whole == shorts[i].numerals && r.power == shorts[i].power, shorts[i].text, r.kind);
+        check(same_double(r.decimal, strtod(shorts[i].text, NULL)), shorts[i].text, 0);
+    }
+    static const struct { const char *text; uint32_t kind; } others[] = {
+        {"1E23", 5}, {"1e-23", 5}, {"0E23", 5}, {"-0E-23", 5}, {"1.0E-22", 5}, {"10.5e24", 5}, {"1E999", 5}, {"1E-999", 5}, {"1234567890123456E0", 5},
+        {"0.123456789012345e1", 5}, {"0000000000000001E5", 5}, {"1.234567890123456E-999", 5}, {".5E1", 6}, {"5.E1", 6}, {"E5", 6}, {"-E5", 6}, {"1E", 6},
+        {"1e", 6}, {"1E+", 6}, {"1e-", 6}, {"1E1000", 6}, {"1E0001", 6}, {"1E-0001", 6}, {"1.2E-5.0", 6}, {"1E5E5", 6}, {"1EE5", 6}, {"1eE5", 6}, {"1E+-5", 6},
+        {"1E--5", 6}, {"1E++5", 6}, {"1E 5", 6}, {"1 E5", 6}, {" 1E5", 6}, {"1E5 ", 6}, {"1E5-", 6}, {"1E5.", 6}, {"1E.5", 6}, {"1.2.3E5", 6}, {"1F5", 6},
+        {"1D5", 6}, {"1d5", 6}, {"1x5", 6}, {"+1E5", 6}, {"--1E5", 6}, {"1,0E5", 6}, {"1E5,0", 6}, {"INFE1", 6}, {"INFe", 6}, {"NaNE1", 6}, {"NaNe-1", 6},
+        {"-INFE1", 6}, {"nullE1", 6}, {"1E5|1E5", 6}, {"1\xC3\x89", 6}, {"E", 6}, {"e", 6}, {"-", 6}, {"E-5", 6}};
+    for (size_t i = 0; i < COUNT(others); i++) {
+        struct read r = read_text(others[i].text);
+        check(r.number == 0 && r.kind == others[i].kind && bare(r), others[i].text, r.kind);
+    }
+    group("exponents");
 }
 
 /* ---- fees, weights and rows */
@@ -1082,6 +1185,10 @@ static void hostile(void) {
     digits(LIMIT);
     struct read r = reading(file, LIMIT, 1, 1, 5);
     check(r.number == 0 && r.kind == 5 && r.line == 2 && r.cell == 6 && bare(r), "reading of digits", r.kind);
+    memcpy(file + LIMIT - 4, "E-05", 4);
+    check(reading(file, LIMIT, 1, 1, 5).kind == 5, "reading of digits and an exponent", 0);
+    memcpy(file + LIMIT - 5, "E0005", 5);
+    check(reading(file, LIMIT, 1, 1, 5).kind == 6, "reading of digits and what is no exponent", 0);
 }
 
 /* On a stack of 2 MB, with pages around it that may not be touched; says how much of it was used. */
@@ -1111,6 +1218,8 @@ int main(int words, char **word) {
     views();
     refusals();
     doubles();
+    powers();
+    exponents();
     page_of_weights = page(PAGE);
     page_of_shares = page(PAGE);
     sums();

@@ -57,6 +57,33 @@ static void marks(size_t n) {
     expect("marks in the third field", PARAMETERS, n, (n - 5) % 2 == 0);
 }
 
+/* Exponents at the very end of a value, between bars, and where none may stand. */
+static void exponents(void) {
+    memset(buffer, '1', MOST);
+    memcpy(buffer + MOST - 4, "E-05", 4);
+    expect("digits and an exponent", DECIMAL, MOST, 1);
+    expect("digits and an exponent", DECIMALS, MOST, 1);
+    expect("digits and a part of an exponent", DECIMAL, MOST - 2, 0);
+    memcpy(buffer, "1e+9", 4);
+    expect("two exponents", DECIMAL, MOST, 0);
+    expect("an exponent of one digit", DECIMAL, 4, 1);
+    expect("an exponent of three digits", DECIMAL, 6, 1);
+    expect("an exponent of four digits", DECIMAL, 7, 0);
+    expect("an exponent", WHOLE, 4, 0);
+    buffer[4] = '|';
+    expect("two decimals with exponents", WINDOW, MOST, 1);
+    over("1E5|", MOST);
+    expect("exponents, and a bar", DECIMALS, MOST, 0);
+    expect("exponents", DECIMALS, MOST - 1, 1);
+    expect("exponents", WINDOW, 7, 1);
+    expect("exponents", WINDOW, 11, 0);
+    over("E5", MOST);
+    expect("exponents alone", DECIMAL, MOST, 0);
+    expect("exponents alone", DECIMALS, MOST, 0);
+    buffer[0] = '1';
+    expect("exponents after one digit", DECIMAL, MOST, 0);
+}
+
 static void answers(void) {
     marks(MOST);
     marks(MOST - 1);
@@ -80,6 +107,7 @@ static void answers(void) {
     expect("digits", WHOLE, 10, 0);
     buffer[MOST / 2] = '|';
     expect("two decimals", WINDOW, MOST, 1);
+    exponents();
     expect("nothing", TEXT, 0, 0);
     expect("one byte", TEXT, 1, 1);
 }
@@ -131,6 +159,8 @@ static void parameters(size_t n) { over("[MS, MS:1001207, Mascot, \"a,b\"]|", n 
 static void short_parts(size_t n) { over("[,,a,]|", n); }
 static void quoted_bars(size_t n) { over("\"|", n); }
 static void decimals(size_t n) { over("1123.25|", n); }
+static void with_exponents(size_t n) { over("1.25E-05|", n); }
+static void one_exponent_after_another(size_t n) { over("1E5", n); }
 static void window(size_t n) { memset(buffer, '7', n); buffer[n / 2] = '|'; }
 
 static void run(void) {
@@ -146,6 +176,8 @@ static void run(void) {
     measure("parameters", parameters);
     measure("short parameters", short_parts);
     measure("decimals", decimals);
+    measure("decimals with exponents", with_exponents);
+    measure("exponent after exponent", one_exponent_after_another);
     measure("two decimals", window);
     measure("all marks", all_marks);
     measure("all bars", all_bars);

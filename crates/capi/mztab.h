@@ -45,11 +45,14 @@ size_t mztab_cell_or(const uint8_t *file, size_t file_length, uint32_t section, 
                      size_t stand_in_length, uint32_t *number, size_t *length, uint32_t *stood_in);
 
 /* Reads a cell, found as by mztab_cell. The answer is the case: 0 missing (`null`), 1 whole, 2 decimal, 3 infinite (`INF`), 4 not a number (`NaN`),
- * 5 long decimal (more than 15 digits), 6 text (all else, an empty cell too). *line and *cell say where it stands. A whole has its value in *whole. A
- * decimal has its signed numerals in *whole, its places after the dot in *places, and in *decimal the numerals divided once by ten to the places as IEEE
- * 754 binary64, negated last for a minus. What a case does not carry is written 0; a refused reading has line 0, cell 0 and missing. */
+ * 5 long decimal, 6 text (all else, an empty cell too). *line and *cell say where it stands. A whole has its value in *whole. A decimal has its signed
+ * numerals in *whole, and in *power the exponent less the places after the dot: its value is the numerals times ten to the power. `12.50` has 1250 and
+ * -2, `1.2E-5` 12 and -6, `3e2` 3 and 2. In *decimal it has the nearest double: for a power below 0 one division of the numerals by ten to -power, else
+ * one multiplication by ten to the power, of exact numbers as IEEE 754 binary64, negated last for a minus. A decimal is a long one where more than 15
+ * digits stand before its exponent, leading zeros among them, or its power is not -22 to 22. What a case does not carry is written 0; a refused reading
+ * has line 0, cell 0 and missing. */
 uint32_t mztab_reading(const uint8_t *file, size_t file_length, uint32_t section, uint32_t row, uint32_t column, uint32_t *number, uint32_t *line,
-                       uint32_t *cell, int64_t *whole, uint32_t *places, double *decimal);
+                       uint32_t *cell, int64_t *whole, int32_t *power, double *decimal);
 
 /* Judges a file by the 21 rules. The answer is the count of all breaks, 0 for an accepted file. The first of them that fit are written to places, three
  * numbers each: rule, line, cell; in order of line, then cell, then rule. places is a pointer to places_length numbers, not null also where that is 0.

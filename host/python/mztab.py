@@ -102,7 +102,9 @@ class Reading(NamedTuple):
     """What a cell reads as, and where it stands.
 
     `case` is one of "missing", "whole", "decimal", "infinite", "not a number", "long decimal", "text". `value` is an int for a whole, a float for a
-    decimal, an infinite and a not a number, else None. Of a decimal `numerals` and `places` are exact: its value is numerals / 10 ** places.
+    decimal, an infinite and a not a number, else None. Of a decimal `numerals` and `power` are exact: its value is numerals times 10 to the power, as a
+    fraction fractions.Fraction(numerals) * fractions.Fraction(10) ** power, and `value` is the nearest float. The power is the exponent less the places
+    after the dot: `12.50` has 1250 and -2, `1.2E-5` has 12 and -6. A decimal is long with over 15 digits before its exponent, or a power not -22 to 22.
     """
 
     line: int
@@ -110,7 +112,7 @@ class Reading(NamedTuple):
     case: str
     value: Union[int, float, None]
     numerals: Optional[int] = None
-    places: Optional[int] = None
+    power: Optional[int] = None
 
 
 _CASES = ("missing", "whole", "decimal", "infinite", "not a number", "long decimal", "text")
@@ -141,7 +143,7 @@ def _typed(library):
     library.mztab_cell_or.argtypes = file + asked + file + [u32_place, ctypes.POINTER(size), u32_place]
     library.mztab_cell_or.restype = size
     library.mztab_reading.argtypes = (
-        file + asked + [u32_place] * 3 + [ctypes.POINTER(ctypes.c_int64), u32_place, ctypes.POINTER(ctypes.c_double)]
+        file + asked + [u32_place] * 3 + [ctypes.POINTER(kind) for kind in (ctypes.c_int64, ctypes.c_int32, ctypes.c_double)]
     )
     library.mztab_reading.restype = u32
     library.mztab_judge.argtypes = file + [u32_place, size, u32_place]
@@ -233,15 +235,15 @@ def cell(data: bytes, section: int, row: int, column: int, stand_in: Optional[by
 def reading(data: bytes, section: int, row: int, column: int) -> Reading:
     """What a cell, found as by `cell`, reads as. Raises as `cell` does."""
     data = _bytes(data)
-    number, line, at, places = (ctypes.c_uint32() for _ in range(4))
-    whole, decimal = ctypes.c_int64(), ctypes.c_double()
-    case = _library.mztab_reading(data, len(data), *_asked(section, row, column), number, line, at, whole, places, decimal)
+    number, line, at = (ctypes.c_uint32() for _ in range(3))
+    whole, power, decimal = ctypes.c_int64(), ctypes.c_int32(), ctypes.c_double()
+    case = _library.mztab_reading(data, len(data), *_asked(section, row, column), number, line, at, whole, power, decimal)
     _refuse(number.value)
     word = _CASES[case]
     if word == "whole":
         return Reading(line.value, at.value, word, whole.value)
     if word == "decimal":
-        return Reading(line.value, at.value, word, decimal.value, whole.value, places.value)
+        return Reading(line.value, at.value, word, decimal.value, whole.value, power.value)
     value = {"infinite": float("inf"), "not a number": float("nan")}.get(word)
     return Reading(line.value, at.value, word, value)
 

@@ -15,6 +15,7 @@ ROOT = pathlib.Path(__file__).resolve().parents[2]
 EXAMPLES = ROOT / "examples"
 YEAST = (EXAMPLES / "yeast.mztab").read_bytes()
 ACCEPTED = (EXAMPLES / "accepted.mztab").read_bytes()
+EXPONENTS = (EXAMPLES / "exponents.mztab").read_bytes()
 FEE = (EXAMPLES / "fee.mztab").read_bytes()
 LONG = b"\n" * (mztab.LIMIT + 1)
 
@@ -29,6 +30,7 @@ class Judging(unittest.TestCase):
         self.assertEqual(mztab.judge(YEAST)[0].rule, 15)
         self.assertEqual(mztab.judge(ACCEPTED), [])
         self.assertEqual(mztab.count(ACCEPTED), 0)
+        self.assertEqual(mztab.judge(EXPONENTS), [])
 
     def test_an_empty_file(self):
         self.assertEqual(mztab.judge(b""), [(1, cell, 21) for cell in range(1, 6)])
@@ -100,7 +102,7 @@ class Readings(unittest.TestCase):
     def test_each_case(self):
         self.assertEqual(read(b"null")[2:4], ("missing", None))
         self.assertEqual(read(b"-007")[2:4], ("whole", -7))
-        self.assertEqual(read(b"-1123.200")[2:], ("decimal", -1123.2, -1123200, 3))
+        self.assertEqual(read(b"-1123.200")[2:], ("decimal", -1123.2, -1123200, -3))
         self.assertEqual(read(b"INF")[2:4], ("infinite", math.inf))
         self.assertTrue(math.isnan(read(b"NaN").value))
         self.assertEqual(read(b"1234567890123456")[2:4], ("long decimal", None))
@@ -109,7 +111,50 @@ class Readings(unittest.TestCase):
 
     def test_doubles_bit_for_bit(self):
         for text in ["0.1", "-0.0", "1234567890", "999999999999999", "0.00000000000001", "12345678901234.5", "99999.9999999999"]:
-            self.assertEqual(struct.pack("d", read(text.encode()).value), struct.pack("d", float(text)), text)
+            self.nearest(text)
+
+    def nearest(self, text):
+        """The text reads as a decimal: by its numerals and power exactly the number it writes, and the float that Python finds, bit for bit."""
+        found = read(text.encode())
+        self.assertEqual(found.case, "decimal", text)
+        self.assertEqual(struct.pack("d", found.value), struct.pack("d", float(text)), text)
+        exact = fractions.Fraction(found.numerals) * fractions.Fraction(10) ** found.power
+        self.assertEqual(exact, fractions.Fraction(text), text)
+        return found
+
+    def test_exponents(self):
+        for text, numerals, power in [
+            ("12.50", 1250, -2),
+            ("1.2E-5", 12, -6),
+            ("3e2", 3, 2),
+            ("3.2e-05", 32, -6),
+            ("6.229394e06", 6229394, 0),
+            ("-1.2E+06", -12, 5),
+            ("-0E0", 0, 0),
+            ("999999999999999E22", 999999999999999, 22),
+            ("0.00000000000001e-008", 1, -22),
+        ]:
+            self.assertEqual(self.nearest(text)[4:], (numerals, power), text)
+
+    def test_drawn_exponents_bit_for_bit(self):
+        draw = random.Random(2026_04)
+        for _ in range(4_000):
+            digits = "".join(draw.choices("0123456789", k=draw.randint(1, 15)))
+            places = draw.randrange(len(digits))
+            power = draw.choice((-22, 22, draw.randint(-22, 22)))
+            mantissa = digits[: len(digits) - places] + ("." + digits[len(digits) - places :] if places else "")
+            exponent = power + places
+            sign = "-" if exponent < 0 else draw.choice(("", "+"))
+            width = draw.randint(1, 3)
+            text = f"{draw.choice(('', '-'))}{mantissa}{draw.choice('Ee')}{sign}{abs(exponent):0{width}}"
+            found = self.nearest(text)
+            self.assertEqual((abs(found.numerals), found.power), (int(digits), power), text)
+
+    def test_long_ones_and_no_decimals(self):
+        for text in (b"1E23", b"1e-23", b"0E23", b"1.0E-22", b"1E999", b"1E-999", b"1234567890123456E0", b"0.123456789012345e1"):
+            self.assertEqual(read(text)[2:], ("long decimal", None, None, None), text)
+        for text in (b".5E1", b"5.E1", b"E5", b"1E", b"1E+", b"1E1000", b"1.2E-5.0", b"1E5E5", b"1E+-5", b"1E 5", b"+1E5", b"INFE1", b"NaNe1"):
+            self.assertEqual(read(text)[2:], ("text", None, None, None), text)
 
 
 class Rows(unittest.TestCase):

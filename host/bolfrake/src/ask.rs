@@ -73,9 +73,9 @@ fn said(value: &Value) -> String {
         Value::Whole(value) => format!("whole {value}"),
         Value::Decimal {
             numerals,
-            places,
+            power,
             double,
-        } => format!("decimal {double:?}, numerals {numerals}, places {places}"),
+        } => format!("decimal {double:?}, numerals {numerals}, power {power}"),
         Value::Infinite => "infinite".to_string(),
         Value::NotANumber => "not a number".to_string(),
         Value::LongDecimal => "long decimal".to_string(),
@@ -231,18 +231,25 @@ mod tests {
 
     #[test]
     fn readings_in_words() {
-        let decimal = Value::Decimal {
-            numerals: -12_340,
-            places: 3,
-            double: -12.34,
-        };
-        assert_eq!(said(&decimal), "decimal -12.34, numerals -12340, places 3");
-        let minus_nothing = Value::Decimal {
-            numerals: 0,
-            places: 1,
-            double: -0.0,
-        };
-        assert_eq!(said(&minus_nothing), "decimal -0.0, numerals 0, places 1");
+        for (numerals, power, double, expected) in [
+            (
+                -12_340,
+                -3,
+                -12.34,
+                "decimal -12.34, numerals -12340, power -3",
+            ),
+            (0, -1, -0.0, "decimal -0.0, numerals 0, power -1"),
+            (12, -6, 1.2e-5, "decimal 1.2e-5, numerals 12, power -6"),
+            (3, 2, 300.0, "decimal 300.0, numerals 3, power 2"),
+            (-7, 22, -7e22, "decimal -7e22, numerals -7, power 22"),
+        ] {
+            let decimal = Value::Decimal {
+                numerals,
+                power,
+                double,
+            };
+            assert_eq!(said(&decimal), expected);
+        }
         assert_eq!(said(&Value::Whole(-7)), "whole -7");
     }
 }

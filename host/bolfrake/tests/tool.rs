@@ -357,7 +357,7 @@ fn files_as_programs_export_them() {
     assert_eq!(run.status, 1);
     assert!(
         run.out
-            .ends_with("4 files: 2 accepted, 2 with breaks, 0 not judged; 75 breaks in all\n"),
+            .ends_with("4 files: 2 accepted, 2 with breaks, 0 not judged; 61 breaks in all\n"),
         "{}",
         run.out
     );
@@ -556,16 +556,20 @@ fn readings() {
     let folder = Folder::new("read");
     folder.write(
         "r.mztab",
-        "PRT\t-12.340\t007\tnull\tINF\tNaN\t1234567890123456\tx",
+        "PRT\t-12.340\t007\tnull\tINF\tNaN\t1234567890123456\tx\t1.2E-5\t3e2\t1E23\t5.E1",
     );
     for (column, expected) in [
-        ("1", "decimal -12.34, numerals -12340, places 3"),
+        ("1", "decimal -12.34, numerals -12340, power -3"),
         ("2", "whole 7"),
         ("3", "missing"),
         ("4", "infinite"),
         ("5", "not a number"),
         ("6", "long decimal"),
         ("7", "text"),
+        ("8", "decimal 1.2e-5, numerals 12, power -6"),
+        ("9", "decimal 300.0, numerals 3, power 2"),
+        ("10", "long decimal"),
+        ("11", "text"),
     ] {
         let run = folder.run(&["read", "r.mztab", "protein", "1", column]);
         let cell = column.parse::<u32>().unwrap() + 1;

@@ -208,17 +208,19 @@ pub enum Value {
     /// `null`
     Missing,
     Whole(i64),
-    /// Signed numerals, the places after the dot, and the numerals divided once by ten to the places.
+    /// The value is the signed numerals times ten to the power, which is the exponent less the places after the dot: `12.50` has 1250 and
+    /// -2, `1.2E-5` has 12 and -6. The double is the nearest one: one division or one multiplication of the numerals by an exact power of ten,
+    /// negated last for a minus.
     Decimal {
         numerals: i64,
-        places: u32,
+        power: i32,
         double: f64,
     },
     /// `INF`
     Infinite,
     /// `NaN`
     NotANumber,
-    /// More than 15 digits.
+    /// A decimal with more than 15 digits before its exponent, leading zeros among them, or with a power that is not -22 to 22.
     LongDecimal,
     /// All else, an empty cell too.
     Text,
@@ -249,7 +251,7 @@ fn value(answer: &raw::Reading) -> Value {
         1 => Value::Whole(answer.whole),
         2 => Value::Decimal {
             numerals: answer.whole,
-            places: answer.places,
+            power: answer.power,
             double: answer.decimal,
         },
         3 => Value::Infinite,

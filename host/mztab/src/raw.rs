@@ -36,7 +36,7 @@ mod c {
             line: *mut u32,
             cell: *mut u32,
             whole: *mut i64,
-            places: *mut u32,
+            power: *mut i32,
             decimal: *mut f64,
         ) -> u32;
 
@@ -118,7 +118,7 @@ pub struct Reading {
     pub line: u32,
     pub cell: u32,
     pub whole: i64,
-    pub places: u32,
+    pub power: i32,
     pub decimal: f64,
 }
 
@@ -199,7 +199,7 @@ pub fn reading(file: &[u8], section: u32, row: u32, column: u32) -> Reading {
         line: UNSET,
         cell: UNSET,
         whole: i64::MIN,
-        places: UNSET,
+        power: i32::MIN,
         decimal: f64::NAN,
     };
     // As above; the six places are fields of one record, and no two of them overlap.
@@ -214,7 +214,7 @@ pub fn reading(file: &[u8], section: u32, row: u32, column: u32) -> Reading {
             &mut answer.line,
             &mut answer.cell,
             &mut answer.whole,
-            &mut answer.places,
+            &mut answer.power,
             &mut answer.decimal,
         )
     };

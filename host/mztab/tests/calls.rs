@@ -7,6 +7,7 @@ use mztab::{
 
 const YEAST: &[u8] = include_bytes!("../../../examples/yeast.mztab");
 const ACCEPTED: &[u8] = include_bytes!("../../../examples/accepted.mztab");
+const EXPONENTS: &[u8] = include_bytes!("../../../examples/exponents.mztab");
 const FEE: &[u8] = include_bytes!("../../../examples/fee.mztab");
 
 fn broken(line: u32, cell: u32, rule: u32) -> Break {
@@ -22,7 +23,9 @@ fn the_example_of_the_paper() {
         breaks,
         [broken(7, 6, 15), broken(8, 6, 19), broken(9, 2, 20)]
     );
-    assert_eq!(judge_all(ACCEPTED).unwrap().count, 0);
+    for accepted in [ACCEPTED, EXPONENTS, FEE] {
+        assert_eq!(judge_all(accepted).unwrap().count, 0);
+    }
 }
 
 #[test]
@@ -133,17 +136,100 @@ fn readings() {
     assert_eq!(read(""), Value::Text);
     let decimal = Value::Decimal {
         numerals: -1_123_200,
-        places: 3,
+        power: -3,
         double: -1123.2,
     };
     assert_eq!(read("-1123.200"), decimal);
 }
 
+/// The text reads as a decimal of these numerals and this power, and as the double that Rust's own reading finds, bit for bit.
+fn reads_as(text: &str, numerals: i64, power: i32) {
+    match read(text) {
+        Value::Decimal {
+            numerals: n,
+            power: p,
+            double,
+        } => {
+            let nearest: f64 = text.parse().unwrap();
+            let found = (n, p, double.to_bits());
+            assert_eq!(found, (numerals, power, nearest.to_bits()), "{text}");
+        }
+        other => panic!("{text}: {other:?}"),
+    }
+}
+
+#[test]
+fn exponents() {
+    for (text, numerals, power) in [
+        ("12.50", 1_250, -2),
+        ("1.2E-5", 12, -6),
+        ("3e2", 3, 2),
+        ("3.2e-05", 32, -6),
+        ("6.229394e06", 6_229_394, 0),
+        ("1.2E+06", 12, 5),
+        ("-1.5e+2", -15, 1),
+        ("007.50E-002", 750, -4),
+        ("1E0", 1, 0),
+        ("1E-0", 1, 0),
+        ("1e000", 1, 0),
+        ("123456789e0", 123_456_789, 0),
+        ("999999999999999E22", 999_999_999_999_999, 22),
+        ("-999999999999999e-22", -999_999_999_999_999, -22),
+        ("9.99999999999999E+36", 999_999_999_999_999, 22),
+        ("0.00000000000001E-8", 1, -22),
+    ] {
+        reads_as(text, numerals, power);
+    }
+}
+
+#[test]
+fn powers_on_either_side_of_the_last() {
+    for power in -22..=22 {
+        reads_as(&format!("7E{power}"), 7, power);
+        reads_as(
+            &format!("-12345678.9012345e{}", power + 7),
+            -123_456_789_012_345,
+            power,
+        );
+        reads_as(&format!("0.1E{:+04}", power + 1), 1, power);
+    }
+    for text in [
+        "1E23",
+        "1e-23",
+        "0E23",
+        "1.0E-22",
+        "10.5e24",
+        "1E999",
+        "1E-999",
+        "1234567890123456E0",
+        "0.123456789012345e1",
+        "0000000000000001E5",
+        "1.234567890123456E-999",
+    ] {
+        assert_eq!(read(text), Value::LongDecimal, "{text}");
+    }
+}
+
+#[test]
+fn what_is_no_exponent() {
+    for text in [
+        ".5E1", "5.E1", "E5", "-E5", "1E", "1e", "1E+", "1E-", "1E1000", "1E0005", "1.2E-5.0",
+        "1E5E5", "1E+-5", "1E--5", "1E 5", "1 E5", "1E5 ", "1.E", "1.5.2E1", "1F5", "1D5", "1x5",
+        "+1E5", "--1E5", "1E5-", "1E,5", "INFE1", "NaNe1", "INF1", "null1", "nullE1",
+    ] {
+        assert_eq!(read(text), Value::Text, "{text}");
+    }
+}
+
 #[test]
 fn minus_nothing_keeps_its_sign() {
-    match read("-0.0") {
-        Value::Decimal { double, .. } => assert_eq!(double.to_bits(), (-0.0f64).to_bits()),
-        other => panic!("{other:?}"),
+    for text in ["-0.0", "-0E0", "-0.00e-20", "-0E22"] {
+        match read(text) {
+            Value::Decimal { double, .. } => {
+                assert_eq!(double.to_bits(), (-0.0f64).to_bits(), "{text}")
+            }
+            other => panic!("{text}: {other:?}"),
+        }
     }
 }
 

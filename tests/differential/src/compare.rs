@@ -24,6 +24,9 @@ pub struct Tried {
     pub breaks: u64,
     pub lists: u64,
     pub cells: u64,
+    /// How many cells by the case that they read as, and how many decimals by their power.
+    pub cases: BTreeMap<u32, u64>,
+    pub powers: BTreeMap<i32, u64>,
     /// How many breaks of each rule.
     pub rules: [u64; 22],
     /// Accepted files that have a weight.
@@ -31,6 +34,16 @@ pub struct Tried {
     /// How many splits by the number that was answered.
     pub splits: BTreeMap<u32, u64>,
     pub sums: u64,
+}
+
+impl Tried {
+    fn note(&mut self, reading: &Reading) {
+        let (case, _, power, _) = carried(reading);
+        *self.cases.entry(case).or_default() += 1;
+        if let Reading::Decimal { .. } = reading {
+            *self.powers.entry(power).or_default() += 1;
+        }
+    }
 }
 
 /// Nothing where both say the same, else both answers in words.
@@ -168,7 +181,7 @@ fn cells(file: &[u8], draws: &mut Draws, tried: &mut Tried) -> Result<(), String
     }
     for question in asked {
         tried.cells += 1;
-        cell(file, question)?;
+        cell(file, question, tried)?;
     }
     Ok(())
 }
@@ -208,11 +221,14 @@ fn questions(file: &[u8]) -> Vec<Question> {
 /// What the independent reading finds: line, cell and reading, or a refusal.
 type Expected = Result<(u32, u32, Reading), u32>;
 
-fn cell(file: &[u8], question: Question) -> Result<(), String> {
+fn cell(file: &[u8], question: Question, tried: &mut Tried) -> Result<(), String> {
     let (section, row, column) = question;
     // The independent reading is asked once, and each call of the library held to it.
     let shown = independent::cell(file, section, row, column);
     let expected = independent::reading(file, section, row, column);
+    if let Ok((_, _, reading)) = &expected {
+        tried.note(reading);
+    }
     plain(file, question, shown.err().unwrap_or(0))
         .and_then(|()| views(file, question, shown))
         .and_then(|()| reading(file, question, expected))
@@ -271,32 +287,32 @@ fn reading(
         found.cell,
         found.case,
         found.whole,
-        found.places,
+        found.power,
         found.decimal.to_bits(),
     );
     let expected = match expected {
         Err(number) => (number, 0, 0, 0, 0, 0, 0),
         Ok((line, cell, reading)) => {
-            let (case, whole, places, bits) = carried(&reading);
-            (0, line, cell, case, whole, places, bits)
+            let (case, whole, power, bits) = carried(&reading);
+            (0, line, cell, case, whole, power, bits)
         }
     };
     if found != expected {
-        return Err(format!("the library reads {found:?}; the independent reading {expected:?} (number, line, cell, case, whole, places, bits)"));
+        return Err(format!("the library reads {found:?}; the independent reading {expected:?} (number, line, cell, case, whole, power, bits)"));
     }
     Ok(())
 }
 
 /// The case of a reading, and what it carries.
-fn carried(reading: &Reading) -> (u32, i64, u32, u64) {
+fn carried(reading: &Reading) -> (u32, i64, i32, u64) {
     match reading {
         Reading::Missing => (0, 0, 0, 0),
         Reading::Whole(value) => (1, *value, 0, 0),
         Reading::Decimal {
             numerals,
-            places,
+            power,
             double,
-        } => (2, *numerals, *places, double.to_bits()),
+        } => (2, *numerals, *power, double.to_bits()),
         Reading::Infinite => (3, 0, 0, 0),
         Reading::NotANumber => (4, 0, 0, 0),
         Reading::LongDecimal => (5, 0, 0, 0),
@@ -328,9 +344,9 @@ fn same_value(found: &Value, expected: &Reading) -> bool {
         Value::Whole(value) => (1, *value, 0, 0),
         Value::Decimal {
             numerals,
-            places,
+            power,
             double,
-        } => (2, *numerals, *places, double.to_bits()),
+        } => (2, *numerals, *power, double.to_bits()),
         Value::Infinite => (3, 0, 0, 0),
         Value::NotANumber => (4, 0, 0, 0),
         Value::LongDecimal => (5, 0, 0, 0),

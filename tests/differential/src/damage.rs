@@ -3,7 +3,7 @@
 use samples::Draws;
 
 /// The bytes that matter to the format, and some that do not.
-const BYTES: &[u8] = b"\t\t\n\n\r\x00\x01\x0b\x1f \x7f\x80\xff\"\"[],|.-0123456789nNMPSHTR_";
+const BYTES: &[u8] = b"\t\t\n\n\r\x00\x01\x0b\x1f \x7f\x80\xff\"\"[],|.-+0123456789EenNMPSHTR_";
 
 pub fn damage(file: &mut Vec<u8>, draws: &mut Draws) {
     for _ in 0..draws.below(3) + 1 {

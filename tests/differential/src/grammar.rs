@@ -330,10 +330,7 @@ impl<'d> Source<'d> {
     /// A value of the kind; where it slips, none at all, one of another, or one that is near to some kind.
     fn value(&mut self, kind: Kind) -> Vec<u8> {
         if self.slips() {
-            if self.draws.once_in(4) {
-                return Vec::new();
-            }
-            return self.near[self.draws.below(self.near.len())].clone();
+            return self.wrong_value(kind);
         }
         match kind {
             Kind::Version => self.draws.one_of(&["1.0", "1.0.0"]).into(),
@@ -361,13 +358,35 @@ impl<'d> Source<'d> {
         }
     }
 
+    /// Most often no value of the kind; of decimals half are near ones.
+    fn wrong_value(&mut self, kind: Kind) -> Vec<u8> {
+        if self.draws.once_in(4) {
+            return Vec::new();
+        }
+        if self.draws.once_in(2) {
+            match kind {
+                Kind::Decimal => return self.near_decimal().into_bytes(),
+                Kind::DecimalList => return self.many("|", Source::near_decimal).into_bytes(),
+                Kind::Window => {
+                    return format!("{}|{}", self.decimal(), self.near_decimal()).into_bytes()
+                }
+                _ => (),
+            }
+        }
+        self.near[self.draws.below(self.near.len())].clone()
+    }
+
     fn many(&mut self, between: &str, one: impl Fn(&mut Self) -> String) -> String {
         let count = self.draws.below(3) + 1;
         let all: Vec<String> = (0..count).map(|_| one(self)).collect();
         all.join(between)
     }
 
+    /// Any text will do, so that some are near decimals: what each reads as is compared, and the file may still be right.
     fn text(&mut self) -> Vec<u8> {
+        if self.draws.once_in(4) {
+            return self.near_decimal().into_bytes();
+        }
         let texts: [&[u8]; 7] = [
             b"x",
             b"P12345",
@@ -399,8 +418,73 @@ impl<'d> Source<'d> {
         match self.draws.below(12) {
             0 => "INF".to_string(),
             1 => "NaN".to_string(),
-            2 => format!("{}{}", self.sign(), self.digits(18)),
-            _ => format!("{}{}.{}", self.sign(), self.digits(7), self.digits(10)),
+            2..=6 => format!("{}{}{}", self.sign(), self.mantissa(), self.exponent()),
+            _ => format!("{}{}", self.sign(), self.mantissa()),
+        }
+    }
+
+    /// Digits, or digits on each side of a dot; some have more than a short decimal may have.
+    fn mantissa(&mut self) -> String {
+        match self.draws.below(10) {
+            0 => self.digits(18),
+            1 => self.digits(3),
+            _ => format!("{}.{}", self.digits(7), self.digits(10)),
+        }
+    }
+
+    /// An exponent: mostly one with which a decimal is short or nearly so, else any.
+    fn exponent(&mut self) -> String {
+        let letter = self.draws.one_of(&["E", "e"]);
+        let sign = self.draws.one_of(&["", "+", "-", "-"]);
+        if self.draws.once_in(4) {
+            return format!("{letter}{sign}{}", self.digits(3));
+        }
+        let (value, width) = (self.draws.below(40), self.draws.below(3) + 1);
+        format!("{letter}{sign}{value:0width$}")
+    }
+
+    /// What is near a decimal with an exponent: one of its pieces is wrong, or twice there. Some are right.
+    fn near_decimal(&mut self) -> String {
+        let (sign, mantissa, exponent) = (self.sign(), self.mantissa(), self.exponent());
+        match self.draws.below(12) {
+            0 => {
+                let sign = self.draws.one_of(&["+", "--", "-+", " ", "- "]);
+                format!("{sign}{mantissa}{exponent}")
+            }
+            1 => format!("{sign}.{}{exponent}", self.digits(3)),
+            2 => format!("{sign}{}.{exponent}", self.digits(3)),
+            3 => {
+                let other = [
+                    "INF", "NaN", "inf", "null", "", ".", "1,000", "1.2.3", "0x1",
+                ];
+                format!("{sign}{}{exponent}", self.draws.one_of(&other))
+            }
+            4 => format!("{sign}{mantissa}{exponent}{}", self.exponent()),
+            5 => {
+                let after = [".", ".0", " ", "-", "E", "e", ",", "|", "|E5", "\u{e9}"];
+                format!("{sign}{mantissa}{exponent}{}", self.draws.one_of(&after))
+            }
+            6 => format!("{sign}{mantissa}{exponent}"),
+            _ => format!("{sign}{mantissa}{}", self.near_exponent()),
+        }
+    }
+
+    /// What is near an exponent: its letter or its sign is wrong, or its digits are none or four.
+    fn near_exponent(&mut self) -> String {
+        let letter = self.draws.one_of(&["E", "e"]);
+        let sign = self.draws.one_of(&["", "+", "-"]);
+        match self.draws.below(5) {
+            0 => {
+                let other = ["F", "D", "d", "x", "EE", "Ee", " E", "E ", "*", "\u{c9}"];
+                format!("{}{sign}{}", self.draws.one_of(&other), self.digits(3))
+            }
+            1 => {
+                let other = ["+-", "-+", "--", "++", " ", "+ ", ".", "-.", "0.", "-0."];
+                format!("{letter}{}{}", self.draws.one_of(&other), self.digits(2))
+            }
+            2 => format!("{letter}{sign}"),
+            3 => format!("{letter}{sign}000{}", self.digits(1)),
+            _ => format!("{letter}{sign}1{:03}", self.draws.below(1_000)),
         }
     }
 

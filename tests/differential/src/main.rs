@@ -18,6 +18,7 @@ mod weights;
 
 use std::env;
 use std::io::{self, Write};
+use std::ops::RangeInclusive;
 use std::process::ExitCode;
 
 use compare::{compare, Tried};
@@ -29,6 +30,9 @@ const COUNT: u64 = 10_000;
 const MANY: u64 = 4_000;
 /// Of so many drawn files one at least must be accepted and have weights.
 const WEIGHED: u64 = 10;
+/// So many cases has a reading, and such powers a decimal.
+const CASES: u32 = 7;
+const POWERS: RangeInclusive<i32> = -22..=22;
 /// So many splits are drawn beside each file.
 const SPLITS: usize = 2;
 /// So many bytes have the hostile files.
@@ -66,6 +70,7 @@ fn main() -> ExitCode {
     run.drawn(&options);
     if options.count >= MANY {
         run.every_rule();
+        run.every_reading();
         run.every_number();
     }
     if run.different == 0 {
@@ -217,6 +222,26 @@ impl Run {
         for (rule, broken) in self.tried.rules.iter().enumerate().skip(1) {
             if *broken == 0 {
                 println!("differential: no file breaks rule {rule}, so the files show too little");
+                self.different += 1;
+            }
+        }
+    }
+
+    /// The same of the cases that a cell can read as, and of the powers that a decimal can have.
+    fn every_reading(&mut self) {
+        for case in 0..CASES {
+            if !self.tried.cases.contains_key(&case) {
+                println!(
+                    "differential: no cell reads as case {case}, so the files show too little"
+                );
+                self.different += 1;
+            }
+        }
+        for power in POWERS {
+            if !self.tried.powers.contains_key(&power) {
+                println!(
+                    "differential: no decimal has the power {power}, so the files show too little"
+                );
                 self.different += 1;
             }
         }

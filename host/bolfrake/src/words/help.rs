@@ -76,8 +76,10 @@ const READ: &str = "\
 bolfrake read FILE SECTION ROW COLUMN
 
 Reads a cell, found as by `bolfrake cell`, and prints FILE:LINE:CELL: and what it reads as: missing (null), whole,
-decimal, infinite (INF), not a number (NaN), long decimal (over 15 digits), or text. A decimal is printed with its signed
-numerals, the places after the dot, and the nearest double.
+decimal, infinite (INF), not a number (NaN), long decimal, or text. A decimal is printed as the nearest double, with its
+signed numerals and its power of ten, the exponent less the places after the dot: its value is exactly the numerals times
+ten to the power. 1.2E-5 is printed as decimal 1.2e-5, numerals 12, power -6. A long decimal has over 15 digits before its
+exponent, or a power that is not -22 to 22.
 
 Exit status: 0 read; 1 no such section, row or cell; 2 a file that cannot be read or is too long.
 ";
