@@ -7,7 +7,7 @@ use borrow.Author.Tests.{ltb-false, leb-false}
 use lib.Dec.{T}
 use lib.IntN.{ℤ, pos, negsuc, natAbs, _-ℤ_, +ℤ-idl}
 use lib.Signed.{nonNeg, leZ, ltZ}
-use mir.Syntax.{w64}
+use mir.Syntax.{w32, w64}
 use mir.Val.{SFits, Fits, toZ, ofZ}
 use mir.ValLaws.{toZ-ofZ}
 use mir.Facts.{fits-natAbs}
@@ -18,6 +18,14 @@ Sized z = T (nonNeg z) × Fits w64 (natAbs z)
 
 pub kept : (v : ℤ) → SFits w64 v → SFits w64 (toZ w64 (ofZ w64 v))
 kept v f = subst (SFits w64) (sym (toZ-ofZ w64 v f)) f
+
+-- 32 bits fit into 64
+wider : (v : ℤ) → SFits w32 v → SFits w64 v
+wider (pos a) f = record { sfits = omega (arith, f .sfits) }
+wider (negsuc a) f = record { sfits = omega (arith, f .sfits) }
+
+pub widened : (v : ℤ) → SFits w32 v → SFits w64 (toZ w32 (ofZ w32 v))
+widened v f = subst (SFits w64) (sym (toZ-ofZ w32 v f)) (wider v f)
 
 pub sized : (z : ℤ) → SFits w64 z → leZ (pos 0) z ≡ true → Sized z
 sized (pos a) f e = (tt, fits-natAbs {w = w64} tt f)
