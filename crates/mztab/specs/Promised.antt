@@ -17,8 +17,8 @@ pub record Refused (ys : List ℕ) (n k : ℕ) (zs : List ℕ) : Type 0 where
   pub untouched : zs ≡ ys
 
 -- the places of break i are there, and it is one of k
-abbrev pub Fits : ℕ → List ℕ → ℕ → Type 0
-Fits k ys i = (i < k) × (3 * i + 3 ≤ length ys)
+abbrev pub HasPlaces : ℕ → List ℕ → ℕ → Type 0
+HasPlaces k ys i = (i < k) × (3 * i + 3 ≤ length ys)
 
 -- of one within the limit, whose breaks are bs
 pub record Promised (file : Bytes) (bs : List Break) (ys : List ℕ) (n k : ℕ) (zs : List ℕ) : Type 0 where
@@ -28,5 +28,5 @@ pub record Promised (file : Bytes) (bs : List Break) (ys : List ℕ) (n k : ℕ)
   pub none-broken : k ≡ 0 → (l c r : ℕ) → IsBroken file l c r → ⊥
   pub accepted : ((l c r : ℕ) → IsBroken file l c r → ⊥) → k ≡ 0
   pub long : length zs ≡ length ys
-  pub stands : (i : ℕ) → Fits k ys i → Written zs (3 * i) (getD bs i (breakAt 0 0 0))
-  pub untouched : (j : ℕ) → ((i : ℕ) → Fits k ys i → (j < 3 * i) ⊎ (3 * i + 3 ≤ j)) → getD zs j 0 ≡ getD ys j 0
+  pub stands : (i : ℕ) → HasPlaces k ys i → Written zs (3 * i) (getD bs i (breakAt 0 0 0))
+  pub untouched : (j : ℕ) → ((i : ℕ) → HasPlaces k ys i → (j < 3 * i) ⊎ (3 * i + 3 ≤ j)) → getD zs j 0 ≡ getD ys j 0

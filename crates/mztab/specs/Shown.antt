@@ -63,8 +63,8 @@ unfoldable pub orElse : Bytes → Shown → Shown
 orElse other s = cond (is (s .view) "null") (given (s .number) other) s
 
 -- a refusal's place: line 0 and the first zero bytes
-abbrev pub refusal : ℕ → Place
-refusal n = record { number = n; line = 0; cell = 0; start = 0; end = 0 }
+abbrev pub nowhere : ℕ → Place
+nowhere n = record { number = n; line = 0; cell = 0; start = 0; end = 0 }
 
 -- a place in the file that answers what is sought
 pub record Placed (file : Bytes) (s : Sought) (p : Place) : Type 0 where

@@ -17,7 +17,7 @@ use value_readings::read;
 ghost use mathlib.Core.Path.{_≡_};
 ghost use Rattle.text_bytes.specs.Bytes.{is};
 ghost use Rattle.mztab.specs.Readings.{told, readingOf};
-ghost use Rattle.mztab.specs.Shown.{Placed, given, refusal, sought, shown, orElse, Points, PointsOr};
+ghost use Rattle.mztab.specs.Shown.{Placed, given, nowhere, sought, shown, orElse, Points, PointsOr};
 
 // A number, the numbers of a line and a cell, and a part of the file: of a refusal line 0, cell 0 and the first zero bytes.
 pub struct Place {
@@ -30,7 +30,7 @@ pub struct Place {
 
 // Nothing is shown, and the number says why.
 fn refused(number: u32) -> Place
-    ensures { λ r. ⌜ r ≡ refusal number ⌝ }
+    ensures { λ r. ⌜ r ≡ nowhere number ⌝ }
 {
     Place {
         number,

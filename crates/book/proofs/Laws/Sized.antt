@@ -1,4 +1,4 @@
--- How many sections, keys and demands a book has: what a scan sets room aside for. Assumes nothing.
+-- What a scan asks of a book: how many sections, slots and wants it sets room aside for, wants in order, and sound demands. Assumes nothing.
 use Prim.Native.Nat.{ℕ, suc, _+_, _≤_, _<_}
 use Prim.Native.String.{String}
 use mathlib.Core.Path.{_≡_, refl}
@@ -8,7 +8,7 @@ use native.Mathlib.Omega.{arith}
 use lib.Dec.{eqb, ltb}
 use lib.ListN.{length}
 use borrow.Author.Tests.{leb-true, ltb-true, eqb-true}
-use Rattle.text_bytes.specs.Bytes.{Bytes, bytes, same, all}
+use Rattle.text_bytes.specs.Bytes.{Bytes, bytes, same, all, count}
 use Rattle.text_bytes.proofs.Laws.Tests.{and-both}
 use Rattle.book_names.specs.Names.{entryOf, piecesFrom, pieces, spread, startOf}
 use Rattle.book_names.proofs.Laws.Known.{holes}
@@ -21,18 +21,13 @@ unfoldable pub rising : ℕ → List Want → Bool
 rising k [] = true
 rising k (w ∷ ws) = ltb k (cellOf w) && rising (cellOf w) ws
 
--- how many pass the test: as `count`, and quick to compute
-unfoldable pub howMany : (String → Bool) → List String → ℕ
-howMany p [] = 0
-howMany p (x ∷ xs) = let later = howMany p xs in cond (p x) (suc later) later
-
 -- a demand for each id of a family has a form with one place
 unfoldable pub isEach : Demand → Bool
 isEach d = ltb (d .each) ONCE && eqb (holes (pieces (bytes (d .form)))) 1
 
 -- a sound demand: just one key has its form
 unfoldable pub isSound : List String → Demand → Bool
-isSound ks d = eqb (howMany (hasForm (d .form)) ks) 1 && ((eqb (d .each) ONCE || isEach d) && ltb (d .section) SECTIONS)
+isSound ks d = eqb (count (hasForm (d .form)) ks) 1 && ((eqb (d .each) ONCE || isEach d) && ltb (d .section) SECTIONS)
 
 module _ (d : Demand) (h : isEach d ≡ true) where
   pub each-family : d .each < ONCE
@@ -44,15 +39,15 @@ module _ (d : Demand) (h : isEach d ≡ true) where
   each-places = eqb-true (holes (pieces (bytes (d .form)))) 1 (and-both (ltb (d .each) ONCE) (eqb (holes (pieces (bytes (d .form)))) 1) h .1)
 
 module _ (ks : List String) (d : Demand) (h : isSound ks d ≡ true) where
-  parts : (eqb (howMany (hasForm (d .form)) ks) 1 ≡ true) × ((eqb (d .each) ONCE || isEach d) ≡ true) × (ltb (d .section) SECTIONS ≡ true)
+  parts : (eqb (count (hasForm (d .form)) ks) 1 ≡ true) × ((eqb (d .each) ONCE || isEach d) ≡ true) × (ltb (d .section) SECTIONS ≡ true)
   unfolding isSound
   parts =
-      let p = and-both (eqb (howMany (hasForm (d .form)) ks) 1) ((eqb (d .each) ONCE || isEach d) && ltb (d .section) SECTIONS) h in
+      let p = and-both (eqb (count (hasForm (d .form)) ks) 1) ((eqb (d .each) ONCE || isEach d) && ltb (d .section) SECTIONS) h in
       let q = and-both (eqb (d .each) ONCE || isEach d) (ltb (d .section) SECTIONS) (p .1) in
       (p .0, q .0, q .1)
 
-  pub sound-one : howMany (hasForm (d .form)) ks ≡ 1
-  sound-one = eqb-true (howMany (hasForm (d .form)) ks) 1 (parts .0)
+  pub sound-one : count (hasForm (d .form)) ks ≡ 1
+  sound-one = eqb-true (count (hasForm (d .form)) ks) 1 (parts .0)
 
   pub sound-each : eqb (d .each) ONCE ≡ false → isEach d ≡ true
   sound-each e = let p = parts .1 in rw e at p
@@ -72,5 +67,5 @@ pub record Sized (b : Book) : Type 0 where
   pub sound : all (isSound (b .keys)) (b .demands) ≡ true
 
 pub book-sized : (t : Bytes) → Sized (bookIn t)
-unfolding bookIn mzTab keys demands wantsOf wantsIn rising lastCell isEach isSound howMany hasForm all same bytes entryOf piecesFrom holes spread startOf
+unfolding bookIn mzTab keys demands wantsOf wantsIn rising lastCell isEach isSound count hasForm all same bytes entryOf piecesFrom holes spread startOf
 book-sized t = record { low = omega arith; high = omega arith; slots = leb-true _ _ refl; many = omega arith; order = refl; ends = omega arith; sound = refl }

@@ -17,7 +17,7 @@ use Rattle.scan.specs.Places.{Written, lent, putAll}
 use Rattle.scan.proofs.Laws.Putting.{put-count}
 use Rattle.scan.proofs.Laws.Placing.{placed-length, placed-at, placed-above, placed-short}
 use Rattle.mztab.specs.Judged.{Outcome, outcome, ended, judged}
-use Rattle.mztab.specs.Promised.{Refused, Fits, Promised}
+use Rattle.mztab.specs.Promised.{Refused, HasPlaces, Promised}
 
 module _ (file : Bytes) (ys : List ℕ) {n k : ℕ} {zs : List ℕ} (call : outcome n k zs ≡ judged file ys) where
   -- A FILE OVER THE LIMIT
@@ -40,7 +40,7 @@ module _ (file : Bytes) (ys : List ℕ) {n k : ℕ} {zs : List ℕ} (call : outc
     places = ap (λ (x : Outcome). x .places) whole
 
     -- a place that is none of a written break's
-    kept : (j : ℕ) → ((i : ℕ) → Fits k ys i → (j < 3 * i) ⊎ (3 * i + 3 ≤ j)) → getD zs j 0 ≡ getD ys j 0
+    kept : (j : ℕ) → ((i : ℕ) → HasPlaces k ys i → (j < 3 * i) ⊎ (3 * i + 3 ≤ j)) → getD zs j 0 ≡ getD ys j 0
     kept j out = ap (λ (l : List ℕ). getD l j 0) places ∙ go (ltb (j / 3) k) refl (leb (3 * (j / 3) + 3) (length ys)) refl
       where
         go : (s : Bool) → ltb (j / 3) k ≡ s → (t : Bool) → leb (3 * (j / 3) + 3) (length ys) ≡ t → getD (putAll (lent ys 0) (breaks file) .places) j 0 ≡ getD ys j 0

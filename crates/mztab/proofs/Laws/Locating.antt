@@ -12,7 +12,7 @@ use Rattle.text_bytes.specs.Places.{part, after}
 use Rattle.text.specs.Lines.{LIMIT, TAB, LF, lines}
 use Rattle.text_bytes.proofs.Laws.Parts.{part-part}
 use Rattle.rows.specs.Rows.{Line, lineOf, rowOf, cellAt}
-use Rattle.mztab.specs.Shown.{Sought, refused, refusal, cellStart, soughtRow, sought, Shown, given, shown, orElse, Placed, Points, PointsOr}
+use Rattle.mztab.specs.Shown.{Sought, refused, nowhere, cellStart, soughtRow, sought, Shown, given, shown, orElse, Placed, Points, PointsOr}
 use denote.Ref.{RefT}
 use Rattle.mztab.specs.Readings.{told, unread, readingOf}
 use Rattle.mztab.specs.declared.cells.Place.{Place}
@@ -21,7 +21,7 @@ use Rattle.value_readings.specs.declared.Value.{Value}
 use Rattle.book.specs.Book.{isSection, bookOf}
 
 -- a refusal's place
-pub placed-refused : (f : Bytes) {s : Sought} {n : ℕ} {p : Place} → p ≡ refusal n → refused n ≡ s → Placed f s p
+pub placed-refused : (f : Bytes) {s : Sought} {n : ℕ} {p : Place} → p ≡ nowhere n → refused n ≡ s → Placed f s p
 placed-refused f {s} {n} {p} e q = record {
   says = ap (λ (x : Place). x .number) e ∙ ap (λ (x : Sought). x .number) q;
   on = ap (λ (x : Place). x .line) e ∙ ap (λ (x : Sought). x .line) q;

@@ -23,7 +23,7 @@ use Rattle.book_names.specs.declared.Found.the-variants.{Unknown, Known}
 use Rattle.book_names.proofs.Laws.Known.{Of, known-of, holes, nth, among-one, start-rise, start-mono, slot-before, slot-inside, slot-apart}
 use Rattle.book.specs.Book.{SECTIONS, SLOTS, Demand, ONCE, Want, want, cellOf, upFrom, wantsOf, wantsIn, wants, Book, hasForm, keyOf, keyEntries}
 use Rattle.book.specs.Text.{entryFor}
-use Rattle.book.proofs.Laws.Sized.{howMany, isEach, isSound, sound-one, sound-each, sound-section, each-places, each-family, Sized}
+use Rattle.book.proofs.Laws.Sized.{isEach, isSound, sound-one, sound-each, sound-section, each-places, each-family, Sized}
 use Rattle.rules.specs.Breaks.{Break, breakAt, when, atCell, atEnd}
 use Rattle.rules.specs.Rules.{keyFound, asks, isDeclared, isPresent, isFor, isAsked, isWanted, hasKey, isUnmet, endRules, ends}
 use Rattle.scan.specs.Machine.{isSlot, hasSlot, Slots, isMarked, Seen, SeenOf, isAskedIn, isForIn, firstSlot, endSlot, isLacking, wantBreaks, endBreaks}
@@ -96,24 +96,24 @@ any-both false f xs = any-false xs
 
 -- THE ENTRY OF A FORM, where just one key has it
 
-none-has : (p : String → Bool) (ks : List String) (e : ℕ) → howMany p ks ≡ 0 → e < length ks → p (getD ks e "") ≡ false
-unfolding howMany
+none-has : (p : String → Bool) (ks : List String) (e : ℕ) → count p ks ≡ 0 → e < length ks → p (getD ks e "") ≡ false
+unfolding count
 none-has p [] e h l = absurd (omega arith)
 none-has p (k ∷ ks) e h l = go (p k) refl e l h (none-has p ks)
   where
-    go : (t : Bool) → p k ≡ t → (e : ℕ) → e < suc (length ks) → cond t (suc (howMany p ks)) (howMany p ks) ≡ 0 → ((e : ℕ) → howMany p ks ≡ 0 → e < length ks → p (getD ks e "") ≡ false)
+    go : (t : Bool) → p k ≡ t → (e : ℕ) → e < suc (length ks) → cond t (suc (count p ks)) (count p ks) ≡ 0 → ((e : ℕ) → count p ks ≡ 0 → e < length ks → p (getD ks e "") ≡ false)
         → p (getD (k ∷ ks) e "") ≡ false
     go true q e m z f = absurd (omega arith)
     go false q zero m z f = q
     go false q (suc e) m z f = f e z (omega arith)
 
-one-entry : (form : String) (ks : List String) (e : ℕ) → howMany (hasForm form) ks ≡ 1 → e < length ks → hasForm form (getD ks e "") ≡ eqb e (entryFor ks form)
-unfolding howMany entryFor
+one-entry : (form : String) (ks : List String) (e : ℕ) → count (hasForm form) ks ≡ 1 → e < length ks → hasForm form (getD ks e "") ≡ eqb e (entryFor ks form)
+unfolding count entryFor
 one-entry form [] e h l = absurd (omega arith)
 one-entry form (k ∷ ks) e h l = go (hasForm form k) refl e l h (one-entry form ks)
   where
-    go : (t : Bool) → hasForm form k ≡ t → (e : ℕ) → e < suc (length ks) → cond t (suc (howMany (hasForm form) ks)) (howMany (hasForm form) ks) ≡ 1
-        → ((e : ℕ) → howMany (hasForm form) ks ≡ 1 → e < length ks → hasForm form (getD ks e "") ≡ eqb e (entryFor ks form))
+    go : (t : Bool) → hasForm form k ≡ t → (e : ℕ) → e < suc (length ks) → cond t (suc (count (hasForm form) ks)) (count (hasForm form) ks) ≡ 1
+        → ((e : ℕ) → count (hasForm form) ks ≡ 1 → e < length ks → hasForm form (getD ks e "") ≡ eqb e (entryFor ks form))
         → hasForm form (getD (k ∷ ks) e "") ≡ eqb e (cond t 0 (suc (entryFor ks form)))
     go true q zero m z f = q
     go true q (suc e) m z f = none-has (hasForm form) ks e (omega arith) (omega arith) ∙ sym (ne-eqb (suc e) 0 (λ x. omega arith))
@@ -124,12 +124,12 @@ one-entry form (k ∷ ks) e h l = go (hasForm form k) refl e l h (one-entry form
         next true x = sym (eq-eqb (suc e) (suc (entryFor ks form)) (ap suc (eqb-true e (entryFor ks form) x)))
         next false x = sym (ne-eqb (suc e) (suc (entryFor ks form)) (λ y. eqb-false e (entryFor ks form) x (omega arith)))
 
-pub entry-inside : (form : String) (ks : List String) → howMany (hasForm form) ks ≡ 1 → entryFor ks form < length ks
-unfolding howMany entryFor
+pub entry-inside : (form : String) (ks : List String) → count (hasForm form) ks ≡ 1 → entryFor ks form < length ks
+unfolding count entryFor
 entry-inside form [] h = absurd (omega arith)
 entry-inside form (k ∷ ks) h = go (hasForm form k) h (entry-inside form ks)
   where
-    go : (t : Bool) → cond t (suc (howMany (hasForm form) ks)) (howMany (hasForm form) ks) ≡ 1 → (howMany (hasForm form) ks ≡ 1 → entryFor ks form < length ks)
+    go : (t : Bool) → cond t (suc (count (hasForm form) ks)) (count (hasForm form) ks) ≡ 1 → (count (hasForm form) ks ≡ 1 → entryFor ks form < length ks)
         → cond t 0 (suc (entryFor ks form)) < suc (length ks)
     go true z f = omega arith
     go false z f = omega (arith, f z)
@@ -228,7 +228,7 @@ module _ (b : Book) (sized : Sized b) (w : Want) (sound : isSound (b .keys) (w .
   abbrev E : ℕ
   E = entryFor (b .keys) (w .demand .form)
 
-  one : howMany (hasForm (w .demand .form)) (b .keys) ≡ 1
+  one : count (hasForm (w .demand .form)) (b .keys) ≡ 1
   one = sound-one (b .keys) (w .demand) sound
 
   keys-many : length es ≡ length (b .keys)

@@ -73,19 +73,11 @@ module _ (s : List ℕ) (i : ℕ) where
 
 -- NUMBERS
 
-pub number-nil : (n : ℕ) → number n [] ≡ n
-unfolding number
-number-nil n = refl
-
 -- digits that follow bring a number back no more
 pub number-least : (n m : ℕ) (ds : List ℕ) → m ≤ n → m ≤ number n ds
 unfolding number
 number-least n m [] h = h
 number-least n m (d ∷ ds) h = number-least (more n d) m ds (omega arith)
-
-pub number-more : (n d : ℕ) (ds : List ℕ) → number n (d ∷ ds) ≡ number (more n d) ds
-unfolding number
-number-more n d ds = refl
 
 -- a run of digits is the front of its text
 uncons-by : (b : Bool) (x d : ℕ) (r ds : List ℕ) → isDigit x ≡ b → cond b (x ∷ digits r) [] ≡ d ∷ ds

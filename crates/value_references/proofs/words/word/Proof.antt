@@ -4,7 +4,7 @@ use native.Mathlib.Omega.{arith}
 use borrow.Author.Needs.{needs}
 use lib.ListN.{length}
 use Rattle.text_bytes.specs.Bytes.{bytes}
-use Rattle.value_references.proofs.Laws.Families.{words-length, word-at, no-word}
+use Rattle.value_references.proofs.Laws.Words.{words-length, word-at, no-word}
 use Rattle.value_references.proofs.words.word.Statement.{statement}
 use Rattle.value_references.proofs.words.word.Tie as tie
 
