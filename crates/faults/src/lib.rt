@@ -8,7 +8,7 @@ use steps::begin;
 use steps::next;
 ghost use mathlib.Core.Path.{_≡_};
 ghost use Prim.Native.Nat.{_<_, _≤_, _+_, _*_};
-ghost use lib.ListN.{length};
+ghost use lib.ListN.{length, set};
 ghost use lib.Seq.{sets};
 ghost use Rattle.faults.specs.Records.{outcome, judged};
 ghost use Rattle.faults.specs.Steps.{recordAt, records};
@@ -33,6 +33,14 @@ fn record_at(places: &[u32], j: usize) -> Fault
     }
 }
 
+// Record k of the list becomes the one whose numbers begin at place j; every other record stays as it was.
+fn put_record(places: &[u32], faults: &mut [Fault], j: usize, k: usize)
+    requires { ⌜ (j + 2 < length (now places)) × (k < length (now faults)) ⌝ }
+    ensures { λ _. ⌜ now (faults .exit) ≡ set (now (faults .entry)) k (recordAt (now (places .entry)) j) ⌝ }
+{
+    faults[k] = record_at(places, j);
+}
+
 // n records, from the first of the places to place `at` of the list.
 fn copy_out(places: &[u32], faults: &mut [Fault], at: usize, n: usize)
     requires { ⌜ (n * 3 ≤ length (now places)) × (at + n ≤ length (now faults)) ⌝ }
@@ -42,7 +50,7 @@ fn copy_out(places: &[u32], faults: &mut [Fault], at: usize, n: usize)
     let mut k = at;
     let end = at + n;
     while k < end {
-        faults[k] = record_at(places, j);
+        put_record(places, faults, j, k);
         j = j + 3;
         k = k + 1;
     }

@@ -5,6 +5,7 @@ use crate::parts::judge_part;
 use book_facts::Facts;
 use book_facts::survey;
 use numbers::TOO_LONG;
+use scan::state::MOST_CELLS;
 use text::LIMIT;
 use value_references::FAMILIES;
 use value_references::INDICES;
@@ -19,7 +20,7 @@ ghost use Rattle.judging.specs.Calls.{Begun, Going};
 pub struct Carried {
     pub number: u32,
     pub stand: Stand,
-    pub kinds: [u8; 256],
+    pub kinds: [u8; MOST_CELLS],
     pub samples: [bool; INDICES],
     pub assays: [bool; INDICES],
     pub variables: [bool; INDICES],
@@ -41,7 +42,7 @@ pub fn begin(book: &[u8], file: &[u8]) -> Carried
         return Carried {
             number: TOO_LONG,
             stand: beginning(nothing),
-            kinds: [0u8; 256],
+            kinds: [0u8; MOST_CELLS],
             samples: none,
             assays: none,
             variables: none,
@@ -53,7 +54,7 @@ pub fn begin(book: &[u8], file: &[u8]) -> Carried
     Carried {
         number: 0,
         stand: beginning(facts),
-        kinds: [0u8; 256],
+        kinds: [0u8; MOST_CELLS],
         samples: flags[0],
         assays: flags[1],
         variables: flags[2],

@@ -4,6 +4,7 @@ use line_any::Step;
 use line_any::judge_line;
 use line_end::judge_end;
 use line_head_stamps::ROOM;
+use scan::state::MOST_CELLS;
 use scan::state::State;
 use scan::state::start;
 use text::lines::line_at;
@@ -55,7 +56,7 @@ pub fn judge_part(
     file: &[u8],
     stand: Stand,
     flags: &[[bool; INDICES]; FAMILIES],
-    kinds: &mut [u8; 256],
+    kinds: &mut [u8; MOST_CELLS],
     slots: &mut [bool],
 ) -> Stand
     requires { ⌜ 1 ≤ room ⌝ }

@@ -7,6 +7,7 @@ use rules::sorts::Sort;
 use rules::sorts::sort_of;
 use scan::places::Tag;
 use scan::places::put_if;
+use scan::state::MOST_CELLS;
 use scan::state::State;
 use scan::state::after_header;
 use scan::state::after_row;
@@ -59,7 +60,7 @@ pub fn judge_line(
     book: &[u8],
     line: &[u8],
     flags: &[[bool; INDICES]; FAMILIES],
-    kinds: &mut [u8; 256],
+    kinds: &mut [u8; MOST_CELLS],
     slots: &mut [bool],
     stamps: &mut [u32],
 ) -> Step

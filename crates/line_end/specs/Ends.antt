@@ -11,21 +11,21 @@ use Rattle.rules.specs.Breaks.{Break, breakAt, when}
 use Rattle.scan.specs.Machine.{Seen, isMarked}
 use Rattle.scan.specs.declared.state.State.{State}
 use Rattle.book_facts.specs.declared.Facts.{Facts}
-use Rattle.line_end.specs.declared.Told.{Told}
+use Rattle.line_end.specs.declared.Asking.{Asking}
 
 -- what was found of the file
 abbrev pub seenBy : List Bool → List (List Bool) → Facts → State → Seen
 seenBy slots flags facts state = record { slots = slots; flags = flags; mode = facts .mode; typed = facts .typed; present = state .present }
 
--- the same, of which the last three are told
-abbrev pub seen : List Bool → List (List Bool) → Told → Seen
-seen slots flags told = record { slots = slots; flags = flags; mode = told .mode; typed = told .typed; present = told .present }
+-- the same, of which the last three are asking
+abbrev pub seen : List Bool → List (List Bool) → Asking → Seen
+seen slots flags asking = record { slots = slots; flags = flags; mode = asking .mode; typed = asking .typed; present = asking .present }
 
--- the parts have their sizes, and the told say whether an assay is declared
-pub record Whole (slots : List Bool) (flags : List (List Bool)) (told : Told) : Type 0 where
+-- the parts have their sizes, and the asking say whether an assay is declared
+pub record Whole (slots : List Bool) (flags : List (List Bool)) (asking : Asking) : Type 0 where
   pub long : length slots ≡ SLOTS
   pub shape : Flags flags
-  pub assay : told .assay ≡ isMarked (getD flags ASSAYS []) 0 MOST
+  pub assay : asking .assay ≡ isMarked (getD flags ASSAYS []) 0 MOST
 
 -- what is wanted for the ids of a family, of which these flags are declared: the keys' slots begin at `from`
 abbrev pub idBreak : Bool → List Bool → List Bool → ℕ → ℕ → ℕ → ℕ → List Break → List Break

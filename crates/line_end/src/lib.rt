@@ -32,7 +32,7 @@ const RULE: u32 = 21;
 
 // What decides whether a demand is asked of a file: the letters of its mode and type, 0 for none, whether it declares an assay, and the sections that are
 // present, with 0 among them.
-struct Told {
+struct Asking {
     pub mode: u8,
     pub typed: u8,
     pub assay: bool,
@@ -121,21 +121,21 @@ fn judge_demand(
     line_no: u32,
     slots: &[bool],
     flags: &[[bool; INDICES]; FAMILIES],
-    told: Told,
+    asking: Asking,
 ) -> u32
     requires { ⌜ IsBook (now book) ⌝ }
     requires { ⌜ k < length ((bookIn (now book)) .demands) ⌝ }
-    requires { ⌜ Whole (now slots) (now flags) told ⌝ }
+    requires { ⌜ Whole (now slots) (now flags) asking ⌝ }
     requires { ⌜ count + length (wantsOf (getD ((bookIn (now book)) .demands) k noDemand)) ≤ CEILING ⌝ }
-    ensures { λ r. ⌜ Puts (wantBreaks (bookIn (now (book .entry))) (seen (now (slots .entry)) (now (flags .entry)) told) «line_no» (wantsOf (getD ((bookIn (now (book .entry))) .demands) k noDemand))) (length (wantsOf (getD ((bookIn (now (book .entry))) .demands) k noDemand))) (lent (now (places .entry)) count) (lent (now (places .exit)) r) ⌝ }
+    ensures { λ r. ⌜ Puts (wantBreaks (bookIn (now (book .entry))) (seen (now (slots .entry)) (now (flags .entry)) asking) «line_no» (wantsOf (getD ((bookIn (now (book .entry))) .demands) k noDemand))) (length (wantsOf (getD ((bookIn (now (book .entry))) .demands) k noDemand))) (lent (now (places .entry)) count) (lent (now (places .exit)) r) ⌝ }
 {
     let d = nth_demand(book, k);
     let entry = d.entry;
     let from = start_of(book, entry);
     let section = d.section;
-    let present = told.present;
+    let present = asking.present;
     let asked = both(
-        is_asked(d.asked, told.mode, told.typed, told.assay),
+        is_asked(d.asked, asking.mode, asking.typed, asking.assay),
         present[section],
     );
     if d.each != ONCE {
@@ -154,18 +154,18 @@ fn judge_demands(
     line_no: u32,
     slots: &[bool],
     flags: &[[bool; INDICES]; FAMILIES],
-    told: Told,
+    asking: Asking,
 ) -> u32
     requires { ⌜ IsBook (now book) ⌝ }
-    requires { ⌜ Whole (now slots) (now flags) told ⌝ }
+    requires { ⌜ Whole (now slots) (now flags) asking ⌝ }
     requires { ⌜ count + END-MOST ≤ CEILING ⌝ }
-    ensures { λ r. ⌜ Puts (endBreaks (bookIn (now (book .entry))) (seen (now (slots .entry)) (now (flags .entry)) told) «line_no») END-MOST (lent (now (places .entry)) count) (lent (now (places .exit)) r) ⌝ }
+    ensures { λ r. ⌜ Puts (endBreaks (bookIn (now (book .entry))) (seen (now (slots .entry)) (now (flags .entry)) asking) «line_no») END-MOST (lent (now (places .entry)) count) (lent (now (places .exit)) r) ⌝ }
 {
     let n = count_demands(book);
     let mut k = 0;
     let mut c = count;
     while k < n {
-        c = judge_demand(places, c, book, k, line_no, slots, flags, told);
+        c = judge_demand(places, c, book, k, line_no, slots, flags, asking);
         k += 1;
     }
     c
@@ -192,11 +192,11 @@ pub fn judge_end(
     let assays = flags[ASSAYS];
     let assay = any_marked(&assays, 0, INDICES);
     let present = state.present;
-    let told = Told {
+    let asking = Asking {
         mode: facts.mode,
         typed: facts.typed,
         assay,
         present,
     };
-    judge_demands(places, count, book, line_no, slots, flags, told)
+    judge_demands(places, count, book, line_no, slots, flags, asking)
 }

@@ -4,6 +4,7 @@ use line_head_names::head_cells;
 use line_head_required::lacks;
 use scan::places::Tag;
 use scan::places::put_if;
+use scan::state::MOST_CELLS;
 use text::cells::cell_end;
 use text::cells::count_cells;
 use value_references::FAMILIES;
@@ -19,8 +20,6 @@ ghost use Rattle.scan.specs.Places.{CEILING, HEADED-MOST, LINE-MOST, lent, Puts
 ghost use Rattle.scan.specs.Machine.{idsOf, headBreaks, headFirst, nameBreaks};
 ghost use Rattle.line_head_stamps.specs.Stamps.{ROOM as room};
 ghost use Rattle.line_head.specs.Heads.{Kept, KeepsKinds};
-
-const MOST_CELLS: usize = 256;
 
 // A header, beside its bytes: its line, its section, and whether a header of its section, of a later one, stands above.
 pub struct Head {
@@ -49,7 +48,7 @@ fn head_names(
     line: &[u8],
     names: Names,
     flags: &[[bool; INDICES]; FAMILIES],
-    kinds: &mut [u8; 256],
+    kinds: &mut [u8; MOST_CELLS],
     stamps: &mut [u32],
 ) -> u32
     requires { ⌜ count + HEADED-MOST ≤ CEILING ⌝ }
@@ -76,7 +75,7 @@ pub fn judge_head(
     line: &[u8],
     head: Head,
     flags: &[[bool; INDICES]; FAMILIES],
-    kinds: &mut [u8; 256],
+    kinds: &mut [u8; MOST_CELLS],
     stamps: &mut [u32],
 ) -> u32
     requires { ⌜ count + LINE-MOST ≤ CEILING ⌝ }

@@ -6,6 +6,7 @@ use book_names::Found;
 use line_head_stamps::came_before;
 use scan::places::Tag;
 use scan::places::put_if;
+use scan::state::MOST_CELLS;
 use text::cells::cell_end;
 use text_bytes::both;
 use text_bytes::either;
@@ -148,7 +149,7 @@ fn head_cell(
     section: u32,
     at: Naming,
     flags: &[[bool; INDICES]; FAMILIES],
-    kinds: &mut [u8; 256],
+    kinds: &mut [u8; MOST_CELLS],
 ) -> u32
     requires { ⌜ count + NAME-MOST ≤ CEILING ⌝ }
     requires { ⌜ IsBook (now book) ⌝ }
@@ -171,7 +172,7 @@ pub fn head_cells(
     line: &[u8],
     names: Names,
     flags: &[[bool; INDICES]; FAMILIES],
-    kinds: &mut [u8; 256],
+    kinds: &mut [u8; MOST_CELLS],
     stamps: &mut [u32],
 ) -> u32
     requires { ⌜ count + NAMES-MOST ≤ CEILING ⌝ }

@@ -2,6 +2,7 @@
 use book_kinds::cell_of_kind;
 use scan::places::Tag;
 use scan::places::put_if;
+use scan::state::MOST_CELLS;
 use text::cells::cell_end;
 use text::cells::count_cells;
 use text_bytes::both;
@@ -11,9 +12,6 @@ ghost use lib.ListN.{length, drop};
 ghost use Rattle.text.specs.Lines.{cells};
 ghost use Rattle.scan.specs.Places.{CEILING, CELLS-MOST, LINE-MOST, lent, Puts};
 ghost use Rattle.scan.specs.Machine.{eachCell, kindCell, rowCell, rowBreaks, rowFirst};
-
-// A header of more cells has no kinds for its columns.
-const MOST_CELLS: usize = 256;
 
 // Cell c of a row, whose column has the kind: it is empty (19), or not of the kind (20).
 fn row_cell(places: &mut [u32], count: u32, cell: &[u8], c: u32, tag: Tag, kind: u8) -> u32
@@ -38,7 +36,7 @@ fn row_cells(
     line: &[u8],
     from: usize,
     tag: Tag,
-    kinds: &[u8; 256],
+    kinds: &[u8; MOST_CELLS],
 ) -> u32
     requires { ⌜ from ≤ length (now line) ⌝ }
     requires { ⌜ length (cells (drop from (now line))) ≤ 255 ⌝ }
@@ -80,7 +78,7 @@ pub fn judge_row(
     tag: Tag,
     header: u32,
     width: usize,
-    kinds: &[u8; 256],
+    kinds: &[u8; MOST_CELLS],
 ) -> u32
     requires { ⌜ count + LINE-MOST ≤ CEILING ⌝ }
     ensures { λ r. ⌜ Puts (rowBreaks header width (now (kinds .entry)) section (tag .control) (tag .line) (cells (now (line .entry)))) LINE-MOST (lent (now (places .entry)) count) (lent (now (places .exit)) r) ⌝ }

@@ -4,7 +4,7 @@ use mathlib.Core.Path.{_≡_}
 use mathlib.Core.Bool.{Bool, true, false, cond}
 use mathlib.Core.List.{[]}
 use mathlib.Core.Option.{Option, none, some}
-use lib.ListN.{length}
+use lib.ListN.{length, take, drop}
 use lib.Dec.{ltb}
 use denote.Ref.{RefT}
 use Rattle.numbers.specs.Numbers.{TOO-LONG, NO-SECTION, NO-ROW, NO-CELL}
@@ -78,10 +78,11 @@ pub record Placed (file : Bytes) (s : Sought) (p : Place) : Type 0 where
 
 -- WHERE A VIEW STANDS
 
--- in the memory of the file, so many bytes after its first
+-- in the memory of the file, so many bytes after its first; and it is the bytes that stand there
 pub record Points (file : RefT Bytes) (start : ℕ) (view : RefT Bytes) : Type 0 where
   pub block : view .ptr .0 ≡ file .ptr .0
   pub offset : view .ptr .1 ≡ file .ptr .1 + start
+  pub bytes : view .now ≡ take (length (view .now)) (drop start (file .now))
 
 -- the stand-in itself, or a view of the file
 abbrev pub PointsOr : Bool → RefT Bytes → RefT Bytes → ℕ → RefT Bytes → Type 0

@@ -7,6 +7,9 @@ ghost use lib.Dec.{ltb};
 ghost use Rattle.book.specs.Book.{SECTIONS as limit};
 ghost use Rattle.scan.specs.Carried.{initial, afterHeader, afterRow};
 
+// A header has at most so many cells (rule 11), and so many kinds are carried.
+pub const MOST_CELLS: usize = 256;
+
 // Of the lines above: the sections that had a header, those that had a header or a row (and 0, which is none), the highest that had a header, the nearest
 // header's section and number of cells (0 and 1 where there is none), and whether any is a header or row. `table` stands beside `seen`: at the end it would
 // leave seven bytes of padding, which a copy takes in two halves that overlap, and the next copy waits for both.

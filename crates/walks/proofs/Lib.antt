@@ -2,4 +2,5 @@
 pub mod Again
 pub mod Lent
 pub mod Locals
+pub mod Slices
 pub mod Tests

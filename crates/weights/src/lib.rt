@@ -5,6 +5,7 @@ use numbers::NOT_AS_MANY;
 use numbers::TOO_LONG;
 use rows::Row;
 use rows::row_of;
+use scan::state::MOST_CELLS;
 use text::LIMIT;
 use text::cells::cell_end;
 use text::cells::has_code;
@@ -26,9 +27,6 @@ pub const VARIABLES: usize = 64;
 
 // The section of the rows that are counted.
 const PROTEIN: u32 = 1;
-
-// A header of an accepted file has at most so many cells.
-const MOST_CELLS: usize = 256;
 
 // The study variable of each cell of a header, 0 for none, and after which cell there is none more.
 struct Marks {
@@ -101,7 +99,7 @@ fn count_cell(weights: &mut [u32], mark: u8, cell: &[u8])
 }
 
 // The cells of a protein row, no further than marks go.
-fn count_row(weights: &mut [u32], line: &[u8], marks: &[u8; 256], width: usize)
+fn count_row(weights: &mut [u32], line: &[u8], marks: &[u8; MOST_CELLS], width: usize)
     requires { ⌜ IsMarks (now marks) width ⌝ }
     requires { ⌜ Room (λ i. adds (marked (now marks) i) 0 (cells (now line))) (now weights) ⌝ }
     ensures { λ _. ⌜ Raises (λ i. adds (marked (now (marks .entry)) i) 0 (cells (now (line .entry)))) (now (weights .entry)) (now (weights .exit)) ⌝ }
@@ -120,7 +118,7 @@ fn count_row(weights: &mut [u32], line: &[u8], marks: &[u8; 256], width: usize)
 }
 
 // A line counts where it is a protein row.
-fn count_line(weights: &mut [u32], line: &[u8], marks: &[u8; 256], width: usize)
+fn count_line(weights: &mut [u32], line: &[u8], marks: &[u8; MOST_CELLS], width: usize)
     requires { ⌜ IsMarks (now marks) width ⌝ }
     requires { ⌜ Room (λ i. lineAdds (now marks) i (now line)) (now weights) ⌝ }
     ensures { λ _. ⌜ Raises (λ i. lineAdds (now (marks .entry)) i (now (line .entry))) (now (weights .entry)) (now (weights .exit)) ⌝ }
@@ -131,7 +129,7 @@ fn count_line(weights: &mut [u32], line: &[u8], marks: &[u8; 256], width: usize)
 }
 
 // All lines of the file, one after the other.
-fn count_lines(weights: &mut [u32], file: &[u8], marks: &[u8; 256], width: usize)
+fn count_lines(weights: &mut [u32], file: &[u8], marks: &[u8; MOST_CELLS], width: usize)
     requires { ⌜ IsMarks (now marks) width ⌝ }
     requires { ⌜ Room (λ i. linesAdd (now marks) i (lines (now file))) (now weights) ⌝ }
     ensures { λ _. ⌜ Raises (λ i. linesAdd (now (marks .entry)) i (lines (now (file .entry)))) (now (weights .entry)) (now (weights .exit)) ⌝ }

@@ -23,7 +23,7 @@ use Rattle.scan.specs.Places.{Lent, putAll, Puts}
 use Rattle.scan.specs.Machine.{Seen, isMarked, isAskedIn, isLacking, wantBreaks}
 use Rattle.scan.proofs.Laws.Ending.{inside, slots-below}
 use Rattle.line_end.specs.Ends.{seen, Whole, idBreaks}
-use Rattle.line_end.specs.declared.Told.{Told}
+use Rattle.line_end.specs.declared.Asking.{Asking}
 
 -- the same breaks, put by another name
 alike : {f g : List Break → List Break} {m m′ : ℕ} {o o' : Lent} → ((rest : List Break) → f rest ≡ g rest) → m ≡ m′ → Puts f m o o' → Puts g m′ o o'
@@ -79,11 +79,11 @@ module _ (b : Book) (sized : Sized b) (k : ℕ) (l : k < length (b .demands)) wh
     section-in = rw (d .section) (sound-section (b .keys) D sound)
 
     -- its letter and its section say whether it is asked
-    module _ (slots : List Bool) (flags : List (List Bool)) (told : Told) (whole : Whole slots flags told) where
+    module _ (slots : List Bool) (flags : List (List Bool)) (asking : Asking) (whole : Whole slots flags asking) where
       abbrev x : Seen
-      x = seen slots flags told
+      x = seen slots flags asking
 
-      pub asked-is : {a u v : Bool} → a ≡ (u && v) → u ≡ asks (r .asked) (told .mode) (told .typed) (told .assay) → v ≡ getD (told .present) (r .section) false → a ≡ isAskedIn x D
+      pub asked-is : {a u v : Bool} → a ≡ (u && v) → u ≡ asks (r .asked) (asking .mode) (asking .typed) (asking .assay) → v ≡ getD (asking .present) (r .section) false → a ≡ isAskedIn x D
       unfolding isAskedIn
       asked-is p q t = p ∙ rw (q, t, whole .assay, d .asked, d .section)
 

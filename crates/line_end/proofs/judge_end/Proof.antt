@@ -1,4 +1,4 @@
--- `line_end::judge_end` meets its contract: what is told of the file is what was found of it. Assumes nothing.
+-- `line_end::judge_end` meets its contract: what is asking of the file is what was found of it. Assumes nothing.
 use borrow.Author.Needs.{needs}
 use native.Mathlib.Omega.{arith}
 use mathlib.Core.Path.{_≡_, sym}

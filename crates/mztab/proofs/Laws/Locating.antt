@@ -1,10 +1,11 @@
 -- Places that answer what is sought, by the tests that lead to each answer. Assumes nothing.
-use mathlib.Core.Path.{_≡_, ap, _∙_}
+use mathlib.Core.Path.{_≡_, refl, ap, _∙_}
 use mathlib.Core.Bool.{true, false}
+use mathlib.Core.List.{[], _∷_}
 use mathlib.Core.Option.{none, some}
-use Prim.Native.Nat.{ℕ, _+_, _-_, _≤_, _<_}
+use Prim.Native.Nat.{ℕ, zero, suc, _+_, _-_, _≤_, _<_}
 use native.Mathlib.Omega.{arith}
-use lib.ListN.{length, drop, length-take, length-drop}
+use lib.ListN.{length, take, drop, length-take, length-drop}
 use borrow.Author.Tests.{lt-ltb, le-ltb, eq-eqb, ne-eqb}
 use Rattle.numbers.specs.Numbers.{TOO-LONG, NO-SECTION, NO-ROW, NO-CELL}
 use Rattle.text_bytes.specs.Bytes.{Bytes, is}
@@ -109,3 +110,12 @@ module _ {f : Bytes} {s : Sought} {p : Place} (h : Placed f s p) where
   pub placed-read : (v : Value) → v ≡ valueOf (part (p .start) (p .end) f) → p .number ≡ 0 → told (p .number) (record { line = p .line; cell = p .cell; value = v }) ≡ readingOf s
   unfolding readingOf
   placed-read v e z = rw (e, h .views, h .on, h .at, ← h .says, eq-eqb (p .number) 0 z)
+
+-- a part is as many bytes as it has of those from its start on
+part-own : (n : ℕ) (l : Bytes) → take n l ≡ take (length (take n l)) l
+part-own zero l = refl
+part-own (suc n) [] = refl
+part-own (suc n) (x ∷ xs) = ap (λ (t : Bytes). x ∷ t) (part-own n xs)
+
+pub part-stands : {f : Bytes} {s : Sought} {p : Place} → Placed f s p → part (p .start) (p .end) f ≡ take (length (part (p .start) (p .end) f)) (drop (s .start) f)
+part-stands {f} {s} {p} h = part-own (p .end - p .start) (drop (p .start) f) ∙ ap (λ (a : ℕ). take (length (part (p .start) (p .end) f)) (drop a f)) (h .from)
