@@ -1,4 +1,4 @@
--- `book_names::closing`: the test decides. Assumes nothing.
+-- `book_names::closing`: whether the byte behind the digits is a closing bracket is what the definition asks. Assumes nothing.
 use borrow.Author.Needs.{needs}
 use mathlib.Core.Path.{sym, _∙_}
 use lib.ListN.{getD}

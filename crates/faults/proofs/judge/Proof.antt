@@ -1,5 +1,5 @@
 -- `faults::judge` meets its contract: a walk of its MIR, by hand, with a loop. The book is made once and lent to `begin`, and in each turn to `next`, with the two arrays that it writes, each for a lifetime that is made for the call; then the places and, again, the list are lent to `copy_out`.
--- The invariant says what is still to be done: what is still to come in the state, laid over the list as it is now, is the list that the contract names (`Laws/Ending.antt`). All that the proof knows of `book`, `begin`, `next` and `copy_out` is that each meets its contract.
+-- The invariant says what is still to be done: what is still to come in the state, laid over the list as it is now, is the list that the contract names (`Laws/Closing.antt`). All that the proof knows of `book`, `begin`, `next` and `copy_out` is that each meets its contract.
 -- Assumes nothing.
 use mathlib.Core.Path.{_≡_, refl, sym, _∙_, ap, subst}
 use Prim.Native.Nat.{ℕ, _<_, _≤_, _^_, _*_, _+_}

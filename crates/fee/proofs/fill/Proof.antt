@@ -1,4 +1,4 @@
--- `fee::fill` meets its contract: a law for each return. Assumes nothing.
+-- `fee::fill` meets its contract: over 64 places are refused before any is lent, else what `split_places` leaves is handed on. Assumes nothing.
 use mathlib.Core.Path.{sym}
 use native.Mathlib.Omega.{arith}
 use borrow.Author.Needs.{needs}

@@ -1,4 +1,4 @@
--- `line_head_names::last_index` meets its contract: the same test. Assumes nothing.
+-- `line_head_names::last_index` meets its contract: the index is the second where there is one, and else the first. Assumes nothing.
 use borrow.Author.Tests.{eq-eqb, ne-eqb}
 use Rattle.line_head_names.proofs.last_index.Statement.{statement}
 use Rattle.line_head_names.proofs.last_index.Tie as tie

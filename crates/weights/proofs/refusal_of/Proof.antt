@@ -1,4 +1,4 @@
--- `weights::refusal_of` meets its contract: a law for each return. Assumes nothing.
+-- `weights::refusal_of` meets its contract: the refusals are tried in the order of the table, and each test is that of the definition. Assumes nothing.
 use borrow.Author.Needs.{needs}
 use Rattle.weights.proofs.Laws.Refusing.{refuse-long, refuse-broken, refuse-places, refuse-none}
 use Rattle.weights.proofs.refusal_of.Statement.{statement}

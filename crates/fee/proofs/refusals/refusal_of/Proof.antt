@@ -1,4 +1,4 @@
--- `fee::refusals::refusal_of` meets its contract: a law for each return. Assumes nothing.
+-- `fee::refusals::refusal_of` meets its contract: the refusals are tried in the order of the table, and each test is that of the definition. Assumes nothing.
 use mathlib.Core.Path.{_≡_, sym, _∙_}
 use mathlib.Core.Bool.{true, false}
 use borrow.Author.Needs.{needs}

@@ -1,4 +1,4 @@
--- `scan::state::higher` meets its contract: the same comparison. Assumes nothing.
+-- `scan::state::higher` meets its contract: the comparison of the code is that of the definition. Assumes nothing.
 use borrow.Author.Tests.{lt-ltb, le-ltb}
 use Rattle.scan.proofs.state.higher.Statement.{statement}
 use Rattle.scan.proofs.state.higher.Tie as tie
