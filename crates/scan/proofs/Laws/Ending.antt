@@ -10,7 +10,7 @@ use native.Mathlib.Omega.{arith, by-contra}
 use lib.Dec.{eqb, leb, ltb}
 use lib.ListN.{length, getD, drop, length-map, List·getD-map}
 use borrow.Author.Tests.{eq-eqb, ne-eqb, eqb-true, eqb-false, le-leb, lt-ltb, leb-true, ltb-true}
-use Rattle.text_bytes.specs.Bytes.{Bytes, bytes, any, all}
+use Rattle.text_bytes.specs.Bytes.{Bytes, bytes, any, all, count}
 use Rattle.text_bytes.proofs.Laws.Same.{same-equal}
 use Rattle.text_bytes.proofs.Laws.Tests.{absurd-bool, and-both}
 use Rattle.text.specs.Lines.{cell, isField}
