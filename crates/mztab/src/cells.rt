@@ -58,12 +58,15 @@ pub fn locate(file: &[u8], section: u32, row: u32, column: u32) -> Place
     let Part::At(from, to) = column_of(&file[a..e], column) else {
         return refused(NO_CELL);
     };
+    let cell = column + 1;
+    let start = a + from;
+    let end = a + to;
     Place {
         number: 0,
         line,
-        cell: column + 1,
-        start: a + from,
-        end: a + to,
+        cell,
+        start,
+        end,
     }
 }
 

@@ -108,19 +108,19 @@ returns-4 c =
     (column-missing (text-of at-line) (args .column) (at-cell .column-of .result) (c .before .enum-told2 .given .1) (at-cell .column-of .ensures)))
 
 -- the cell's number is at most one more than the line's bytes
-add-t22 : tie.Need-add-t22
+add-cell : tie.Need-add-cell
 unfolding text-of
-add-t22 c =
+add-cell c =
     let at-line = c .before .before .before .before .before .before in
     let args = at-line .before .before .before .before .before .before .before .before .before .args in
     let fits = at-line .before .before .before .before .before .before .before .if1 .left in
     omega (arith, column-below (text-of at-line) (args .column) _ (cell-here (c .before) .3), line-length at-line, fits)
 
-add-t11 : tie.Need-add-t11
-add-t11 c = omega (arith, cell-here (c .before), line-length (c .before .before .before .before .before .before))
+add-start : tie.Need-add-start
+add-start c = omega (arith, cell-here (c .before), line-length (c .before .before .before .before .before .before))
 
-add-t23 : tie.Need-add-t23
-add-t23 c = omega (arith, cell-here (c .before), line-length (c .before .before .before .before .before .before))
+add-end : tie.Need-add-end
+add-end c = omega (arith, cell-here (c .before), line-length (c .before .before .before .before .before .before))
 
 returns-5 : tie.Need-returns-5
 unfolding text-of
@@ -159,7 +159,7 @@ locate-spec =
     (λ c. search needs)
     (λ c κs. search needs)
     returns-4
-    add-t22
-    add-t11
-    add-t23
+    add-cell
+    add-start
+    add-end
     returns-5)
