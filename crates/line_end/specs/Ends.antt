@@ -1,11 +1,11 @@
 -- What is wanted at the end, as the code goes through it. No public contract cites this file. Assumes nothing.
-use Prim.Native.Nat.{ℕ, _+_, _-_, _≤_, _<_}
+use Prim.Native.Nat.{ℕ, _+_, _-_}
 use mathlib.Core.Path.{_≡_}
 use mathlib.Core.Bool.{Bool, false, not, _&&_}
 use mathlib.Core.List.{List, [], _∷_}
 use lib.ListN.{length, getD}
 use Rattle.value_references.specs.Index.{MOST}
-use Rattle.book.specs.Book.{SECTIONS, SLOTS}
+use Rattle.book.specs.Book.{SLOTS}
 use Rattle.book_ids.specs.Ids.{ASSAYS, Flags}
 use Rattle.rules.specs.Breaks.{Break, breakAt, when}
 use Rattle.scan.specs.Machine.{Seen, isMarked}

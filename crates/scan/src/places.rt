@@ -1,5 +1,4 @@
 // The lent places that breaks are put into, three for each: rule, line, cell.
-ghost use mathlib.Core.Path.{_≡_};
 ghost use Prim.Native.Nat.{_+_, _≤_};
 ghost use Rattle.rules.specs.Breaks.{breakAt, when};
 ghost use Rattle.scan.specs.Places.{CEILING, lent, Puts};

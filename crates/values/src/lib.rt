@@ -7,7 +7,7 @@ use value_references::index::byte_at;
 use value_references::index::digits_end;
 use value_references::index::is_digit;
 ghost use mathlib.Core.Path.{_≡_};
-ghost use Rattle.values.specs.Values.{areDigits, unsigned, unmarked, isE, isExponent, isUnsigned, CutAt, isText, isWhole, isDecimal, isDecimals, isWindow, isNull};
+ghost use Rattle.values.specs.Values.{areDigits, unsigned, unmarked, isE, isExponent, CutAt, isText, isWhole, isDecimal, isDecimals, isWindow, isNull};
 
 pub const MINUS: u8 = b'-';
 
@@ -20,7 +20,8 @@ pub const WHOLE_DIGITS: usize = 9;
 
 pub const EXPONENT_DIGITS: usize = 3;
 
-// Where a numeral without its minus is cut: its digits before a dot end at `whole`, those after it stand from `from` to `to`, and from there on its exponent. And whether it is a numeral.
+// Where a numeral without its minus is cut: its digits before a dot end at `whole`, those after it stand from `from` to `to`, and from there on its exponent.
+// And whether it is a numeral.
 pub struct Cuts {
     pub good: bool,
     pub whole: usize,

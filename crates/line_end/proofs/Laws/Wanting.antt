@@ -1,15 +1,14 @@
 -- What a demand wants, as it is read from the book: one thing, or one for each id of a family. Assumes nothing.
 use mathlib.Core.Path.{_≡_, refl, sym, ap, _∙_}
-use mathlib.Core.Bool.{Bool, true, false, cond, not, _&&_, _||_, and-true, or-false}
+use mathlib.Core.Bool.{Bool, true, false, not, _&&_, and-true, or-false}
 use mathlib.Core.List.{List, [], _∷_, _++_, map}
 use mathlib.Core.Logic.{inl, inr}
 use Prim.Native.Nat.{ℕ, zero, suc, _+_, _-_, _≤_, _<_}
 use native.Mathlib.Numerals.{add-one}
 use native.Mathlib.Omega.{arith}
-use lib.Dec.{eqb}
 use lib.ListN.{length, getD}
 use borrow.Author.Tests.{eq-eqb, ne-eqb}
-use Rattle.text_bytes.specs.Bytes.{all, any}
+use Rattle.text_bytes.specs.Bytes.{any}
 use Rattle.text_bytes.proofs.Laws.Each.{all-at}
 use Rattle.value_references.specs.Index.{MOST}
 use Rattle.book_names.specs.Names.{startOf}

@@ -1,13 +1,13 @@
 -- Both operands are held exactly, and so the double is the value of the decimal rounded once. Assumes nothing.
 use Prim.Native.Nat.{ℕ, zero, suc, _*_, _^_, _≤_, _<_}
-use mathlib.Core.Path.{_≡_, refl, ap, sym, subst, _∙_}
-use mathlib.Core.Bool.{Bool, true, false}
+use mathlib.Core.Path.{_≡_, refl, ap, sym, _∙_}
+use mathlib.Core.Bool.{false}
 use native.Mathlib.Omega.{arith}
 use native.Mathlib.Nat.{pow-suc, mul-one, mul-comm, mul-assoc, mul-right-comm, mul-mul-mul-comm, mul-pos}
-use lib.Dec.{T, eqb}
+use lib.Dec.{T}
 use borrow.Author.Tests.{ne-eqb}
 use lib.IntN.{ℤ, pos, negsuc}
-use lib.Ieee.{Float, nan, inf, fin, binary64, mul, div, unlike, up, down, ofInt, fits, round}
+use lib.Ieee.{Float, nan, inf, fin, binary64, mul, div, up, down, ofInt, fits, round}
 use lib.Ieee.Exact.{HasValue}
 use lib.Ieee.Back.{round-whole}
 use lib.Ieee.Fits.{ofInt-fits, down-pos}

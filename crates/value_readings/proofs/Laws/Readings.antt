@@ -4,8 +4,8 @@ use mathlib.Core.Path.{_≡_, refl, ap, sym, _∙_}
 use mathlib.Core.Bool.{Bool, true, false, cond, _&&_, not, and-false}
 use mathlib.Core.List.{List, [], _∷_, _++_}
 use native.Mathlib.Omega.{arith}
-use borrow.Author.Tests.{eqb-true, le-leb, lt-leb, leb-true}
-use lib.Dec.{eqb, leb}
+use borrow.Author.Tests.{le-leb, lt-leb, leb-true}
+use lib.Dec.{leb}
 use lib.Ieee.{Float}
 use lib.IntN.{ℤ, pos, natAbs}
 use lib.ListN.{length, take, drop, getD, length-append}
@@ -15,7 +15,7 @@ use Rattle.text_bytes.proofs.Laws.Same.{same-equal}
 use Rattle.text_bytes.proofs.Laws.Tests.{absurd-bool, and-left, and-right}
 use Rattle.text_bytes.proofs.Laws.Each.{to-end}
 use Rattle.value_references.specs.Index.{isDigit, number}
-use Rattle.values.specs.Values.{areDigits, unsigned, unmarked, dotted, isE, mantissa, exponent, isExponent, isNull, isWhole, isUnsigned, isNumeral, beforeDot, afterDot, CutAt}
+use Rattle.values.specs.Values.{areDigits, unsigned, unmarked, dotted, isE, mantissa, exponent, isExponent, isNull, isWhole, isUnsigned, isNumeral, CutAt}
 use Rattle.values.specs.declared.Cuts.{Cuts}
 use Rattle.value_readings.specs.Reading.{hasMinus, signed, double, exponentOf, scaleOf, decimalOf, isShort, numeralOf, valueOf}
 use Rattle.value_readings.specs.declared.Value.the-variants.{Missing, Whole, Decimal, Infinite, NotANumber, LongDecimal, Text}

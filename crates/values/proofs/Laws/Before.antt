@@ -1,6 +1,6 @@
 -- Where no letter of an exponent stands, a numeral is what it was before exponents: digits, or digits on each side of one dot. Assumes nothing.
-use mathlib.Core.Path.{_≡_, refl, ap, _∙_}
-use mathlib.Core.Bool.{Bool, true, false, _||_, and-true}
+use mathlib.Core.Path.{_≡_, refl, ap}
+use mathlib.Core.Bool.{false, and-true}
 use mathlib.Core.List.{List, [], _∷_}
 use Prim.Native.Nat.{ℕ}
 use Rattle.text_bytes.specs.Bytes.{any, splitOn}

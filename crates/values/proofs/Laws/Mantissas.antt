@@ -1,23 +1,21 @@
 -- A numeral without its minus is told from left to right: digits, a dot with digits after it, and what may end it. Assumes nothing.
 use mathlib.Core.Path.{_≡_, refl, ap, sym, subst, _∙_}
-use mathlib.Core.Bool.{Bool, true, false, cond, _&&_, not}
+use mathlib.Core.Bool.{Bool, true, false, cond, _&&_, not, and-true, and-false}
 use mathlib.Core.List.{List, [], _∷_, _++_}
 use Prim.Native.Nat.{ℕ, zero, suc, _+_, _-_, _≤_, _<_}
 use native.Mathlib.Omega.{arith}
-use borrow.Author.Tests.{eq-eqb, ne-eqb, leb-true, lt-ltb, le-ltb, lt-leb, le-leb}
+use borrow.Author.Tests.{ne-eqb, leb-true, lt-ltb, le-ltb, lt-leb, le-leb}
 use lib.Dec.{eqb, leb, ltb}
 use lib.ListN.{length, take, drop, getD, length-drop}
 use lib.Seq.{drop-drop, getD-drop}
-use mathlib.Core.Bool.{and-true, and-false}
 use Rattle.text_bytes.specs.Bytes.{isEmpty, all, onFirst, splitOn}
 use Rattle.text_bytes.specs.Places.{part}
-use Rattle.text_bytes.proofs.Laws.Tests.{absurd-bool, and-both, and-left, and-right}
+use Rattle.text_bytes.proofs.Laws.Tests.{absurd-bool, and-left, and-right}
 use Rattle.text_bytes.proofs.Laws.Pieces.{drop-step}
 use Rattle.text_bytes.proofs.Laws.Each.{to-end}
 use Rattle.value_references.specs.Index.{isDigit, digits}
 use Rattle.value_references.proofs.Laws.Indices.{present}
-use Rattle.values.specs.Values.{areDigits, unmarked, dotted, isE, mantissa, exponent, isExponent, isUnsigned, isText, beforeDot, afterDot, CutAt}
-use Rattle.values.specs.declared.Cuts.{Cuts}
+use Rattle.values.specs.Values.{areDigits, unmarked, dotted, isE, mantissa, exponent, isExponent, isUnsigned, isText, CutAt}
 use Rattle.values.proofs.Laws.Digits.{text-is, after-dot}
 
 -- what stands after the digits at the front of a text
