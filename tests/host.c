@@ -231,21 +231,18 @@ static struct want digits(size_t n) {
     return want(5, 21, 3, 1);
 }
 
-static struct want decimals(size_t n) {
+/* One cell with a list of decimals, this text over and over. */
+static struct want list_of(const char *text, size_t n) {
     begin(n);
     put("PEH\tsequence\taccession\tcharge\tmass_to_charge\tretention_time\nPEP\ta\tb\t1\t1.5\t");
-    over("1|", n - 2);
+    over(text, n - 2);
     fill('1', n);
     return want(5, 21, 3, 1);
 }
 
-static struct want exponent_list(size_t n) {
-    begin(n);
-    put("PEH\tsequence\taccession\tcharge\tmass_to_charge\tretention_time\nPEP\ta\tb\t1\t1.5\t");
-    over("1.5E-05|", n - 1);
-    fill('1', n);
-    return want(5, 21, 3, 1);
-}
+static struct want decimals(size_t n) { return list_of("1|", n); }
+
+static struct want exponent_list(size_t n) { return list_of("1.5E-05|", n); }
 
 /* No decimal: it has an exponent after its first. */
 static struct want exponents_in_one(size_t n) {

@@ -16,6 +16,9 @@ pub const PLUS: u8 = b'+';
 // The dot, as `byte_at` answers it.
 const DOT: usize = 46;
 
+// Digits are one at least.
+const FEWEST_DIGITS: usize = 1;
+
 pub const WHOLE_DIGITS: usize = 9;
 
 pub const EXPONENT_DIGITS: usize = 3;
@@ -47,7 +50,7 @@ pub fn is_null(s: &[u8]) -> bool
 pub fn is_digits(s: &[u8]) -> bool
     ensures { λ r. ⌜ r ≡ areDigits (now (s .entry)) ⌝ }
 {
-    if s.len() == 0 {
+    if s.len() < FEWEST_DIGITS {
         return false;
     }
     let mut i = 0;
