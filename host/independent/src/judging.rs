@@ -1,7 +1,9 @@
-//! "The 21 rules". Each rule has a function named after it.
+//! "The 21 rules", and rule 22 of request 2026-01. Each rule has a function named
+//! after it.
 
 use std::collections::HashSet;
 
+use crate::demands::{self, Field, Of, Sort, Type};
 use crate::kinds;
 use crate::lines::{cells, code, key_and_value, lines, Code};
 use crate::names::{self, Family, Kind, Known};
@@ -24,7 +26,7 @@ pub fn judge(file: &[u8]) -> Option<Vec<Break>> {
     if file.len() > LIMIT {
         return None;
     }
-    let ids = Ids::declared_in(file);
+    let whole = Whole::of(file);
     let mut above = Above::default();
     let mut breaks = Vec::new();
     let mut number = 0;
@@ -34,16 +36,15 @@ pub fn judge(file: &[u8]) -> Option<Vec<Break>> {
             line: number,
             breaks: &mut breaks,
         };
-        judge_line(line, &ids, &mut above, &mut report);
+        judge_line(line, &whole, &mut above, &mut report);
     }
-    // Rule 21 is reported at "line N + 1 of an N-line file".
-    rule_21(
-        &above,
-        &mut Report {
-            line: number + 1,
-            breaks: &mut breaks,
-        },
-    );
+    // Rules 21 and 22 are reported at "line N + 1 of an N-line file".
+    let mut report = Report {
+        line: number + 1,
+        breaks: &mut breaks,
+    };
+    rule_21(&above, &mut report);
+    rule_22(&whole, &above, &mut report);
     breaks.sort();
     breaks.dedup();
     Some(breaks)
@@ -63,6 +64,27 @@ impl Report<'_> {
             cell,
             rule,
         });
+    }
+}
+
+/// What all lines of the file say together, the late ones too.
+struct Whole {
+    ids: Ids,
+    /// Its mode and its type, where it has both.
+    sort: Option<Sort>,
+}
+
+impl Whole {
+    fn of(file: &[u8]) -> Whole {
+        Whole {
+            ids: Ids::declared_in(file),
+            sort: demands::sort_of(file),
+        }
+    }
+
+    fn is_quantification(&self) -> bool {
+        self.sort
+            .map_or(false, |sort| sort.kind == Type::Quantification)
     }
 }
 
@@ -90,6 +112,12 @@ impl Ids {
     fn has(&self, family: Family, index: u32) -> bool {
         self.set.contains(&(family, index))
     }
+
+    /// The indices that are declared in a family.
+    fn of(&self, family: Family) -> impl Iterator<Item = u32> + '_ {
+        let of_family = move |id: &&(Family, u32)| id.0 == family;
+        self.set.iter().filter(of_family).map(|id| id.1)
+    }
 }
 
 /// What the lines above the one now judged hold.
@@ -101,6 +129,8 @@ struct Above<'a> {
     table_line: bool,
     /// The sections that have a header.
     headers: [bool; 4],
+    /// The sections that have a header or a row.
+    sections: [bool; 4],
     /// The nearest header.
     nearest: Option<Header>,
     /// The five pieces of required metadata.
@@ -117,14 +147,14 @@ struct Header {
     breaks_11: bool,
 }
 
-fn judge_line<'a>(line: &'a [u8], ids: &Ids, above: &mut Above<'a>, report: &mut Report) {
+fn judge_line<'a>(line: &'a [u8], whole: &Whole, above: &mut Above<'a>, report: &mut Report) {
     match code(line) {
         // "An empty line, and a line whose cell 1 is exactly COM, is judged by
         // no rule."
         Code::Empty | Code::Comment => return,
         Code::Unknown => rule_2(report),
-        Code::Metadata => judge_metadata(line, ids, above, report),
-        Code::Header(section) => judge_header(section, line, ids, above, report),
+        Code::Metadata => judge_metadata(line, &whole.ids, above, report),
+        Code::Header(section) => judge_header(section, line, whole, above, report),
         Code::Row(section) => judge_row(section, line, above, report),
     }
     rule_1(line, report);
@@ -271,7 +301,7 @@ fn is_run_location(key: &[u8]) -> bool {
     }
 }
 
-fn judge_header(section: u32, line: &[u8], ids: &Ids, above: &mut Above, report: &mut Report) {
+fn judge_header(section: u32, line: &[u8], whole: &Whole, above: &mut Above, report: &mut Report) {
     rule_9(section, above, report);
     rule_10(section, above, report);
     let count = cells(line).count();
@@ -290,11 +320,11 @@ fn judge_header(section: u32, line: &[u8], ids: &Ids, above: &mut Above, report:
         rule_12(&known, report);
         rule_13(&columns, report);
         rule_14(&columns, report);
-        rule_15(&known, ids, report);
-        rule_16(section, &columns, report);
+        rule_15(&known, &whole.ids, report);
+        rule_16(section, &columns, whole, report);
         kinds = known.into_iter().map(kind_of_column).collect();
     }
-    above.table_line = true;
+    note_section(section, above);
     above.headers[section as usize - 1] = true;
     above.nearest = Some(Header {
         section,
@@ -302,6 +332,12 @@ fn judge_header(section: u32, line: &[u8], ids: &Ids, above: &mut Above, report:
         kinds,
         breaks_11,
     });
+}
+
+/// Notes a header or a row of a section.
+fn note_section(section: u32, above: &mut Above) {
+    above.table_line = true;
+    above.sections[section as usize - 1] = true;
 }
 
 /// rule 9: "an earlier line is a header of the same section"
@@ -368,10 +404,17 @@ fn rule_15(known: &[Option<Known>], ids: &Ids, report: &mut Report) {
     }
 }
 
-/// rule 16: "one required column or more absent"
-fn rule_16(section: u32, columns: &[&[u8]], report: &mut Report) {
+/// rule 16: "one required column or more absent"; "In Quantification a peptide
+/// header needs" three columns more, "under rule 16".
+fn rule_16(section: u32, columns: &[&[u8]], whole: &Whole, report: &mut Report) {
     let absent = |name: &&str| !columns.contains(&name.as_bytes());
-    if names::required(section).iter().any(absent) {
+    let mut broken = names::required(section).iter().any(absent);
+    if whole.is_quantification() {
+        broken |= names::required_in_quantification(section)
+            .iter()
+            .any(absent);
+    }
+    if broken {
         report.add(1, 16);
     }
 }
@@ -385,7 +428,7 @@ fn kind_of_column(column: Option<Known>) -> Kind {
 }
 
 fn judge_row(section: u32, line: &[u8], above: &mut Above, report: &mut Report) {
-    above.table_line = true;
+    note_section(section, above);
     match &above.nearest {
         // "17 stops 18 to 20"
         None => rule_17(report),
@@ -463,5 +506,47 @@ fn rule_21(above: &Above, report: &mut Report) {
         if !there {
             report.add(place + 1, 21);
         }
+    }
+}
+
+/// rule 22: "A missing field breaks the new rule 22 at line N + 1". Missing is,
+/// as for rule 21, a key that no three-cell MTD line has. "without both [mode
+/// and type], nothing is added".
+fn rule_22(whole: &Whole, above: &Above, report: &mut Report) {
+    let sort = match whole.sort {
+        Some(sort) => sort,
+        None => return,
+    };
+    let some_assay = whole.ids.of(Family::Assay).next().is_some();
+    for field in &demands::FIELDS {
+        if !field.asked.of(sort, some_assay) {
+            continue;
+        }
+        match field.of {
+            Of::Each(family) => each_has(field, family, whole, above, report),
+            Of::TheFile => some_line_has(field, above, report),
+            Of::Section(section) if above.sections[section as usize - 1] => {
+                some_line_has(field, above, report)
+            }
+            Of::Section(_) => {}
+        }
+    }
+}
+
+/// A field of an id family: "plus the index".
+fn each_has(field: &Field, family: Family, whole: &Whole, above: &Above, report: &mut Report) {
+    for index in whole.ids.of(family) {
+        let key = field.key.replace("[n]", &format!("[{index}]"));
+        if !above.keys.contains(key.as_bytes()) {
+            report.add((field.cell + index) as usize, 22);
+        }
+    }
+}
+
+/// A field of no id family: "index 0 [...] where any one line will do".
+fn some_line_has(field: &Field, above: &Above, report: &mut Report) {
+    let serves = |key: &&[u8]| names::fits(field.key, key).is_some();
+    if !above.keys.iter().any(serves) {
+        report.add(field.cell as usize, 22);
     }
 }

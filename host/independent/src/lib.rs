@@ -6,6 +6,7 @@
 #![forbid(unsafe_code)]
 
 pub mod cases;
+pub mod demands;
 pub mod fee;
 pub mod judging;
 pub mod kinds;

@@ -256,6 +256,16 @@ pub fn required(section: u32) -> &'static [&'static str] {
     }
 }
 
+/// Request 2026-01: "In Quantification a peptide header needs modifications,
+/// retention_time and retention_time_window too". The columns that a header of
+/// the section must have in such a file beside those of every file.
+pub fn required_in_quantification(section: u32) -> &'static [&'static str] {
+    match section {
+        2 => &["modifications", "retention_time", "retention_time_window"],
+        _ => &[],
+    }
+}
+
 /// Every metadata key with its kind, in the order of the lists.
 pub fn keys() -> impl Iterator<Item = (&'static str, Kind)> {
     let of_kind = |(kind, patterns): &'static (Kind, &[&'static str])| {
@@ -340,7 +350,7 @@ fn section_letter(section: u32) -> Option<char> {
 
 /// The indices of a name that is as the pattern says, with an index for each
 /// `[n]`; 0 for an index that the pattern has not.
-fn fits(pattern: &str, name: &[u8]) -> Option<(u32, u32)> {
+pub fn fits(pattern: &str, name: &[u8]) -> Option<(u32, u32)> {
     if pattern.as_bytes().first() != name.first() {
         return None;
     }

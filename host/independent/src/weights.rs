@@ -76,6 +76,8 @@ mod tests {
     const HEAD: &str = "MTD\tmzTab-version\t1.0.0\nMTD\tmzTab-mode\tSummary\n\
         MTD\tmzTab-type\tQuantification\nMTD\tdescription\td\n\
         MTD\tms_run[1]-location\tfile:///a.mzML\nMTD\tstudy_variable[2]-description\tb\n\
+        MTD\tfixed_mod[1]\t[,,f,]\nMTD\tvariable_mod[1]\t[,,v,]\n\
+        MTD\tprotein_search_engine_score[1]\t[,,s,]\nMTD\tprotein-quantification_unit\t[,,u,]\n\
         PRH\taccession\tdescription\tprotein_abundance_study_variable[2]\tdatabase\tsearch_engine\n";
 
     #[test]

@@ -1,8 +1,10 @@
 //! The cases written by hand against what the library says.
 
+use std::collections::BTreeSet;
+
 use independent::cases::{self, cells, fee, judging, kinds, names, weights as weighing};
 use independent::{add, cell, cell_or, judge, printing, read, reading, rows, split, weights};
-use independent::{Break, Reading, LIMIT};
+use independent::{demands, Break, Reading, LIMIT};
 
 fn show(file: &[u8]) -> String {
     String::from_utf8_lossy(file).replace('\t', "→")
@@ -48,12 +50,44 @@ rules! {
     rule_13 "rule 13:" 10;
     rule_14 "rule 14:" 8;
     rule_15 "rule 15:" 11;
-    rule_16 "rule 16:" 20;
+    rule_16 "rule 16:" 40;
     rule_17_and_17_stops_18_to_20 "rule 17:" 11;
     rule_18_and_18_stops_19_and_20 "rule 18:" 8;
     rule_19_and_19_stops_20_at_its_cell "rule 19:" 8;
     rule_20 "rule 20:" 200;
     rule_21 "rule 21:" 13;
+    rule_22 "rule 22:" 60;
+}
+
+/// The fields of rule 22 are known keys, and their cells hundreds in order.
+#[test]
+fn the_fields_of_rule_22() {
+    let keys: Vec<&str> = independent::names::keys().map(|(key, _)| key).collect();
+    for (k, field) in demands::FIELDS.iter().enumerate() {
+        assert!(keys.contains(&field.key), "{}", field.key);
+        assert_eq!(field.cell as usize, 100 * (k + 1), "{}", field.key);
+        let (at, index) = demands::at_cell(field.cell + 64).expect("a field");
+        assert_eq!((at.key, index), (field.key, 64));
+    }
+    assert!(demands::at_cell(99).is_none() && demands::at_cell(1600).is_none());
+}
+
+/// Each field of rule 22 is missing in some case, in each mode and type that
+/// asks for it.
+#[test]
+fn every_field_is_missing_somewhere() {
+    let mut missing = BTreeSet::new();
+    for case in judging::all() {
+        let sort = demands::sort_of(&case.file).map(|sort| (sort.mode, sort.kind));
+        for (_, cell, rule) in case.breaks {
+            if rule == 22 {
+                missing.insert(format!("{} {sort:?}", cell / 100));
+            }
+        }
+    }
+    // 400 in two combinations, 1100 in one, the scores and modifications in
+    // four, the other seven in two.
+    assert_eq!(missing.len(), 2 + 1 + 6 * 4 + 7 * 2, "{missing:?}");
 }
 
 #[test]
@@ -66,7 +100,7 @@ fn every_file_has_its_breaks() {
 #[test]
 fn every_rule_is_broken_and_kept_somewhere() {
     let all = judging::all();
-    for rule in 1..=21 {
+    for rule in 1..=22 {
         let broken = all
             .iter()
             .filter(|c| c.breaks.iter().any(|b| b.2 == rule))
@@ -584,19 +618,24 @@ fn the_limit_of_the_program() {
     assert!(printing::verdict(&longer).starts_with("FAULTS 5\n65538 1 21\n"));
 }
 
+/// Seven lines of metadata in which nothing is wrong.
+fn fine() -> Vec<u8> {
+    judging::all()
+        .into_iter()
+        .find(|c| c.label == "the five and what rule 22 asks for")
+        .unwrap()
+        .file
+}
+
 #[test]
 fn what_the_program_prints() {
     let example = &judging::all()[0];
     assert_eq!(example.label, "the paper's example");
     assert_eq!(
         printing::judged(&example.file),
-        "FAULTS 3\n7 6 15\n8 6 19\n9 2 20\n"
+        "FAULTS 6\n7 6 15\n8 6 19\n9 2 20\n10 500 22\n10 900 22\n10 1000 22\n"
     );
-    let fine = judging::all()
-        .into_iter()
-        .find(|c| c.label == "the five alone")
-        .unwrap();
-    assert_eq!(printing::judged(&fine.file), "OK\n");
+    assert_eq!(printing::judged(&fine()), "OK\n");
 }
 
 #[test]
@@ -666,11 +705,7 @@ fn stand_ins() {
 /// Every byte value alone as one more cell of a metadata line, rule 1.
 #[test]
 fn rule_1_over_all_bytes() {
-    let head = judging::all()
-        .into_iter()
-        .find(|c| c.label == "the five alone")
-        .unwrap()
-        .file;
+    let head = fine();
     for byte in 0..=255u8 {
         let file = [head.as_slice(), b"MTD\ttitle\ta", &[byte], b"b\n"].concat();
         let found: Vec<_> = judge(&file)
@@ -679,9 +714,9 @@ fn rule_1_over_all_bytes() {
             .map(|b| (b.line, b.cell, b.rule))
             .collect();
         let expected: Vec<(u32, u32, u32)> = match byte {
-            9 => vec![(6, 1, 3)],
-            10 => vec![(7, 1, 2)],
-            0..=31 | 127 => vec![(6, 3, 1)],
+            9 => vec![(8, 1, 3)],
+            10 => vec![(9, 1, 2)],
+            0..=31 | 127 => vec![(8, 3, 1)],
             _ => vec![],
         };
         assert_eq!(found, expected, "byte {byte}");

@@ -61,8 +61,12 @@ fn value_everywhere(value: &[u8]) -> Vec<u8> {
     file
 }
 
+/// Of such files rule 22 asks for the most.
+const COMPLETE_QUANTIFICATION: &[u8] =
+    b"MTD\tmzTab-mode\tComplete\nMTD\tmzTab-type\tQuantification\n";
+
 fn as_keys(names: &[Vec<u8>]) -> Vec<u8> {
-    let mut file = Vec::new();
+    let mut file = COMPLETE_QUANTIFICATION.to_vec();
     for name in names {
         line(&mut file, &[b"MTD", name, b"[,,a,]"]);
     }
@@ -70,7 +74,8 @@ fn as_keys(names: &[Vec<u8>]) -> Vec<u8> {
 }
 
 fn as_columns(header: &[u8], names: &[Vec<u8>]) -> Vec<u8> {
-    let mut file = b"MTD\tassay[3]-ms_run_ref\tms_run[5]\nMTD\tms_run[5]-location\ta\n".to_vec();
+    let mut file = COMPLETE_QUANTIFICATION.to_vec();
+    file.extend(b"MTD\tassay[3]-ms_run_ref\tms_run[5]\nMTD\tms_run[5]-location\ta\n");
     let mut cells: Vec<&[u8]> = vec![header];
     cells.extend(names.iter().map(Vec::as_slice));
     line(&mut file, &cells);

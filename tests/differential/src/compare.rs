@@ -2,6 +2,7 @@
 
 use std::collections::BTreeMap;
 
+use independent::demands;
 use independent::lines::{self, Code};
 use independent::Reading;
 use mztab::{raw, Break, Value};
@@ -28,7 +29,10 @@ pub struct Tried {
     pub cases: BTreeMap<u32, u64>,
     pub powers: BTreeMap<i32, u64>,
     /// How many breaks of each rule.
-    pub rules: [u64; 22],
+    pub rules: [u64; 23],
+    /// How many breaks of rule 22 by the field, and how many accepted files by mode and type.
+    pub fields: BTreeMap<u32, u64>,
+    pub sorts: BTreeMap<String, u64>,
     /// Accepted files that have a weight.
     pub weighed: u64,
     /// How many splits by the number that was answered.
@@ -42,6 +46,21 @@ impl Tried {
         *self.cases.entry(case).or_default() += 1;
         if let Reading::Decimal { .. } = reading {
             *self.powers.entry(power).or_default() += 1;
+        }
+    }
+
+    fn note_breaks(&mut self, file: &[u8], breaks: &[independent::Break]) {
+        self.breaks += breaks.len() as u64;
+        for at in breaks {
+            self.rules[at.rule as usize] += 1;
+            if let (22, Some((field, _))) = (at.rule, demands::at_cell(at.cell)) {
+                *self.fields.entry(field.cell).or_default() += 1;
+            }
+        }
+        if breaks.is_empty() {
+            self.accepted += 1;
+            let sort = format!("{:?}", demands::sort_of(file));
+            *self.sorts.entry(sort).or_default() += 1;
         }
     }
 }
@@ -82,11 +101,7 @@ fn judging(file: &[u8], draws: &mut Draws, tried: &mut Tried) -> Result<(), Stri
             places.len()
         ));
     }
-    tried.accepted += u64::from(expected.is_empty());
-    tried.breaks += expected.len() as u64;
-    for at in expected {
-        tried.rules[at.rule as usize] += 1;
-    }
+    tried.note_breaks(file, &expected);
     Ok(())
 }
 

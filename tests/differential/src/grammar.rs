@@ -3,10 +3,12 @@
 use std::collections::HashSet;
 
 use independent::cases;
+use independent::demands;
 use independent::names::{self, Kind, COLUMNS};
 use mztab::format::{Section, SECTIONS};
 use samples::Draws;
 
+use crate::complete::completed;
 use crate::damage::damage;
 
 /// The letters of the sections in the independent reading's list of columns.
@@ -26,14 +28,17 @@ pub fn file(near: &[Vec<u8>], draws: &mut Draws) -> Vec<u8> {
     let mut source = Source::new(near, draws);
     if weighed {
         source.wrong = 0;
-        source.variables = source.study_variables();
-        return source.file();
+        source.complete = true;
     }
-    if source.draws.once_in(6) {
-        source.variables = source.study_variables();
+    source.sort();
+    if weighed || source.draws.once_in(6) {
+        source.variables = source.indices();
     }
     let mut file = source.file();
-    if !source.draws.once_in(3) {
+    if source.complete {
+        file = completed(&file, source.draws);
+    }
+    if !weighed && !source.draws.once_in(3) {
         damage(&mut file, draws);
     }
     file
@@ -49,32 +54,69 @@ struct Column {
 /// How often cells are `null` where nothing else is said.
 const NULL: usize = 6;
 
+/// In a file that may be wrong a metadata line in so many stands below the tables.
+const LATE: usize = 40;
+
+/// The modes and the types, and values that are none of them.
+const MODES: [&str; 2] = ["Summary", "Complete"];
+const TYPES: [&str; 2] = ["Quantification", "Identification"];
+const NEITHER: [&str; 6] = ["summary", "Complete ", "Quantitation", "null", "", "[,,x,]"];
+
 struct Source<'d> {
     near: &'d [Vec<u8>],
     draws: &'d mut Draws,
     /// One value or name in so many is drawn to be wrong; 0 for none.
     wrong: usize,
+    /// Whether what mode and type ask for is to be there.
+    complete: bool,
+    mode: &'static str,
+    kind: &'static str,
+    /// Whether the file is to declare no assay.
+    no_assay: bool,
     /// Line ends are CR LF once in so many; 0 for never.
     returns: usize,
     /// The keys so far; a file that is to be right has none twice.
     keys: HashSet<Vec<u8>>,
     /// The study variables that have abundances of proteins, in the order of their columns.
     variables: Vec<usize>,
+    /// Assays beside the first.
+    assays: Vec<usize>,
+    /// Metadata lines that stand below the tables.
+    late: Vec<[Vec<u8>; 3]>,
     out: Vec<u8>,
 }
 
 impl<'d> Source<'d> {
     fn new(near: &'d [Vec<u8>], draws: &'d mut Draws) -> Source<'d> {
         let wrong = [0, 0, 200, 40, 8][draws.below(5)];
+        let complete = !draws.once_in(3);
         let returns = [0, 0, 1, 3][draws.below(4)];
         Source {
             near,
             draws,
             wrong,
+            complete,
+            mode: "",
+            kind: "",
+            no_assay: false,
             returns,
             keys: HashSet::new(),
             variables: Vec::new(),
+            assays: Vec::new(),
+            late: Vec::new(),
             out: Vec::new(),
+        }
+    }
+
+    /// Mode and type, and the assays. A Complete Quantification file that is to be right has one: its study variables name some.
+    fn sort(&mut self) {
+        self.mode = self.draws.one_of(&MODES);
+        self.kind = self.draws.one_of(&TYPES);
+        let names_some =
+            self.wrong == 0 && (self.mode, self.kind) == ("Complete", "Quantification");
+        self.no_assay = !names_some && self.draws.once_in(4);
+        if !self.no_assay && self.draws.once_in(3) {
+            self.assays = self.indices();
         }
     }
 
@@ -82,8 +124,8 @@ impl<'d> Source<'d> {
         self.wrong > 0 && self.draws.once_in(self.wrong)
     }
 
-    /// One to 64 of them, mostly few, in any order.
-    fn study_variables(&mut self) -> Vec<usize> {
+    /// One to 64 indices, mostly few, in any order.
+    fn indices(&mut self) -> Vec<usize> {
         let mut all: Vec<usize> = (1..=64).collect();
         let count = match self.draws.below(40) {
             0 => 64,
@@ -109,6 +151,9 @@ impl<'d> Source<'d> {
         }
         if self.slips() {
             self.metadata_line();
+        }
+        for cells in std::mem::take(&mut self.late) {
+            self.end_line(&cells);
         }
         if self.draws.once_in(4) {
             self.out.pop();
@@ -137,48 +182,106 @@ impl<'d> Source<'d> {
     }
 
     fn metadata(&mut self) {
-        for (key, value) in [
-            ("mzTab-version", "1.0.0"),
-            ("mzTab-mode", "Summary"),
-            ("mzTab-type", "Identification"),
-            ("description", "Yeast check"),
-            ("ms_run[1]-location", "file:///a.mzML"),
-            ("ms_run[2]-location", "file:///b.mzML"),
-            ("assay[1]-ms_run_ref", "ms_run[1]"),
-            ("sample[1]-description", "s"),
-            ("study_variable[1]-assay_refs", "assay[1]"),
-        ] {
-            if !self.slips() {
-                self.keys.insert(key.into());
-                self.end_line(&[b"MTD".to_vec(), key.into(), value.into()]);
-            }
+        self.line_of("mzTab-version", "1.0.0");
+        self.lines_of("mzTab-mode", self.mode, &MODES);
+        self.lines_of("mzTab-type", self.kind, &TYPES);
+        self.line_of("description", "Yeast check");
+        self.line_of("ms_run[1]-location", "file:///a.mzML");
+        self.line_of("ms_run[2]-location", "file:///b.mzML");
+        self.line_of("sample[1]-description", "s");
+        if self.no_assay {
+            self.line_of("study_variable[1]-description", "v");
+        } else {
+            self.line_of("assay[1]-ms_run_ref", "ms_run[1]");
+            self.line_of("study_variable[1]-assay_refs", "assay[1]");
         }
+        self.fields();
         for _ in 0..self.draws.below(8) {
             self.metadata_line();
         }
+        for i in self.assays.clone() {
+            self.declared_assay(i);
+        }
         for i in self.variables.clone() {
-            if !self.slips() {
-                self.declared(i);
+            self.declared(i);
+        }
+    }
+
+    /// A line with the key, unless it slips or there is one. Some stand late.
+    fn line_of(&mut self, key: &str, value: &str) {
+        if !self.slips() && self.keys.insert(key.into()) {
+            self.put(key, value);
+        }
+    }
+
+    fn put(&mut self, key: &str, value: &str) {
+        let cells = [b"MTD".to_vec(), key.into(), value.into()];
+        if self.wrong > 0 && self.draws.once_in(LATE) {
+            self.late.push(cells);
+        } else {
+            self.end_line(&cells);
+        }
+    }
+
+    /// The line of the mode, or of the type. Where files may be wrong some have a second: another valid one, or one that is not valid, below
+    /// the valid one or above it.
+    fn lines_of(&mut self, key: &str, value: &str, valid: &[&str]) {
+        if self.wrong == 0 || !self.draws.once_in(6) {
+            return self.line_of(key, value);
+        }
+        self.keys.insert(key.into());
+        let other = self.draws.one_of(&NEITHER);
+        match self.draws.below(4) {
+            0 => [other, value].map(|value| self.put(key, value)),
+            1 => [value, other].map(|value| self.put(key, value)),
+            2 => [value, self.draws.one_of(valid)].map(|value| self.put(key, value)),
+            _ => [other, self.draws.one_of(&NEITHER)].map(|value| self.put(key, value)),
+        };
+    }
+
+    /// Some of the fields that rule 22 may ask for.
+    fn fields(&mut self) {
+        for field in &demands::FIELDS {
+            if self.draws.once_in(2) {
+                let (_, kind) = names::keys()
+                    .find(|(pattern, _)| *pattern == field.key)
+                    .expect("a field's key is known");
+                self.line_with(field.key, kind);
             }
         }
+    }
+
+    /// A line that declares an assay.
+    fn declared_assay(&mut self, i: usize) {
+        let (end, value) = match self.draws.below(3) {
+            0 => ("ms_run_ref", "ms_run[1]"),
+            1 => ("quantification_reagent", "[,,r,]"),
+            _ => ("sample_ref", "sample[1]"),
+        };
+        self.line_of(&format!("assay[{i}]-{end}"), value);
     }
 
     /// A line that declares a study variable.
     fn declared(&mut self, i: usize) {
         let (end, value) = match self.draws.below(3) {
             0 => ("description", "v"),
-            1 => ("assay_refs", "assay[1]"),
+            1 if !self.no_assay => ("assay_refs", "assay[1]"),
             _ => ("sample_refs", "sample[1]"),
         };
-        let key = format!("study_variable[{i}]-{end}").into_bytes();
-        if self.keys.insert(key.clone()) {
-            self.end_line(&[b"MTD".to_vec(), key, value.into()]);
-        }
+        self.line_of(&format!("study_variable[{i}]-{end}"), value);
     }
 
     fn metadata_line(&mut self) {
         let at = self.draws.below(names::keys().count());
         let (pattern, kind) = names::keys().nth(at).expect("it is below the count");
+        self.line_with(pattern, kind);
+    }
+
+    /// A line with a key of the pattern and a value of the kind.
+    fn line_with(&mut self, pattern: &str, kind: Kind) {
+        if self.is_left_out(pattern) {
+            return;
+        }
         let key = self.name(pattern);
         if self.wrong == 0 && !self.keys.insert(key.clone()) {
             return;
@@ -191,6 +294,11 @@ impl<'d> Source<'d> {
             cells.push(Vec::new());
         }
         self.end_line(&cells);
+    }
+
+    /// Whether a name names an assay in a file that declares none.
+    fn is_left_out(&self, pattern: &str) -> bool {
+        self.no_assay && pattern.contains("assay")
     }
 
     /// A name with its indices; where it slips, a name that is near another.
@@ -230,7 +338,7 @@ impl<'d> Source<'d> {
         let Section { header, row, .. } = SECTIONS[section];
         let letter = LETTERS[section];
         let mut columns: Vec<Column> = Vec::new();
-        for name in names::required(section as u32 + 1) {
+        for name in self.required(section as u32 + 1) {
             if !self.slips() {
                 let known = names::column(section as u32 + 1, name.as_bytes());
                 columns.push(Column {
@@ -242,6 +350,9 @@ impl<'d> Source<'d> {
         }
         for _ in 0..self.draws.below(8) {
             let (sections, pattern, kind) = COLUMNS[self.draws.below(COLUMNS.len())];
+            if self.is_left_out(pattern) {
+                continue;
+            }
             if sections.contains(letter) || self.slips() {
                 let name = self.name(pattern);
                 self.column(name, kind, NULL, &mut columns);
@@ -253,10 +364,24 @@ impl<'d> Source<'d> {
         self.options(&mut columns);
         let mut cells = vec![header.to_vec()];
         cells.extend(columns.iter().map(|column| column.name.clone()));
-        self.end_line(&cells);
+        // Some sections are rows alone.
+        if self.wrong == 0 || !self.draws.once_in(8) {
+            self.end_line(&cells);
+        }
         for _ in 0..self.draws.below(10) {
             self.row(row, &columns);
         }
+    }
+
+    /// The columns that a header must have. Those that Quantification alone asks for are there where the file is to be complete, and in half
+    /// of the other headers.
+    fn required(&mut self, section: u32) -> Vec<&'static str> {
+        let mut all = names::required(section).to_vec();
+        let asked = self.complete && self.kind == "Quantification";
+        if asked || self.draws.once_in(2) {
+            all.extend(names::required_in_quantification(section));
+        }
+        all
     }
 
     /// One more column, unless one of its name is there.

@@ -10,6 +10,7 @@
 
 mod by_hand;
 mod compare;
+mod complete;
 mod damage;
 mod fees;
 mod grammar;
@@ -30,6 +31,8 @@ const COUNT: u64 = 10_000;
 const MANY: u64 = 4_000;
 /// Of so many drawn files one at least must be accepted and have weights.
 const WEIGHED: u64 = 10;
+/// So many combinations of mode and type there are.
+const SORTS: usize = 4;
 /// So many cases has a reading, and such powers a decimal.
 const CASES: u32 = 7;
 const POWERS: RangeInclusive<i32> = -22..=22;
@@ -70,6 +73,7 @@ fn main() -> ExitCode {
     run.drawn(&options);
     if options.count >= MANY {
         run.every_rule();
+        run.every_demand();
         run.every_reading();
         run.every_number();
     }
@@ -224,6 +228,26 @@ impl Run {
                 println!("differential: no file breaks rule {rule}, so the files show too little");
                 self.different += 1;
             }
+        }
+    }
+
+    /// The same of the fields that rule 22 asks for, and of accepted files in each mode and type.
+    fn every_demand(&mut self) {
+        for field in &independent::demands::FIELDS {
+            if !self.tried.fields.contains_key(&field.cell) {
+                println!(
+                    "differential: no file misses `{}`, so the files show too little",
+                    field.key
+                );
+                self.different += 1;
+            }
+        }
+        if self.tried.sorts.len() < SORTS {
+            println!(
+                "differential: accepted files are {:?} alone, so the files show too little",
+                self.tried.sorts
+            );
+            self.different += 1;
         }
     }
 

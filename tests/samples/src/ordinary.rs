@@ -3,7 +3,11 @@
 use crate::Draws;
 
 const METADATA: &str = "MTD\tmzTab-version\t1.0.0\nMTD\tmzTab-mode\tSummary\nMTD\tmzTab-type\tQuantification\n\
-    MTD\tdescription\tYeast check\nMTD\tms_run[1]-location\tfile:///a.mzML\nMTD\tassay[1]-ms_run_ref\tms_run[1]\n";
+    MTD\tdescription\tYeast check\nMTD\tprotein_search_engine_score[1]\t[MS, MS:1001171, Mascot:score, ]\n\
+    MTD\tfixed_mod[1]\t[UNIMOD, UNIMOD:4, Carbamidomethyl, ]\nMTD\tvariable_mod[1]\t[UNIMOD, UNIMOD:35, Oxidation, ]\n\
+    MTD\tprotein-quantification_unit\t[PRIDE, PRIDE:0000393, Relative quantification unit, ]\n\
+    MTD\tms_run[1]-location\tfile:///a.mzML\nMTD\tassay[1]-quantification_reagent\t[MS, MS:1002038, unlabeled sample, ]\n\
+    MTD\tassay[1]-ms_run_ref\tms_run[1]\n";
 
 const HEADER: &str =
     "PRH\taccession\tdescription\ttaxid\tdatabase\tsearch_engine\tbest_search_engine_score[1]\t\
@@ -20,7 +24,7 @@ const NAMES: [&str; 8] = [
     "Transaldolase, NQM1-like",
 ];
 
-/// Six metadata lines, a protein header of eight columns and rows of some 100 bytes, then LF up to `size`: no rule is broken.
+/// Eleven metadata lines, a protein header of eight columns and rows of some 100 bytes, then LF up to `size`: no rule is broken.
 pub fn ordinary(size: usize) -> Vec<u8> {
     let mut draws = Draws::new(20_120_515);
     let mut file = Vec::with_capacity(size);

@@ -32,15 +32,24 @@ impl Case {
     }
 }
 
-/// The required metadata, and lines that declare study variables 1, 2 and 3.
+/// The required metadata, and lines that declare study variables 1, 2 and 3. Of
+/// an Identification file rule 22 asks for the least.
 const HEAD: &str = "MTD→mzTab-version→1.0\n\
     MTD→mzTab-mode→Summary\n\
-    MTD→mzTab-type→Quantification\n\
+    MTD→mzTab-type→Identification\n\
     MTD→description→Yeast\n\
-    MTD→ms_run[1]-location→a.mzML\n";
+    MTD→ms_run[1]-location→a\n\
+    MTD→fixed_mod[1]→[,,f,]\n\
+    MTD→variable_mod[1]→[,,v,]\n\
+    MTD→protein_search_engine_score[1]→[,,a,]\n";
 const VARIABLES: &str = "MTD→study_variable[1]-description→a\n\
     MTD→study_variable[2]-description→b\n\
     MTD→study_variable[3]-description→c\n";
+
+/// The scores of the other sections, which rule 22 asks for with them.
+const OTHER_SCORES: &str = "MTD→peptide_search_engine_score[1]→[,,a,]\n\
+    MTD→psm_search_engine_score[1]→[,,a,]\n\
+    MTD→smallmolecule_search_engine_score[1]→[,,a,]\n";
 
 /// The required columns of each section, and cells under them.
 const PH: &str = "PRH→accession→description→database→search_engine";
@@ -82,7 +91,7 @@ impl Cases {
         });
     }
 
-    /// The same under eight lines of metadata.
+    /// The same under eleven lines of metadata.
     fn headed(
         &mut self,
         label: &'static str,
@@ -111,7 +120,7 @@ impl Cases {
         });
     }
 
-    /// The same under eight lines of metadata.
+    /// The same under eleven lines of metadata.
     fn headed_broken(&mut self, label: &'static str, rest: impl AsRef<str>, rows: [u32; 4]) {
         let file = format!("{HEAD}{VARIABLES}{}", rest.as_ref());
         self.broken(label, file, rows);
@@ -157,7 +166,7 @@ fn without_weights(c: &mut Cases) {
     c.table("such columns and no rows", &format!("{V1}→{V2}"), &[], &[]);
     c.headed(
         "no protein section",
-        format!("{EH}\n{ER}\n{SH}\n{SR}\n{SR}\n{MH}\n{MR}\n{MR}\n{MR}\n"),
+        format!("{OTHER_SCORES}{EH}\n{ER}\n{SH}\n{SR}\n{SR}\n{MH}\n{MR}\n{MR}\n{MR}\n"),
         [0, 1, 2, 3],
         &[],
     );
@@ -349,15 +358,13 @@ fn all_64(c: &mut Cases) {
         .map(|i| format!("MTD→study_variable[{i}]-description→v\n"))
         .collect();
     let rising: Vec<u32> = (1..=64).collect();
-    let falling: Vec<u32> = (1..=64).rev().collect();
     let odd_first: Vec<u32> = (1..=64)
         .filter(|i| i % 2 == 1)
         .chain((1..=64).filter(|i| i % 2 == 0))
         .collect();
     for (label, order, rows) in [
         ("64 columns", &rising, 5),
-        ("64 columns the other way round", &falling, 4),
-        ("64 columns, the odd ones first", &odd_first, 3),
+        ("64 columns, the odd ones first", &odd_first, 4),
     ] {
         let mut file = format!("{HEAD}{declared}{PH}");
         for i in order {
@@ -375,9 +382,10 @@ fn all_64(c: &mut Cases) {
         let weights: Vec<(usize, u32)> = (1..=64).map(|i| (i as usize, rows.min(i))).collect();
         c.whole(label, file, [rows, 0, 0, 0], &weights);
     }
-    // As wide as a header may be: 256 cells, the last of them optional.
+    // As wide as a header may be: 256 cells, the last of them optional, and the
+    // 64 columns the other way round.
     let mut file = format!("{HEAD}{declared}{PH}");
-    for i in 1..=64 {
+    for i in (1..=64).rev() {
         file += &format!("→protein_abundance_study_variable[{i}]");
     }
     for k in 0..187 {
@@ -385,8 +393,8 @@ fn all_64(c: &mut Cases) {
     }
     file += &format!("\n{PR}{}{}\n", "→2".repeat(64), "→null".repeat(187));
     file += &format!("{PR}{}→8{}\n", "→null".repeat(63), "→x".repeat(187));
-    let mut weights: Vec<(usize, u32)> = (1..=63).map(|i| (i, 1)).collect();
-    weights.push((64, 2));
+    let mut weights: Vec<(usize, u32)> = (2..=64).map(|i| (i, 1)).collect();
+    weights.push((1, 2));
     c.whole("a header of 256 cells", file, [2, 0, 0, 0], &weights);
 }
 
@@ -469,7 +477,7 @@ fn other_sections(c: &mut Cases) {
     c.headed(
         "abundances of peptides and small molecules alone",
         format!(
-            "{EH}→peptide_abundance_study_variable[1]\n{ER}→1\n{ER}→2\n\
+            "{OTHER_SCORES}{EH}→peptide_abundance_study_variable[1]\n{ER}→1\n{ER}→2\n\
              {MH}→smallmolecule_abundance_study_variable[2]\n{MR}→3\n"
         ),
         [0, 2, 0, 1],
@@ -478,7 +486,7 @@ fn other_sections(c: &mut Cases) {
     c.headed(
         "abundances of every section",
         format!(
-            "{PH}→{V2}\n{PR}→1\n{PR}→null\n\
+            "{OTHER_SCORES}{PH}→{V2}\n{PR}→1\n{PR}→null\n\
              {EH}→peptide_abundance_study_variable[1]→peptide_abundance_study_variable[2]\n\
              {ER}→1→1\n{ER}→2→2\n{ER}→3→null\n\
              {SH}→opt_{V1}\n{SR}→1\n{SR}→2\n\
@@ -489,7 +497,7 @@ fn other_sections(c: &mut Cases) {
     );
     c.headed(
         "the same place in another table",
-        format!("{PH}→{V1}\n{PR}→null\n{EH}→uri\n{ER}→1\n{ER}→2\n{MH}→uri→opt_uri\n"),
+        format!("{OTHER_SCORES}{PH}→{V1}\n{PR}→null\n{EH}→uri\n{ER}→1\n{ER}→2\n{MH}→uri→opt_uri\n"),
         [1, 2, 0, 0],
         &[],
     );
@@ -505,7 +513,15 @@ fn not_accepted(c: &mut Cases) {
         "no run",
         format!(
             "{}{VARIABLES}{PH}→{V1}\n{PR}→1\n",
-            HEAD.replace("MTD→ms_run[1]-location→a.mzML\n", "")
+            HEAD.replace("MTD→ms_run[1]-location→a\n", "")
+        ),
+        [1, 0, 0, 0],
+    );
+    c.broken(
+        "no fixed_mod",
+        format!(
+            "{}{VARIABLES}{PH}→{V1}\n{PR}→1\n",
+            HEAD.replace("MTD→fixed_mod[1]→[,,f,]\n", "")
         ),
         [1, 0, 0, 0],
     );
@@ -571,7 +587,7 @@ fn not_accepted(c: &mut Cases) {
     );
     c.headed_broken(
         "a break in another section",
-        format!("{}{EH}\n{ER}→x\n", table(V1, &["1", "2"])),
+        format!("{OTHER_SCORES}{}{EH}\n{ER}→x\n", table(V1, &["1", "2"])),
         [2, 1, 0, 0],
     );
     c.headed_broken(
@@ -595,12 +611,12 @@ fn rows_of_broken_files(c: &mut Cases) {
     );
     c.headed_broken(
         "rows before their header",
-        format!("{PR}→1\n{ER}\n{PH}→{V1}\n{PR}→1\n"),
+        format!("{OTHER_SCORES}{PR}→1\n{ER}\n{PH}→{V1}\n{PR}→1\n"),
         [2, 1, 0, 0],
     );
     c.headed_broken(
         "another header between",
-        format!("{PH}→{V1}\n{PR}→1\n{EH}\n{ER}\n{PR}→1\n"),
+        format!("{OTHER_SCORES}{PH}→{V1}\n{PR}→1\n{EH}\n{ER}\n{PR}→1\n"),
         [2, 1, 0, 0],
     );
     c.headed_broken(

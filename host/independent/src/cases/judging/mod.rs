@@ -5,6 +5,7 @@
 mod paper;
 mod rule_20;
 mod rule_21;
+mod rule_22;
 mod rules_12_to_16;
 mod rules_17_to_19;
 mod rules_1_2;
@@ -22,11 +23,17 @@ pub struct Case {
 }
 
 /// The five pieces of required metadata, one a line.
-const VERSION: &str = "MTD→mzTab-version→1.0.0";
+const VERSION: &str = "MTD→mzTab-version→1.0";
 const MODE: &str = "MTD→mzTab-mode→Summary";
 const TYPE: &str = "MTD→mzTab-type→Identification";
-const WORDS: &str = "MTD→description→Yeast check";
-const RUN: &str = "MTD→ms_run[1]-location→file:///a.mzML";
+const WORDS: &str = "MTD→description→d";
+const RUN: &str = "MTD→ms_run[1]-location→a";
+
+/// What rule 22 asks of every file that has a mode and a type.
+const FIXED: &str = "MTD→fixed_mod[1]→[,,f,]";
+const VARIABLE: &str = "MTD→variable_mod[1]→[,,v,]";
+/// What it asks of a Complete one too.
+const SOFTWARE: &str = "MTD→software[1]→[,,s,]";
 
 /// A plain header and a plain row of each section.
 const PH: &str = "PRH→accession→description→database→search_engine";
@@ -66,10 +73,18 @@ impl Cases {
     }
 
     /// A file whose lines 1 to 5 are the required metadata; an arrow is a tab.
+    /// Above them stand the lines that rule 22 asks for, which are not counted
+    /// in the breaks given: in these the version stands on line 1.
     fn headed(&mut self, label: &'static str, rest: impl AsRef<[u8]>, breaks: Triples) {
-        let mut file = head().into_bytes();
+        let asked = asked_of(rest.as_ref());
+        let above = asked.lines().count() as u32;
+        let mut file = (asked + &head()).into_bytes();
         file.extend(rest.as_ref());
-        self.whole(label, file, breaks);
+        let breaks: Vec<_> = breaks
+            .iter()
+            .map(|(line, cell, rule)| (line + above, *cell, *rule))
+            .collect();
+        self.whole(label, file, &breaks);
     }
 
     /// One more metadata line, line 6, after the five.
@@ -102,22 +117,53 @@ fn head() -> String {
     format!("{VERSION}\n{MODE}\n{TYPE}\n{WORDS}\n{RUN}\n")
 }
 
+/// The five, and the two that rule 22 asks for beside them where there are no
+/// tables.
+fn full_head() -> String {
+    format!("{}{FIXED}\n{VARIABLE}\n", head())
+}
+
+/// The lines that rule 22 asks of a Summary Identification file with these lines.
+fn asked_of(rest: &[u8]) -> String {
+    format!("{FIXED}\n{VARIABLE}\n{}", scores_for(rest))
+}
+
+/// Codes of a header and of a row, and the metadata line with a score of their
+/// section.
+const SCORES: [(&str, &str, &str); 4] = [
+    ("PRH", "PRT", "MTD→protein_search_engine_score[1]→[,,a,]"),
+    ("PEH", "PEP", "MTD→peptide_search_engine_score[1]→[,,a,]"),
+    ("PSH", "PSM", "MTD→psm_search_engine_score[1]→[,,a,]"),
+    (
+        "SMH",
+        "SML",
+        "MTD→smallmolecule_search_engine_score[1]→[,,a,]",
+    ),
+];
+
+/// The score of each section that the lines name: rule 22 asks for it if the
+/// section is there, and one that is not asked for does no harm.
+fn scores_for(lines: &[u8]) -> String {
+    let named = |code: &str| lines.windows(code.len()).any(|at| at == code.as_bytes());
+    SCORES
+        .iter()
+        .filter(|(header, row, _)| named(header) || named(row))
+        .map(|(_, _, line)| format!("{line}\n"))
+        .collect()
+}
+
 /// A protein header of the given number of cells, `opt_` columns at its end.
 fn wide(cells: usize) -> String {
     let mut header = PH.to_string();
     for k in 5..cells {
-        header += &format!("→opt_{k}");
+        header += &format!("→opt_{k:x}");
     }
     header
 }
 
 /// A protein row of the given number of cells.
 fn wide_row(cells: usize) -> String {
-    let mut row = PR.to_string();
-    for k in 5..cells {
-        row += &format!("→{k}");
-    }
-    row
+    PR.to_string() + &"→1".repeat(cells - 5)
 }
 
 pub fn all() -> Vec<Case> {
@@ -139,12 +185,14 @@ pub fn all() -> Vec<Case> {
     rules_12_to_16::rule_14(&mut c);
     rules_12_to_16::rule_15(&mut c);
     rules_12_to_16::rule_16(&mut c);
+    rules_12_to_16::rule_16_in_quantification(&mut c);
     rules_17_to_19::rule_17(&mut c);
     rules_17_to_19::rule_18(&mut c);
     rules_17_to_19::rule_19(&mut c);
     rule_20::rule_20(&mut c);
     rule_20::rule_20_with_exponents(&mut c);
     rule_21::rule_21(&mut c);
+    rule_22::rule_22(&mut c);
     several::several_at_once(&mut c);
     c.list
 }

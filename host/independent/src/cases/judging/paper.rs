@@ -1,14 +1,22 @@
 //! The paper's own cases, and lines and cells.
 
-use super::{head, wide, wide_row, Cases, EH, ER, MH, MR, PAPER, PH, PR, SH, SR};
+use super::{full_head, head, wide, wide_row, Cases, Triples};
+use super::{EH, ER, MH, MR, PAPER, PH, PR, SH, SR};
 use crate::cases::tabs;
 
+/// The three breaks of the paper's example, and those of rule 22: a Summary
+/// Identification file with proteins has no score of theirs and no modifications.
+const BREAKS_OF_PAPER: Triples<'static> = &[
+    (7, 6, 15),
+    (8, 6, 19),
+    (9, 2, 20),
+    (10, 500, 22),
+    (10, 900, 22),
+    (10, 1000, 22),
+];
+
 pub(super) fn the_papers_own(c: &mut Cases) {
-    c.whole(
-        "the paper's example",
-        PAPER,
-        &[(7, 6, 15), (8, 6, 19), (9, 2, 20)],
-    );
+    c.whole("the paper's example", PAPER, BREAKS_OF_PAPER);
     c.whole(
         "empty file, five breaks of rule 21 at line 1",
         "",
@@ -19,7 +27,8 @@ pub(super) fn the_papers_own(c: &mut Cases) {
         "COM",
         &[(2, 1, 21), (2, 2, 21), (2, 3, 21), (2, 4, 21), (2, 5, 21)],
     );
-    c.headed("the five alone", "", &[]);
+    c.whole("the five alone", head(), &[(6, 900, 22), (6, 1000, 22)]);
+    c.whole("the five and what rule 22 asks for", full_head(), &[]);
     c.mtd(
         "assay[64] an id",
         "assay[64]-quantification_reagent",
@@ -106,21 +115,25 @@ pub(super) fn the_papers_own(c: &mut Cases) {
 }
 
 pub(super) fn lines_and_cells(c: &mut Cases) {
-    c.whole("the five with CR LF", head().replace('\n', "\r\n"), &[]);
-    c.whole("the five without the last LF", head().trim_end(), &[]);
+    c.whole(
+        "the five with CR LF",
+        full_head().replace('\n', "\r\n"),
+        &[],
+    );
+    c.whole("the five without the last LF", full_head().trim_end(), &[]);
     c.whole(
         "CR LF in all of the example",
         PAPER.replace('\n', "\r\n"),
-        &[(7, 6, 15), (8, 6, 19), (9, 2, 20)],
+        BREAKS_OF_PAPER,
     );
     c.whole(
         "the example without its last LF",
         PAPER.trim_end(),
-        &[(7, 6, 15), (8, 6, 19), (9, 2, 20)],
+        BREAKS_OF_PAPER,
     );
-    c.whole(
+    c.headed(
         "the file ends in an empty cell",
-        format!("{}{PH}\n{PR}\n{PR}→", head()),
+        format!("{PH}\n{PR}\n{PR}→"),
         &[(8, 1, 18)],
     );
     c.headed(
@@ -188,7 +201,7 @@ pub(super) fn lines_and_cells(c: &mut Cases) {
     );
     c.whole(
         "comments above the metadata",
-        format!("COM→first\n\n{}COM→last\n", head()),
+        format!("COM→first\n\n{}COM→last\n", full_head()),
         &[],
     );
     c.headed(

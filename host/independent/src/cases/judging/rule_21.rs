@@ -1,12 +1,12 @@
 //! What the file must have.
 
-use super::{Cases, MODE, RUN, TYPE, VERSION, WORDS};
+use super::{Cases, FIXED, MODE, RUN, TYPE, VARIABLE, VERSION, WORDS};
 
 pub(super) fn rule_21(c: &mut Cases) {
     c.whole(
         "rule 21: no version",
-        format!("{MODE}\n{TYPE}\n{WORDS}\n{RUN}\n"),
-        &[(5, 1, 21)],
+        format!("{MODE}\n{TYPE}\n{WORDS}\n{RUN}\n{FIXED}\n{VARIABLE}\n"),
+        &[(7, 1, 21)],
     );
     c.whole(
         "rule 21: no mode",
@@ -20,33 +20,43 @@ pub(super) fn rule_21(c: &mut Cases) {
     );
     c.whole(
         "rule 21: no description",
-        format!("{VERSION}\n{MODE}\n{TYPE}\n{RUN}\n"),
-        &[(5, 4, 21)],
+        format!("{VERSION}\n{MODE}\n{TYPE}\n{RUN}\n{FIXED}\n{VARIABLE}\n"),
+        &[(7, 4, 21)],
     );
     c.whole(
         "rule 21: no run",
-        format!("{VERSION}\n{MODE}\n{TYPE}\n{WORDS}\n"),
-        &[(5, 5, 21)],
+        format!("{VERSION}\n{MODE}\n{TYPE}\n{WORDS}\n{FIXED}\n{VARIABLE}\n"),
+        &[(7, 5, 21)],
     );
     c.whole(
         "rule 21: no run, without the last LF",
-        format!("{VERSION}\n{MODE}\n{TYPE}\n{WORDS}"),
-        &[(5, 5, 21)],
+        format!("{VERSION}\n{MODE}\n{TYPE}\n{WORDS}\n{FIXED}\n{VARIABLE}"),
+        &[(7, 5, 21)],
     );
     c.whole(
         "rule 21: empty lines at the end count",
-        format!("{VERSION}\n{MODE}\n{TYPE}\n{WORDS}\n\n\r\nCOM\n"),
-        &[(8, 5, 21)],
+        format!("{VERSION}\n{MODE}\n{TYPE}\n{WORDS}\n{FIXED}\n{VARIABLE}\n\n\r\nCOM\n"),
+        &[(10, 5, 21)],
+    );
+    c.whole(
+        "rule 21: before rule 22",
+        format!("{MODE}\n{TYPE}\n{VARIABLE}\n"),
+        &[(4, 1, 21), (4, 4, 21), (4, 5, 21), (4, 900, 22)],
     );
     c.whole(
         "rule 21: any run's location",
-        format!("{VERSION}\n{MODE}\n{TYPE}\n{WORDS}\nMTD→ms_run[64]-location→a\n"),
+        format!(
+            "{VERSION}\n{MODE}\n{TYPE}\n{WORDS}\n{FIXED}\n{VARIABLE}\nMTD→ms_run[64]-location→a\n"
+        ),
         &[],
     );
     c.whole(
         "rule 21: a run's location of no index",
-        format!("{VERSION}\n{MODE}\n{TYPE}\n{WORDS}\nMTD→ms_run[65]-location→a\nMTD→ms_run[1]-format→[,,a,]\n"),
-        &[(5, 2, 5), (7, 5, 21)],
+        format!(
+            "{VERSION}\n{MODE}\n{TYPE}\n{WORDS}\nMTD→ms_run[65]-location→a\n\
+             MTD→ms_run[1]-format→[,,a,]\n{FIXED}\n{VARIABLE}\n"
+        ),
+        &[(5, 2, 5), (9, 5, 21)],
     );
     c.whole(
         "rule 21: on a line that has not three cells",

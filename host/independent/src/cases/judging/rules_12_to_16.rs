@@ -1,6 +1,9 @@
 //! The columns of a header.
 
-use super::{Cases, EH, MH, MR, PH, PR, SH};
+use super::rule_22::{nine, Sort, ALL, CQ, E_SCORE, E_UNIT, M_SCORE, M_UNIT, P_SCORE, P_UNIT};
+use super::rule_22::{CI, QH, QUANTIFICATION, SI, SQ, S_SCORE};
+use super::{Cases, Triples, EH, FIXED, MH, MODE, MR, PH, PR, RUN, SH, TYPE};
+use super::{VARIABLE, VERSION, WORDS};
 
 pub(super) fn rule_12(c: &mut Cases) {
     c.headed(
@@ -345,5 +348,156 @@ pub(super) fn rule_16(c: &mut Cases) {
         "rule 16: a header of one cell and a row of one cell",
         "PRH\nPRT\nPRT→\n",
         &[(6, 1, 16), (8, 1, 18)],
+    );
+}
+
+impl Cases {
+    /// A peptide header at line 12, below all metadata that rule 22 asks for.
+    fn peptides(&mut self, label: &'static str, sort: Sort, header: &str, breaks: Triples) {
+        let file = format!("{}{E_SCORE}\n{E_UNIT}\n{header}\n", nine(sort));
+        self.whole(label, file, breaks);
+    }
+}
+
+/// "In Quantification a peptide header needs modifications, retention_time and
+/// retention_time_window too, under rule 16."
+pub(super) fn rule_16_in_quantification(c: &mut Cases) {
+    for sort in [SQ, CQ] {
+        c.peptides("rule 16: none of the three", sort, EH, &[(12, 1, 16)]);
+        for name in ["modifications", "retention_time", "retention_time_window"] {
+            // The name is a whole cell: another begins as it does.
+            let header = format!("{QH}→").replace(&format!("→{name}→"), "→uri→");
+            let header = header.trim_end_matches('→');
+            c.peptides(
+                "rule 16: one of the three absent",
+                sort,
+                header,
+                &[(12, 1, 16)],
+            );
+        }
+    }
+    for sort in [SI, CI] {
+        c.peptides("rule 16: none of the three, Identification", sort, EH, &[]);
+    }
+    for sort in ALL {
+        c.peptides("rule 16: all of the three", sort, QH, &[]);
+    }
+    peptide_headers(c);
+    near_peptide_headers(c);
+    without_mode_or_type(c);
+    late_or_second_type(c);
+}
+
+fn peptide_headers(c: &mut Cases) {
+    c.peptides(
+        "rule 16: the three and others absent, once",
+        SQ,
+        "PEH→uri",
+        &[(12, 1, 16)],
+    );
+    c.peptides(
+        "rule 16: the three alone",
+        CQ,
+        "PEH→modifications→retention_time→retention_time_window",
+        &[(12, 1, 16)],
+    );
+    c.peptides(
+        "rule 16: the three in free order",
+        CQ,
+        "PEH→retention_time_window→uri→charge→modifications→sequence→accession→mass_to_charge→\
+         retention_time→opt_x",
+        &[],
+    );
+}
+
+fn near_peptide_headers(c: &mut Cases) {
+    c.peptides(
+        "rule 16: opt_ ones are not the three",
+        SQ,
+        &format!("{EH}→opt_modifications→opt_retention_time→opt_retention_time_window"),
+        &[(12, 1, 16)],
+    );
+    c.peptides(
+        "rule 16: one of the three twice",
+        CQ,
+        &format!("{EH}→modifications→modifications→retention_time"),
+        &[(12, 1, 16), (12, 7, 13)],
+    );
+    c.peptides(
+        "rule 16: a second peptide header",
+        SQ,
+        &format!("{QH}\n{EH}"),
+        &[(13, 1, 9), (13, 1, 16)],
+    );
+    c.peptides(
+        "rule 16: 11 stops the three",
+        CQ,
+        &format!("{EH}{}", "→".repeat(252)),
+        &[(12, 1, 11)],
+    );
+    for sort in [SQ, CQ] {
+        c.whole(
+            "rule 16: other sections do not need the three",
+            format!(
+                "{}{P_SCORE}\n{P_UNIT}\n{S_SCORE}\n{M_SCORE}\n{M_UNIT}\n{PH}\n{SH}\n{MH}\n",
+                nine(sort)
+            ),
+            &[],
+        );
+    }
+}
+
+/// All that rule 22 asks of the files below but for mode and type, and a header.
+fn below_mode_and_type() -> String {
+    format!("{WORDS}\n{RUN}\n{FIXED}\n{VARIABLE}\n{E_SCORE}\n{E_UNIT}\n{EH}\n")
+}
+
+/// "without both, nothing is added"
+fn without_mode_or_type(c: &mut Cases) {
+    let rest = below_mode_and_type();
+    c.whole(
+        "rule 16: the three without a valid mode",
+        format!("{VERSION}\nMTD→mzTab-mode→x\n{QUANTIFICATION}\n{rest}"),
+        &[(2, 3, 7)],
+    );
+    c.whole(
+        "rule 16: the three without a mode",
+        format!("{VERSION}\n{QUANTIFICATION}\n{rest}"),
+        &[(10, 2, 21)],
+    );
+    c.whole(
+        "rule 16: the three without a valid type",
+        format!("{VERSION}\n{MODE}\nMTD→mzTab-type→quantification\n{rest}"),
+        &[(3, 3, 7)],
+    );
+}
+
+/// Mode and type are those of the whole file, and the first valid ones.
+fn late_or_second_type(c: &mut Cases) {
+    let rest = below_mode_and_type();
+    c.whole(
+        "rule 16: the three with a late type",
+        format!("{VERSION}\n{MODE}\n{rest}{QUANTIFICATION}\n"),
+        &[(9, 1, 16), (10, 1, 4)],
+    );
+    c.whole(
+        "rule 16: the three with a late mode",
+        format!("{VERSION}\n{QUANTIFICATION}\n{rest}{MODE}\n"),
+        &[(9, 1, 16), (10, 1, 4)],
+    );
+    c.whole(
+        "rule 16: the three with a second type, the first not valid",
+        format!("{VERSION}\n{MODE}\nMTD→mzTab-type→x\n{QUANTIFICATION}\n{rest}"),
+        &[(3, 3, 7), (4, 2, 6), (11, 1, 16)],
+    );
+    c.whole(
+        "rule 16: the three go by the first type",
+        format!("{VERSION}\n{MODE}\n{TYPE}\n{QUANTIFICATION}\n{rest}"),
+        &[(4, 2, 6)],
+    );
+    c.whole(
+        "rule 16: the three go by the first type",
+        format!("{VERSION}\n{MODE}\n{QUANTIFICATION}\n{TYPE}\n{rest}"),
+        &[(4, 2, 6), (11, 1, 16)],
     );
 }

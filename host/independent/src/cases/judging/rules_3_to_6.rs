@@ -102,6 +102,9 @@ pub(super) fn rule_4(c: &mut Cases) {
             (6, 1, 4),
             (7, 1, 4),
             (7, 2, 6),
+            (8, 800, 22),
+            (8, 900, 22),
+            (8, 1000, 22),
         ],
     );
 }
@@ -204,11 +207,13 @@ MTD→sample[1]-disease[1]→[DOID, DOID:684, hepatocellular carcinoma, ]
 MTD→sample[1]-description→Hepatocellular carcinoma samples.
 MTD→sample[1]-custom[1]→[,,Extraction date, 2011-12-21]
 MTD→assay[1]-quantification_reagent→[MS,MS:1002038,unlabeled sample, ]
+MTD→assay[2]-quantification_reagent→[PRIDE,PRIDE:0000325,SILAC medium,]
 MTD→assay[2]-quantification_mod[1]→[UNIMOD, UNIMOD:188, Label:13C(6), ]
 MTD→assay[2]-quantification_mod[1]-site→R
 MTD→assay[2]-quantification_mod[1]-position→Anywhere
 MTD→assay[1]-sample_ref→sample[1]
 MTD→assay[1]-ms_run_ref→ms_run[1]
+MTD→assay[2]-ms_run_ref→ms_run[1]
 MTD→study_variable[1]-assay_refs→assay[1], assay[2],assay[1],   assay[1]
 MTD→study_variable[1]-sample_refs→sample[1]
 MTD→study_variable[1]-description→Group B (spike-in 0.74 fmol/uL)

@@ -1,39 +1,40 @@
 //! The values of metadata.
 
-use super::{head, Cases, MH};
+use super::{full_head, Cases, MH, SOFTWARE};
 
 pub(super) fn rule_7(c: &mut Cases) {
     for value in ["1.0", "1.0.0"] {
-        c.whole("rule 7: version", head().replace("1.0.0", value), &[]);
+        let file = full_head().replace("1.0", value);
+        c.whole("rule 7: version", file, &[]);
     }
     for value in ["1.0.1", "1", "1.0.", "01.0", "1.0 ", "1.0.0.0", "", "null"] {
         c.whole(
             "rule 7: not a version",
-            head().replace("1.0.0", value),
+            full_head().replace("1.0", value),
             &[(1, 3, 7)],
         );
     }
     c.whole(
         "rule 7: mode Complete",
-        head().replace("Summary", "Complete"),
+        full_head().replace("Summary", "Complete") + SOFTWARE,
         &[],
     );
     for value in ["summary", "COMPLETE", "", "Quantification", "null"] {
         c.whole(
             "rule 7: not a mode",
-            head().replace("Summary", value),
+            full_head().replace("Summary", value),
             &[(2, 3, 7)],
         );
     }
     c.whole(
         "rule 7: type",
-        head().replace("Identification", "Quantification"),
+        full_head().replace("Identification", "Quantification"),
         &[],
     );
     for value in ["identification", "Quantitation", "", "Summary", "null"] {
         c.whole(
             "rule 7: not a type",
-            head().replace("Identification", value),
+            full_head().replace("Identification", value),
             &[(3, 3, 7)],
         );
     }
