@@ -12,11 +12,11 @@ use Rattle.value_references.specs.declared.index.Flaw.the-variants.{Form}
 use Rattle.book_names.specs.declared.Found.{Found}
 use Rattle.book_names.specs.declared.Found.the-variants.{Unknown, Known}
 use Rattle.value_references.specs.Index.{MOST}
-use Rattle.book.specs.Letters.{TEXT, NONE, ALWAYS, OPT}
+use Rattle.book.specs.Letters.{TEXT, NONE, ALWAYS, TYPED, COMPLETE, QUANTIFIED, BOTH, ASSAYED, ASSAYS, STUDY-VARIABLES, OPT}
 use Rattle.book.specs.Keys.{keys}
 use Rattle.book.specs.Columns.{proteinColumns, peptideColumns, psmColumns, moleculeColumns, proteinRequired, peptideRequired, psmRequired, moleculeRequired}
 
--- a section: the line codes of its headers and of its rows, its columns, a line each, and those that its header must have
+-- a section: the line codes of its headers and of its rows, its columns, a line each, and those that its header must have, a line each too
 pub record Section : Type 0 where
   pub header : String
   pub row : String
@@ -26,11 +26,12 @@ pub record Section : Type 0 where
 abbrev pub section : String → String → List String → List String → Section
 section header row columns required = record { header = header; row = row; columns = columns; required = required }
 
--- a demand on the metadata: the form of a key that some line must have, the cell of line N + 1 at which its absence is reported, a letter that says of which
--- files it is asked, and the section that these must have, 0 for none. With the number of a family it is asked for each id of it that the file declares: the
--- key must have the id's index, and its absence is reported so many cells further on
+-- a demand on the metadata: the form of a key that some line must have, the rule that its absence breaks and the cell of line N + 1 at which that is reported,
+-- a letter that says of which files it is asked, and the section that these must have, 0 for none. With the number of a family it is asked for each id of it
+-- that the file declares: the key must have the id's index, and its absence is reported so many cells further on
 pub record Demand : Type 0 where
   pub form : String
+  pub rule : ℕ
   pub cell : ℕ
   pub asked : ℕ
   pub section : ℕ
@@ -40,11 +41,19 @@ pub record Demand : Type 0 where
 abbrev pub ONCE : ℕ
 ONCE = 4
 
-abbrev pub always : String → ℕ → Demand
-always form cell = record { form = form; cell = cell; asked = ALWAYS; section = 0; each = ONCE }
+-- rule 21: asked of every file
+abbrev pub always : ℕ → String → Demand
+always cell form = record { form = form; rule = 21; cell = cell; asked = ALWAYS; section = 0; each = ONCE }
+
+-- rule 22: of the files that the letter says, where they have the section, any one line will do; or a line for each id of a family
+abbrev pub anyOne : ℕ → String → ℕ → ℕ → Demand
+anyOne cell form asked section = record { form = form; rule = 22; cell = cell; asked = asked; section = section; each = ONCE }
+
+abbrev pub forEach : ℕ → String → ℕ → ℕ → Demand
+forEach cell form asked family = record { form = form; rule = 22; cell = cell; asked = asked; section = 0; each = family }
 
 abbrev pub noDemand : Demand
-noDemand = always "" 0
+noDemand = always 0 ""
 
 -- what a demand wants: its key, with the index of an id, or 0 where any line with such a key will do
 pub record Want : Type 0 where
@@ -84,10 +93,10 @@ pub record Book : Type 0 where
 
 -- so many things are wanted at line N + 1, at most, and at so many cells, in every book
 abbrev pub WANTS : ℕ
-WANTS = 5
+WANTS = 272
 
 abbrev pub CELLS : ℕ
-CELLS = 5
+CELLS = 1564
 
 -- all that its demands want
 abbrev pub wants : Book → List Want
@@ -172,14 +181,29 @@ columnEntries b s = entriesOf ((sectionOf b s) .columns)
 unfoldable pub columnOf : Book → ℕ → Bytes → Found
 columnOf b s name = cond (isOpt name) (optOf name) (lookupIn (columnEntries b s) name)
 
--- what the metadata of mzTab 1.0 must have: rule 21
+-- what the metadata of mzTab 1.0 must have: rule 21; and by mode and type, the sections that are present and the ids that are declared, rule 22
 unfoldable pub demands : List Demand
 demands =
-    always "mzTab-version" 1
-    ∷ always "mzTab-mode" 2
-    ∷ always "mzTab-type" 3
-    ∷ always "description" 4
-    ∷ always "ms_run[n]-location" 5
+    always 1 "mzTab-version"
+    ∷ always 2 "mzTab-mode"
+    ∷ always 3 "mzTab-type"
+    ∷ always 4 "description"
+    ∷ always 5 "ms_run[n]-location"
+    ∷ forEach 100 "assay[n]-ms_run_ref" QUANTIFIED ASSAYS
+    ∷ forEach 200 "study_variable[n]-assay_refs" ASSAYED STUDY-VARIABLES
+    ∷ forEach 300 "study_variable[n]-description" QUANTIFIED STUDY-VARIABLES
+    ∷ anyOne 400 "software[n]" COMPLETE 0
+    ∷ anyOne 500 "protein_search_engine_score[n]" TYPED 1
+    ∷ anyOne 600 "peptide_search_engine_score[n]" TYPED 2
+    ∷ anyOne 700 "psm_search_engine_score[n]" TYPED 3
+    ∷ anyOne 800 "smallmolecule_search_engine_score[n]" TYPED 4
+    ∷ anyOne 900 "fixed_mod[n]" TYPED 0
+    ∷ anyOne 1000 "variable_mod[n]" TYPED 0
+    ∷ anyOne 1100 "quantification_method" BOTH 0
+    ∷ anyOne 1200 "protein-quantification_unit" QUANTIFIED 1
+    ∷ anyOne 1300 "peptide-quantification_unit" QUANTIFIED 2
+    ∷ anyOne 1400 "small_molecule-quantification_unit" QUANTIFIED 4
+    ∷ forEach 1500 "assay[n]-quantification_reagent" QUANTIFIED ASSAYS
     ∷ []
 
 -- THE BOOK of mzTab 1.0: sections 1 protein, 2 peptide, 3 PSM, 4 small molecule

@@ -4,6 +4,7 @@ use Prim.Native.String.{String}
 use mathlib.Core.Path.{_≡_, refl}
 use mathlib.Core.Bool.{false}
 use mathlib.Core.List.{[], _∷_, map}
+use lib.ListN.{drop}
 use Rattle.text_bytes.specs.Bytes.{bytes, begins}
 use Rattle.value_references.specs.Index.{digits, number, bracketed, indexAt}
 use Rattle.book_names.specs.Names.{piecesFrom, entryOf, fits, firstOf}
@@ -84,8 +85,11 @@ columns-flawed : (column 1 "num_psms_ms_run[0]" ≡ Unknown Zero) × (column 1 "
 unfolding mzTab isSection sectionOf columnOf proteinColumns peptideColumns psmColumns moleculeColumns isOpt optOf begins bytes entryOf piecesFrom firstOf fits indexAt bracketed digits number
 columns-flawed = (refl, refl, refl, refl, refl)
 
--- every required column is known in its section, at these entries
-required-known : (map (λ r. entryNumber (column 1 r)) proteinRequired ≡ 0 ∷ 1 ∷ 3 ∷ 21 ∷ []) × (map (λ r. entryNumber (column 2 r)) peptideRequired ≡ 5 ∷ 0 ∷ 7 ∷ 10 ∷ [])
-    × (map (λ r. entryNumber (column 3 r)) psmRequired ≡ 5 ∷ 6 ∷ 0 ∷ 12 ∷ 7 ∷ []) × (map (λ r. entryNumber (column 4 r)) moleculeRequired ≡ 7 ∷ 13 ∷ [])
+-- every required column is known in its section, at these entries: its name stands behind a letter and a space
+abbrev requiredEntry : ℕ → String → ℕ
+requiredEntry s r = entryNumber (columnOf mzTab s (drop 2 (bytes r)))
+
+required-known : (map (requiredEntry 1) proteinRequired ≡ 0 ∷ 1 ∷ 3 ∷ 21 ∷ []) × (map (requiredEntry 2) peptideRequired ≡ 5 ∷ 0 ∷ 7 ∷ 10 ∷ 3 ∷ 17 ∷ 18 ∷ [])
+    × (map (requiredEntry 3) psmRequired ≡ 5 ∷ 6 ∷ 0 ∷ 12 ∷ 7 ∷ []) × (map (requiredEntry 4) moleculeRequired ≡ 7 ∷ 13 ∷ [])
 unfolding proteinRequired peptideRequired psmRequired moleculeRequired mzTab isSection sectionOf columnOf proteinColumns peptideColumns psmColumns moleculeColumns isOpt begins bytes entryOf piecesFrom firstOf fits indexAt bracketed digits number
 required-known = (refl, refl, refl, refl)

@@ -109,15 +109,15 @@ moleculeColumns =
     ∷ "Q- search_engine"
     ∷ []
 
--- the columns that a header of each section must have: rule 16
+-- the columns that a header of each section must have, rule 16: the letter that says of which files it is asked, a space, and the column's name
 unfoldable pub proteinRequired : List String
-proteinRequired = "accession" ∷ "description" ∷ "database" ∷ "search_engine" ∷ []
+proteinRequired = "* accession" ∷ "* description" ∷ "* database" ∷ "* search_engine" ∷ []
 
 unfoldable pub peptideRequired : List String
-peptideRequired = "sequence" ∷ "accession" ∷ "charge" ∷ "mass_to_charge" ∷ []
+peptideRequired = "* sequence" ∷ "* accession" ∷ "* charge" ∷ "* mass_to_charge" ∷ "q modifications" ∷ "q retention_time" ∷ "q retention_time_window" ∷ []
 
 unfoldable pub psmRequired : List String
-psmRequired = "sequence" ∷ "PSM_ID" ∷ "accession" ∷ "charge" ∷ "spectra_ref" ∷ []
+psmRequired = "* sequence" ∷ "* PSM_ID" ∷ "* accession" ∷ "* charge" ∷ "* spectra_ref" ∷ []
 
 unfoldable pub moleculeRequired : List String
-moleculeRequired = "identifier" ∷ "charge" ∷ []
+moleculeRequired = "* identifier" ∷ "* charge" ∷ []

@@ -1,4 +1,4 @@
--- The letters of the book: the kinds of value, and the families of ids. Assumes nothing.
+-- The letters of the book: the kinds of value, the families of ids, and when something is asked of a file. Assumes nothing.
 use Prim.Native.Nat.{ℕ}
 
 -- T text
@@ -81,7 +81,15 @@ VARIABLE = 86
 abbrev pub RUN : ℕ
 RUN = 82
 
--- WHEN A DEMAND IS ASKED
+-- THE FAMILIES by their numbers: 0 sample, 1 assay, 2 study variable, 3 run
+
+abbrev pub ASSAYS : ℕ
+ASSAYS = 1
+
+abbrev pub STUDY-VARIABLES : ℕ
+STUDY-VARIABLES = 2
+
+-- WHEN SOMETHING IS ASKED: a demand on the metadata, or a required column
 
 -- * of every file
 abbrev pub ALWAYS : ℕ

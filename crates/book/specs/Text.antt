@@ -94,12 +94,12 @@ pub record Starts (t : Bytes) (es : List Entry) : Type 0 where
   pub ends : startsAt t + 2 * (length es + 1) ≤ length t
   pub starts : (e : ℕ) → e ≤ length es → startAt t e ≡ startOf es e
 
--- THE DEMANDS stand behind the entries, a few bytes each: the cell, the entry of the key, when it is asked, the section and the family. How many there are
--- stands in the last entry
+-- THE DEMANDS stand behind the entries, a few bytes each: the cell, the entry of the key, when it is asked, the section, the family and the rule. How many
+-- there are stands in the last entry
 
 -- the bytes of a demand
 abbrev pub SIZE : ℕ
-SIZE = 6
+SIZE = 7
 
 -- the first line of a table of keys that has this form
 unfoldable pub entryFor : List String → String → ℕ
@@ -117,6 +117,7 @@ pub record Demands (t : Bytes) (b : Book) : Type 0 where
   pub asked : (k : ℕ) → k < length (b .demands) → getD t (demandAt t k + 3) 0 ≡ (getD (b .demands) k noDemand) .asked
   pub sections : (k : ℕ) → k < length (b .demands) → getD t (demandAt t k + 4) 0 ≡ (getD (b .demands) k noDemand) .section
   pub families : (k : ℕ) → k < length (b .demands) → getD t (demandAt t k + 5) 0 ≡ (getD (b .demands) k noDemand) .each
+  pub rules : (k : ℕ) → k < length (b .demands) → getD t (demandAt t k + 6) 0 ≡ (getD (b .demands) k noDemand) .rule
 
 -- a demand as it is read from the text
 pub record Demanded (b : Book) (k : ℕ) (d : Read) : Type 0 where
@@ -125,6 +126,7 @@ pub record Demanded (b : Book) (k : ℕ) (d : Read) : Type 0 where
   pub asked : d .asked ≡ (getD (b .demands) k noDemand) .asked
   pub section : d .section ≡ (getD (b .demands) k noDemand) .section
   pub each : d .each ≡ (getD (b .demands) k noDemand) .each
+  pub rule : d .rule ≡ (getD (b .demands) k noDemand) .rule
   pub fits : d .cell < 65536
 
 -- a text holds a book
@@ -192,7 +194,7 @@ allStarts b = startsFrom 0 (keyEntries b)
 -- the demands of a book
 unfoldable pub demandRows : List String → List Demand → Bytes
 demandRows ks [] = []
-demandRows ks (d ∷ ds) = two (d .cell) ++ (entryFor ks (d .form) ∷ d .asked ∷ d .section ∷ d .each ∷ demandRows ks ds)
+demandRows ks (d ∷ ds) = two (d .cell) ++ (entryFor ks (d .form) ∷ d .asked ∷ d .section ∷ d .each ∷ d .rule ∷ demandRows ks ds)
 
 -- the entries of these tables, whose rows, required columns and links begin at these places, and the places where they end, behind the number m
 unfoldable pub entriesFrom : ℕ → ℕ → ℕ → ℕ → List Section → Bytes
@@ -207,19 +209,19 @@ directoryOf b r w l = b .first ∷ length (b .sections) ∷ (entriesFrom (length
 
 -- THE TEXT of the one book: where its directory, its rows, its required columns, its starts and its links end
 abbrev pub DIRECTORY : ℕ
-DIRECTORY = 104
+DIRECTORY = 214
 
 abbrev pub ROWS : ℕ
-ROWS = 8042
+ROWS = 8152
 
 abbrev pub WANTED : ℕ
-WANTED = 8187
+WANTED = 8384
 
 abbrev pub FRONT : ℕ
-FRONT = 8311
+FRONT = 8508
 
 abbrev pub LINKS : ℕ
-LINKS = 9738
+LINKS = 9935
 
 unfoldable pub directoryText : Bytes
 directoryText = directoryOf mzTab DIRECTORY ROWS FRONT

@@ -8,16 +8,17 @@ ghost use Prim.Native.Nat.{_<_};
 ghost use lib.ListN.{length};
 ghost use Rattle.book.specs.Text.{bookIn, IsBook, Demanded};
 
-// The bytes of a demand: two for its cell, and one each for its key's entry, when it is asked, its section and its family.
-const SIZE: usize = 6;
+// The bytes of a demand: two for its cell, and one each for its key's entry, when it is asked, its section, its family and its rule.
+const SIZE: usize = 7;
 
 // A demand that is asked once, and not for each id of a family.
 pub const ONCE: usize = 4;
 
-// The entry of the key that is demanded, the cell at which its absence is reported, the letter that says of which files it is asked, the section that these
-// must have, 0 for none, and the number of the family for each of whose ids it is asked, or ONCE.
+// The entry of the key that is demanded, the rule that its absence breaks and the cell at which that is reported, the letter that says of which files it is
+// asked, the section that these must have, 0 for none, and the number of the family for each of whose ids it is asked, or ONCE.
 pub struct Demand {
     pub entry: usize,
+    pub rule: u32,
     pub cell: u32,
     pub asked: u8,
     pub section: usize,
@@ -45,8 +46,10 @@ pub fn nth_demand(book: &[u8], k: usize) -> Demand
     let entry = wide(book[at + 2]);
     let section = wide(book[at + 4]);
     let each = wide(book[at + 5]);
+    let rule = narrow(book[at + 6]);
     Demand {
         entry,
+        rule,
         cell,
         asked: book[at + 3],
         section,

@@ -6,7 +6,7 @@ ghost use mathlib.Core.Bool.{true};
 ghost use Prim.Native.Nat.{_+_, _*_, _<_};
 ghost use lib.ListN.{length};
 ghost use Rattle.book.specs.Book.{isSection, codeFor, sectionBy};
-ghost use Rattle.book.specs.Text.{codeAt, numberAt, rowsAt, wantedAt, linksAt, bookIn, HasDirectory, directoryText};
+ghost use Rattle.book.specs.Text.{codeAt, numberAt, rowsAt, wantedAt, linksAt, bookIn, HasDirectory};
 
 // Where the entry of the first section begins, and how many bytes each has: two line codes and three places.
 pub const CODES: usize = 14;
@@ -15,29 +15,6 @@ pub const STEP: usize = 12;
 
 // The bytes of a line code.
 pub const CODE: usize = 3;
-
-// The bytes of the directory.
-pub const DIRECTORY: usize = 104;
-
-// The directory of the book: sections 1 to 4, and five demands.
-pub fn directory() -> [u8; DIRECTORY]
-    ensures { λ r. ⌜ r ≡ directoryText ⌝ }
-    ensures { λ r. ⌜ HasDirectory r ⌝ }
-{
-    *b"\
-    \x01\x04\
-    MTDMTD\x68\x00\x6a\x1f\x77\x20\
-    PRHPRT\x46\x0d\x6a\x1f\xb4\x21\
-    PEHPEP\xea\x11\x96\x1f\xca\x22\
-    PSHPSM\x22\x16\xbe\x1f\xde\x23\
-    SMHSML\x5a\x1a\xea\x1f\xf2\x24\
-    \x05\x20\x20\x20\x20\x20\x6a\x1f\xfb\x1f\x0a\x26\
-    \x01\x00\x00*\x00\x04\
-    \x02\x00\x01*\x00\x04\
-    \x03\x00\x02*\x00\x04\
-    \x04\x00\x05*\x00\x04\
-    \x05\x00\x10*\x00\x04"
-}
 
 // A number that stands in two bytes, the lower first.
 pub fn number_at(text: &[u8], i: usize) -> usize

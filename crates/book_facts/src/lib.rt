@@ -1,4 +1,5 @@
 // What the first pass finds of a file: the ids that it declares, its mode, its type and its version line.
+use book_ids::any_marked;
 use book_ids::mark_line;
 use book_kinds::of_kind;
 use text::Part;
@@ -7,6 +8,8 @@ use text::cells::has_code;
 use text::cells::nth_cell;
 use text::lines::line_at;
 use text_bytes::begins_with;
+use text_bytes::both;
+use text_bytes::either;
 use text_bytes::same_bytes;
 use value_references::FAMILIES;
 use value_references::INDICES;
@@ -19,8 +22,9 @@ ghost use Rattle.text.specs.Lines.{LIMIT, isMeta, lines};
 ghost use Rattle.book.specs.Text.{bookIn, IsBook};
 ghost use Rattle.book.specs.Letters.{NONE};
 ghost use Rattle.book_kinds.specs.Kinds.{ofKind};
-ghost use Rattle.book_ids.specs.Ids.{lineId, marked, Declared};
+ghost use Rattle.book_ids.specs.Ids.{Flags, lineId, marked, Declared};
 ghost use Rattle.book_facts.specs.Facts.{earlier, noted, notedField, FactsOf};
+ghost use Rattle.book_facts.specs.Asked.{asks, askingBy};
 
 // The first valid mode, C or S, the first valid type, I or Q, and the number of the first version line; 0 where there is none.
 pub struct Facts {
@@ -28,6 +32,16 @@ pub struct Facts {
     pub typed: u8,
     pub version: u32,
 }
+
+// What decides whether something is asked of a file: the letters of its mode and type, 0 for none, and whether it declares an assay.
+pub struct Asking {
+    pub mode: u8,
+    pub typed: u8,
+    pub assay: bool,
+}
+
+// The family of assays.
+const ASSAYS: usize = 1;
 
 // The first byte of a metadata line.
 const FIRST: u8 = b'M';
@@ -146,4 +160,46 @@ pub fn survey(flags: &mut [[bool; INDICES]; FAMILIES], book: &[u8], file: &[u8])
         }
     }
     facts
+}
+
+// What decides, from the facts of a file and the flags of the ids that it declares.
+pub fn asking_of(facts: Facts, flags: &[[bool; INDICES]; FAMILIES]) -> Asking
+    requires { ⌜ Flags (now flags) ⌝ }
+    ensures { λ r. ⌜ r ≡ askingBy facts (now (flags .entry)) ⌝ }
+{
+    let assays = flags[ASSAYS];
+    let assay = any_marked(&assays, 0, INDICES);
+    Asking {
+        mode: facts.mode,
+        typed: facts.typed,
+        assay,
+    }
+}
+
+// Whether what has the letter is asked of a file of this mode and type: * of every file, + of those that have both, C of Complete ones, q of
+// Quantification ones, Q of those that are both, A of these and, where an assay is declared, of all Quantification ones.
+pub fn is_asked(asked: u8, asking: Asking) -> bool
+    ensures { λ r. ⌜ r ≡ asks asked (asking .mode) (asking .typed) (asking .assay) ⌝ }
+{
+    let mode = asking.mode;
+    let typed = asking.typed;
+    if asked == b'*' {
+        return true;
+    }
+    if mode == 0 {
+        return false;
+    }
+    if typed == 0 {
+        return false;
+    }
+    let complete = mode == b'C';
+    let quantified = typed == b'Q';
+    match asked {
+        b'+' => true,
+        b'C' => complete,
+        b'q' => quantified,
+        b'Q' => both(quantified, complete),
+        b'A' => both(quantified, either(complete, asking.assay)),
+        _ => false,
+    }
 }

@@ -12,13 +12,9 @@ use Rattle.value_references.specs.References.{families, family}
 use Rattle.value_references.specs.declared.index.Index.{Index}
 use Rattle.value_references.specs.declared.index.Index.the-variants.{Not, Bad, Is}
 use Rattle.book_names.specs.Names.{isKnown}
-use Rattle.book.specs.Book.{Book, keyOf}
+use Rattle.book.specs.Book.{Book, upFrom, keyOf}
 use Rattle.book_ids.specs.declared.Id.{Id}
 use Rattle.book_ids.specs.declared.Id.the-variants.{Nothing, Of}
-
--- the family of assays
-abbrev pub ASSAYS : ℕ
-ASSAYS = 1
 
 -- whether a line declares id i of family f: an MTD line that has three cells and a known key beginning with it
 unfoldable pub declares : Book → ℕ → ℕ → Bytes → Bool
@@ -43,6 +39,10 @@ pub record Flags (t : List (List Bool)) : Type 0 where
 pub record Declared (b : Book) (t : List (List Bool)) (file : Bytes) : Type 0 where
   pub shape : Flags t
   pub flags : (f i : ℕ) → f < 4 → i < 64 → flag t f i ≡ declared b file f (i + 1)
+
+-- whether a flag is marked, or a slot, from one up to another
+unfoldable pub isMarked : List Bool → ℕ → ℕ → Bool
+isMarked flags from to = any (λ s. getD flags s false) (upFrom (to - from) from)
 
 -- WHAT THE CODE FINDS
 

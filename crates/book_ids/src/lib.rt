@@ -13,8 +13,10 @@ use value_references::index::read_index;
 use value_references::words::word;
 use value_references::words::words;
 ghost use mathlib.Core.Path.{_≡_};
+ghost use Prim.Native.Nat.{_≤_};
+ghost use lib.ListN.{length};
 ghost use Rattle.book.specs.Text.{bookIn, IsBook};
-ghost use Rattle.book_ids.specs.Ids.{indexAfter, idOf, keyId, lineId, marked};
+ghost use Rattle.book_ids.specs.Ids.{indexAfter, idOf, keyId, lineId, marked, isMarked};
 
 // An id: its family, 0 sample, 1 assay, 2 study variable, 3 run, and its index.
 pub enum Id {
@@ -100,4 +102,19 @@ pub fn mark_line(flags: &mut [[bool; INDICES]; FAMILIES], book: &[u8], line: &[u
         Id::Nothing => {}
         Id::Of(f, i) => flags[f][i - 1] = true,
     }
+}
+
+// Whether any flag or slot is marked, from one up to another.
+pub fn any_marked(slots: &[bool], from: usize, to: usize) -> bool
+    requires { ⌜ (from ≤ to) × (to ≤ length (now slots)) ⌝ }
+    ensures { λ r. ⌜ r ≡ isMarked (now (slots .entry)) from to ⌝ }
+{
+    let mut i = from;
+    while i < to {
+        if slots[i] {
+            return true;
+        }
+        i += 1;
+    }
+    false
 }

@@ -1,5 +1,4 @@
 -- Laws over plain lists, with no code in them.
-pub mod Stepping
 pub mod Closing
 pub mod Recording
 pub mod Reporting

@@ -1,4 +1,3 @@
 pub mod Records
-pub mod Steps
 pub mod Outcomes
 pub mod Promised

@@ -3,7 +3,7 @@ use Prim.Native.Nat.{ℕ}
 use mathlib.Core.Path.{_≡_, sym, ap, _∙_}
 use mathlib.Core.List.{List}
 use Rattle.text_bytes.specs.Bytes.{Bytes}
-use Rattle.faults.specs.declared.Fault.{Fault}
+use Rattle.fault_steps.specs.declared.Fault.{Fault}
 use Rattle.faults.specs.Records.{Outcome, outcome, judged}
 
 -- `judge`: every record of the list

@@ -7,8 +7,8 @@ use Rattle.numbers.specs.Numbers.{TOO-LONG}
 use Rattle.text_bytes.specs.Bytes.{Bytes}
 use Rattle.rules.specs.Breaks.{Break, breakAt}
 use Rattle.rules.specs.Promised.{IsBroken, Reports}
-use Rattle.faults.specs.declared.Fault.{Fault}
-use Rattle.faults.specs.Records.{faultOf}
+use Rattle.fault_steps.specs.declared.Fault.{Fault}
+use Rattle.fault_steps.specs.Records.{faultOf}
 
 -- of one over the limit
 pub record Refused (ys : List Fault) (n k : ℕ) (zs : List Fault) : Type 0 where

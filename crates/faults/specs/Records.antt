@@ -8,13 +8,9 @@ use lib.Dec.{ltb}
 use Rattle.numbers.specs.Numbers.{TOO-LONG}
 use Rattle.text_bytes.specs.Bytes.{Bytes}
 use Rattle.text.specs.Lines.{LIMIT}
-use Rattle.rules.specs.Breaks.{Break}
 use Rattle.rules.specs.Rules.{breaks}
-use Rattle.faults.specs.declared.Fault.{Fault}
-
--- the record of a break
-abbrev pub faultOf : Break → Fault
-faultOf b = record { rule = b .rule; line = b .line; cell = b .cell }
+use Rattle.fault_steps.specs.declared.Fault.{Fault}
+use Rattle.fault_steps.specs.Records.{faultOf}
 
 -- the number, the count of all breaks, and the lent list afterwards
 pub record Outcome : Type 0 where

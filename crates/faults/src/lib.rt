@@ -1,25 +1,16 @@
 // The judging call over a lent list of records.
-mod steps;
-
-use book::layout::book;
 use book::slots::SLOTS;
-use steps::PLACES;
-use steps::begin;
-use steps::next;
+use book_text::book;
+use fault_steps::Fault;
+use fault_steps::PLACES;
+use fault_steps::begin;
+use fault_steps::next;
 ghost use mathlib.Core.Path.{_≡_};
 ghost use Prim.Native.Nat.{_<_, _≤_, _+_, _*_};
 ghost use lib.ListN.{length, set};
 ghost use lib.Seq.{sets};
+ghost use Rattle.fault_steps.specs.Steps.{recordAt, records};
 ghost use Rattle.faults.specs.Records.{outcome, judged};
-ghost use Rattle.faults.specs.Steps.{recordAt, records};
-
-// A break: its rule, and its line and cell in the file.
-#[repr(C)]
-pub struct Fault {
-    pub rule: u32,
-    pub line: u32,
-    pub cell: u32,
-}
 
 // The record whose numbers begin at place j.
 fn record_at(places: &[u32], j: usize) -> Fault

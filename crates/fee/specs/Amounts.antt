@@ -1,12 +1,9 @@
--- Amounts in whole cents, their limit and their sum: paper 02, request 2026-10. Assumes nothing.
+-- The sum of two amounts in whole cents: paper 02, request 2026-10. Assumes nothing.
 use Prim.Native.Nat.{ℕ, _+_}
 use mathlib.Core.Bool.{cond}
 use lib.Dec.{leb}
 use Rattle.numbers.specs.Numbers.{TOO-LARGE}
-
--- 1,000,000,000.00: the most that a fee or a sum may be
-abbrev pub LIMIT : ℕ
-LIMIT = 100000000000
+use Rattle.fee_shares.specs.Refusals.{LIMIT}
 
 -- what adding gives: a number and an amount
 pub record Added : Type 0 where

@@ -3,11 +3,12 @@ use mathlib.Core.Path.{_≡_, refl}
 use mathlib.Core.List.{[], _∷_}
 use lib.ListN.{replicate}
 use Rattle.numbers.specs.Numbers.{NOT-AS-MANY, TOO-LARGE, ALL-ZERO}
-use Rattle.fee.specs.Sums.{sumTo, listTo}
-use Rattle.fee.specs.Amounts.{LIMIT, added, sumOf}
+use Rattle.fee_shares.specs.Sums.{sumTo, listTo}
+use Rattle.fee_shares.specs.Refusals.{LIMIT, anyLarge, refusal}
+use Rattle.fee.specs.Amounts.{added, sumOf}
 use Rattle.fee.specs.Places.{plain, cents}
-use Rattle.fee.specs.Shares.{before}
-use Rattle.fee.specs.Split.{anyLarge, refusal, outcome, splitOf}
+use Rattle.fee_shares.specs.Shares.{before}
+use Rattle.fee.specs.Split.{outcome, splitOf}
 
 -- a sum of exactly the limit is granted, one cent more is refused
 to-the-limit : sumOf 99999999999 1 ≡ added 0 LIMIT

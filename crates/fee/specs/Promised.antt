@@ -3,10 +3,10 @@ use Prim.Native.Nat.{ℕ, _+_, _*_, _<_}
 use mathlib.Core.Path.{_≡_}
 use mathlib.Core.List.{List}
 use lib.ListN.{length}
-use Rattle.fee.specs.Sums.{sumTo, at}
+use Rattle.fee_shares.specs.Sums.{sumTo, at}
 use Rattle.fee.specs.Places.{Holding, amountAt}
-use Rattle.fee.specs.Shares.{total}
-use Rattle.fee.specs.Split.{refusal}
+use Rattle.fee_shares.specs.Shares.{total}
+use Rattle.fee_shares.specs.Refusals.{refusal}
 
 -- number n and the places zs, which held ys before
 pub record Promised {A : Type 0} (p : Holding A) (fee : ℕ) (ws : List ℕ) (ys : List A) (n : ℕ) (zs : List A) : Type 0 where

@@ -1,28 +1,15 @@
--- What the functions of a split know of each other's answers. No public contract cites this file. Assumes nothing.
-use Prim.Native.Nat.{ℕ, zero, suc, _+_, _≤_, _<_}
+-- What `fill` and `share_at` leave for `Cents::split`. No public contract cites this file. Assumes nothing.
+use Prim.Native.Nat.{ℕ, zero, suc, _+_, _≤_}
 use mathlib.Core.Path.{_≡_}
 use mathlib.Core.List.{List, [], _∷_}
 use lib.ListN.{length}
 use lib.Seq.{sets}
 use Rattle.fee.specs.declared.Cents.{Cents}
 use Rattle.fee.specs.declared.Filled.{Filled}
-use Rattle.fee.specs.Sums.{at}
-use Rattle.fee.specs.Amounts.{LIMIT}
-use Rattle.fee.specs.Shares.{total, rest}
+use Rattle.fee_shares.specs.Sums.{at}
+use Rattle.fee_shares.specs.Refusals.{MOST-WEIGHTS}
 use Rattle.fee.specs.Places.{cents}
-use Rattle.fee.specs.Split.{MOST-WEIGHTS, WEIGHT-END, outcome, splitOf}
-
--- a fee and its weights where a call is not refused
-pub record Granted (fee : ℕ) (ws : List ℕ) : Type 0 where
-  pub few : length ws ≤ MOST-WEIGHTS
-  pub small : fee ≤ LIMIT
-  pub light : (i : ℕ) → at ws i < WEIGHT-END
-  pub some : 0 < total ws
-
--- rs has the remainders of the weights, and room for 64
-pub record Rests (fee : ℕ) (ws rs : List ℕ) : Type 0 where
-  pub long : length rs ≡ MOST-WEIGHTS
-  pub rests : (i : ℕ) → i < length ws → at rs i ≡ rest fee ws i
+use Rattle.fee.specs.Split.{outcome, splitOf}
 
 -- the share that stands at place k
 abbrev pub shareAt : List ℕ → ℕ → Cents

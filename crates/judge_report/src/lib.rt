@@ -1,5 +1,5 @@
 // What the judging call gives of a file, printed: OK, or FAULTS and the count and then line, cell and rule of the first 4,096 breaks.
-use mztab::judged::judge_places;
+use judged::judge_places;
 ghost use Prim.Native.Nat.{_≤_};
 
 // How many breaks are printed.

@@ -31,5 +31,5 @@ pub record Going (b : Book) (file : Bytes) (s : Carried) (slots : List Bool) : T
 -- before the first line, where no key has come
 pub record Begun (b : Book) (file : Bytes) (s : Carried) : Type 0 where
   pub number : s .number ≡ lengthNumber file
-  pub stand : s .stand ≡ beginning (s .stand .facts)
+  pub stand : s .stand ≡ beginning (s .stand .state .asking)
   pub going : s .number ≡ 0 → Going b file s (replicate SLOTS false)

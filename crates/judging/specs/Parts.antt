@@ -9,8 +9,8 @@ use Rattle.text.specs.Lines.{lines}
 use Rattle.scan.specs.Places.{LINE-MOST, END-MOST, lent, putAll}
 use Rattle.rules.specs.Rules.{breaksBy}
 use Rattle.scan.specs.Carried.{initial, Scan, from, last}
-use Rattle.book_facts.specs.Facts.{FactsOf}
-use Rattle.book_facts.specs.declared.Facts.{Facts}
+use Rattle.book_facts.specs.Asked.{AskingOf}
+use Rattle.book_facts.specs.declared.Asking.{Asking}
 use Rattle.judging.specs.declared.parts.Stand.{Stand}
 use Rattle.book.specs.Book.{Book}
 
@@ -19,13 +19,13 @@ abbrev pub putSoFar : Stand → ℕ
 putSoFar s = s .before + s .held
 
 -- before the first line
-abbrev pub beginning : Facts → Stand
-beginning x = record { more = true; at = 0; lines = 0; before = 0; held = 0; state = initial; facts = x }
+abbrev pub beginning : Asking → Stand
+beginning a = record { more = true; at = 0; lines = 0; before = 0; held = 0; state = initial a }
 
 -- in the middle of a file: what is carried stands for the lines passed, and all of their breaks were put
 pub record Midway (b : Book) (file : Bytes) (s : Stand) (kinds : List ℕ) (slots : List Bool) : Type 0 where
   pub scan : Scan b file (s .at) (s .lines) (s .state) kinds slots
-  pub facts : FactsOf (lines file) (s .facts)
+  pub asking : AskingOf b (lines file) (s .state .asking)
   pub most : putSoFar s ≤ length (breaksBy b (lines file))
   pub left : drop (putSoFar s) (breaksBy b (lines file)) ≡ from b (lines file) (s .lines) ++ last b (lines file)
 

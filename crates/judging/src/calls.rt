@@ -2,7 +2,8 @@
 use crate::parts::Stand;
 use crate::parts::beginning;
 use crate::parts::judge_part;
-use book_facts::Facts;
+use book_facts::Asking;
+use book_facts::asking_of;
 use book_facts::survey;
 use numbers::TOO_LONG;
 use scan::state::MOST_CELLS;
@@ -34,10 +35,10 @@ pub fn begin(book: &[u8], file: &[u8]) -> Carried
 {
     let none = [false; INDICES];
     if LIMIT < file.len() {
-        let nothing = Facts {
+        let nothing = Asking {
             mode: 0,
             typed: 0,
-            version: 0,
+            assay: false,
         };
         return Carried {
             number: TOO_LONG,
@@ -51,9 +52,10 @@ pub fn begin(book: &[u8], file: &[u8]) -> Carried
     }
     let mut flags = [[false; INDICES]; FAMILIES];
     let facts = survey(&mut flags, book, file);
+    let asking = asking_of(facts, &flags);
     Carried {
         number: 0,
-        stand: beginning(facts),
+        stand: beginning(asking),
         kinds: [0u8; MOST_CELLS],
         samples: flags[0],
         assays: flags[1],

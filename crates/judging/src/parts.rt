@@ -1,5 +1,5 @@
 // Judging a file in parts, each of as many breaks as a lent list has room for, or in one.
-use book_facts::Facts;
+use book_facts::Asking;
 use line_any::Step;
 use line_any::judge_line;
 use line_end::judge_end;
@@ -21,7 +21,7 @@ ghost use Rattle.book.specs.Book.{SLOTS};
 ghost use Rattle.judging.specs.Parts.{beginning as first, Midway, Parts};
 
 // Where the judging of a file stands: whether there is more to judge, the place of the next line and how many lines are passed, the breaks of the parts
-// before and of the last one, the state that stands for the lines passed, and the facts of the whole file.
+// before and of the last one, and the state that stands for the lines passed.
 pub struct Stand {
     pub more: bool,
     pub at: usize,
@@ -29,12 +29,11 @@ pub struct Stand {
     pub before: u32,
     pub held: u32,
     pub state: State,
-    pub facts: Facts,
 }
 
 // Before the first line.
-pub fn beginning(facts: Facts) -> Stand
-    ensures { λ r. ⌜ r ≡ first facts ⌝ }
+pub fn beginning(asking: Asking) -> Stand
+    ensures { λ r. ⌜ r ≡ first asking ⌝ }
 {
     Stand {
         more: true,
@@ -42,8 +41,7 @@ pub fn beginning(facts: Facts) -> Stand
         lines: 0,
         before: 0,
         held: 0,
-        state: start(),
-        facts,
+        state: start(asking),
     }
 }
 
@@ -72,7 +70,6 @@ pub fn judge_part(
 {
     let mut stamps = [0u32; ROOM];
     let before = stand.before + stand.held;
-    let facts = stand.facts;
     let mut state = stand.state;
     let mut at = stand.at;
     let mut n = stand.lines;
@@ -86,7 +83,6 @@ pub fn judge_part(
                 before,
                 held: k,
                 state,
-                facts,
             };
         }
         let line = line_at(file, at);
@@ -111,7 +107,7 @@ pub fn judge_part(
         state = step.state;
         at = line.next;
     }
-    let held = judge_end(places, k, book, n + 1, slots, flags, facts, state);
+    let held = judge_end(places, k, book, n + 1, slots, flags, state);
     Stand {
         more: false,
         at,
@@ -119,6 +115,5 @@ pub fn judge_part(
         before,
         held,
         state,
-        facts,
     }
 }

@@ -102,9 +102,11 @@ pub fn judge_line(
         Sort::Header(h) => {
             let seen = state.seen;
             let again = seen[h as usize];
+            let asking = state.asking;
             let head = Head {
                 tag,
                 section: h,
+                asking,
                 again,
                 later: h < state.highest,
             };

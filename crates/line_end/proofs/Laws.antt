@@ -1,4 +1,2 @@
 -- Laws over plain lists, with no code in them.
-pub mod Flagging
-pub mod Lettered
 pub mod Wanting

@@ -5,79 +5,31 @@ use book::demands::ONCE;
 use book::demands::count_demands;
 use book::demands::nth_demand;
 use book::slots::start_of;
-use book_facts::Facts;
+use book_facts::Asking;
+use book_facts::is_asked;
+use book_ids::any_marked;
 use scan::places::put_if;
 use scan::state::State;
 use text_bytes::both;
-use text_bytes::either;
 use value_references::FAMILIES;
 use value_references::INDICES;
 ghost use mathlib.Core.Path.{_≡_};
 ghost use mathlib.Core.List.{[]};
 ghost use Prim.Native.Nat.{_+_, _≤_, _<_};
 ghost use lib.ListN.{length, getD};
-ghost use Rattle.book.specs.Book.{SLOTS, noDemand, wantsOf, upFrom};
+ghost use Rattle.book.specs.Book.{noDemand, wantsOf, upFrom};
 ghost use Rattle.book.specs.Text.{bookIn, IsBook};
 ghost use Rattle.book_ids.specs.Ids.{Flags};
-ghost use Rattle.rules.specs.Rules.{asks};
 ghost use Rattle.scan.specs.Places.{CEILING, END-MOST, lent, Puts};
-ghost use Rattle.scan.specs.Machine.{isMarked, wantBreaks, endBreaks};
+ghost use Rattle.scan.specs.Machine.{wantBreaks, endBreaks};
 ghost use Rattle.line_end.specs.Ends.{seen, Whole, seenBy, idBreaks};
 
-// The family of assays.
-const ASSAYS: usize = 1;
-
-// The rule that a demand breaks.
-const RULE: u32 = 21;
-
-// What decides whether a demand is asked of a file: the letters of its mode and type, 0 for none, whether it declares an assay, and the sections that are
-// present, with 0 among them.
-struct Asking {
-    pub mode: u8,
-    pub typed: u8,
-    pub assay: bool,
+// The line after the last, and what was found of the file: what decides whether something is asked of it, and the sections that are present, with 0 among
+// them.
+struct End {
+    pub line: u32,
+    pub asking: Asking,
     pub present: [bool; SECTIONS],
-}
-
-// Whether any flag or slot is marked, from one up to another.
-fn any_marked(slots: &[bool], from: usize, to: usize) -> bool
-    requires { ⌜ (from ≤ to) × (to ≤ length (now slots)) ⌝ }
-    ensures { λ r. ⌜ r ≡ isMarked (now (slots .entry)) from to ⌝ }
-{
-    let mut i = from;
-    while i < to {
-        if slots[i] {
-            return true;
-        }
-        i += 1;
-    }
-    false
-}
-
-// Whether a demand with the letter is asked of a file of this mode and type: * of every file, + of those that have both, C of Complete ones, q of
-// Quantification ones, Q of those that are both, A of these and, where an assay is declared, of all Quantification ones.
-fn is_asked(asked: u8, mode: u8, typed: u8, assay: bool) -> bool
-    ensures { λ r. ⌜ r ≡ asks asked mode typed assay ⌝ }
-{
-    if asked == b'*' {
-        return true;
-    }
-    if mode == 0 {
-        return false;
-    }
-    if typed == 0 {
-        return false;
-    }
-    let complete = mode == b'C';
-    let quantified = typed == b'Q';
-    match asked {
-        b'+' => true,
-        b'C' => complete,
-        b'q' => quantified,
-        b'Q' => both(quantified, complete),
-        b'A' => both(quantified, either(complete, assay)),
-        _ => false,
-    }
 }
 
 // A demand that is asked for each declared id of a family: its key with the id's index is absent. The slots of the key begin at `from`.
@@ -96,7 +48,7 @@ fn judge_ids(
     requires { ⌜ Flags (now flags) ⌝ }
     requires { ⌜ d .cell < 65536 ⌝ }
     requires { ⌜ count + 64 ≤ CEILING ⌝ }
-    ensures { λ r. ⌜ Puts (idBreaks asked (now (slots .entry)) (getD (now (flags .entry)) (d .each) []) from (d .cell) «line_no» (upFrom 64 1)) 64 (lent (now (places .entry)) count) (lent (now (places .exit)) r) ⌝ }
+    ensures { λ r. ⌜ Puts (idBreaks d asked (now (slots .entry)) (getD (now (flags .entry)) (d .each) []) from «line_no» (upFrom 64 1)) 64 (lent (now (places .entry)) count) (lent (now (places .exit)) r) ⌝ }
 {
     let f = d.each;
     let ids = flags[f];
@@ -106,7 +58,7 @@ fn judge_ids(
     while i < INDICES {
         cell += 1;
         let lacking = both(both(asked, ids[i]), !slots[from + i]);
-        c = put_if(places, c, lacking, RULE, line_no, cell);
+        c = put_if(places, c, lacking, d.rule, line_no, cell);
         i += 1;
     }
     c
@@ -118,32 +70,28 @@ fn judge_demand(
     count: u32,
     book: &[u8],
     k: usize,
-    line_no: u32,
+    end: End,
     slots: &[bool],
     flags: &[[bool; INDICES]; FAMILIES],
-    asking: Asking,
 ) -> u32
     requires { ⌜ IsBook (now book) ⌝ }
     requires { ⌜ k < length ((bookIn (now book)) .demands) ⌝ }
-    requires { ⌜ Whole (now slots) (now flags) asking ⌝ }
+    requires { ⌜ Whole (now slots) (now flags) (end .asking) ⌝ }
     requires { ⌜ count + length (wantsOf (getD ((bookIn (now book)) .demands) k noDemand)) ≤ CEILING ⌝ }
-    ensures { λ r. ⌜ Puts (wantBreaks (bookIn (now (book .entry))) (seen (now (slots .entry)) (now (flags .entry)) asking) «line_no» (wantsOf (getD ((bookIn (now (book .entry))) .demands) k noDemand))) (length (wantsOf (getD ((bookIn (now (book .entry))) .demands) k noDemand))) (lent (now (places .entry)) count) (lent (now (places .exit)) r) ⌝ }
+    ensures { λ r. ⌜ Puts (wantBreaks (bookIn (now (book .entry))) (seen (now (slots .entry)) (now (flags .entry)) end) (end .line) (wantsOf (getD ((bookIn (now (book .entry))) .demands) k noDemand))) (length (wantsOf (getD ((bookIn (now (book .entry))) .demands) k noDemand))) (lent (now (places .entry)) count) (lent (now (places .exit)) r) ⌝ }
 {
     let d = nth_demand(book, k);
     let entry = d.entry;
     let from = start_of(book, entry);
     let section = d.section;
-    let present = asking.present;
-    let asked = both(
-        is_asked(d.asked, asking.mode, asking.typed, asking.assay),
-        present[section],
-    );
+    let present = end.present;
+    let asked = both(is_asked(d.asked, end.asking), present[section]);
     if d.each != ONCE {
-        return judge_ids(places, count, line_no, d, from, asked, slots, flags);
+        return judge_ids(places, count, end.line, d, from, asked, slots, flags);
     }
     let to = start_of(book, entry + 1);
     let lacking = both(asked, !any_marked(slots, from, to));
-    put_if(places, count, lacking, RULE, line_no, d.cell)
+    put_if(places, count, lacking, d.rule, end.line, d.cell)
 }
 
 // What of the demanded metadata is absent, demand by demand.
@@ -151,28 +99,27 @@ fn judge_demands(
     places: &mut [u32],
     count: u32,
     book: &[u8],
-    line_no: u32,
+    end: End,
     slots: &[bool],
     flags: &[[bool; INDICES]; FAMILIES],
-    asking: Asking,
 ) -> u32
     requires { ⌜ IsBook (now book) ⌝ }
-    requires { ⌜ Whole (now slots) (now flags) asking ⌝ }
+    requires { ⌜ Whole (now slots) (now flags) (end .asking) ⌝ }
     requires { ⌜ count + END-MOST ≤ CEILING ⌝ }
-    ensures { λ r. ⌜ Puts (endBreaks (bookIn (now (book .entry))) (seen (now (slots .entry)) (now (flags .entry)) asking) «line_no») END-MOST (lent (now (places .entry)) count) (lent (now (places .exit)) r) ⌝ }
+    ensures { λ r. ⌜ Puts (endBreaks (bookIn (now (book .entry))) (seen (now (slots .entry)) (now (flags .entry)) end) (end .line)) END-MOST (lent (now (places .entry)) count) (lent (now (places .exit)) r) ⌝ }
 {
     let n = count_demands(book);
     let mut k = 0;
     let mut c = count;
     while k < n {
-        c = judge_demand(places, c, book, k, line_no, slots, flags, asking);
+        c = judge_demand(places, c, book, k, end, slots, flags);
         k += 1;
     }
     c
 }
 
-// What of the demanded metadata is absent, at the line after the last: by the slots of the keys that came, the ids that are declared, the file's facts and the
-// sections that are present.
+// What of the demanded metadata is absent, at the line after the last: by the slots of the keys that came, the ids that are declared, and what the state has of
+// the file: what decides whether something is asked, and the sections that are present.
 pub fn judge_end(
     places: &mut [u32],
     count: u32,
@@ -180,23 +127,19 @@ pub fn judge_end(
     line_no: u32,
     slots: &[bool],
     flags: &[[bool; INDICES]; FAMILIES],
-    facts: Facts,
     state: State,
 ) -> u32
     requires { ⌜ IsBook (now book) ⌝ }
-    requires { ⌜ length (now slots) ≡ SLOTS ⌝ }
-    requires { ⌜ Flags (now flags) ⌝ }
+    requires { ⌜ Whole (now slots) (now flags) (state .asking) ⌝ }
     requires { ⌜ count + END-MOST ≤ CEILING ⌝ }
-    ensures { λ r. ⌜ Puts (endBreaks (bookIn (now (book .entry))) (seenBy (now (slots .entry)) (now (flags .entry)) facts state) «line_no») END-MOST (lent (now (places .entry)) count) (lent (now (places .exit)) r) ⌝ }
+    ensures { λ r. ⌜ Puts (endBreaks (bookIn (now (book .entry))) (seenBy (now (slots .entry)) (now (flags .entry)) state) «line_no») END-MOST (lent (now (places .entry)) count) (lent (now (places .exit)) r) ⌝ }
 {
-    let assays = flags[ASSAYS];
-    let assay = any_marked(&assays, 0, INDICES);
+    let asking = state.asking;
     let present = state.present;
-    let asking = Asking {
-        mode: facts.mode,
-        typed: facts.typed,
-        assay,
+    let end = End {
+        line: line_no,
+        asking,
         present,
     };
-    judge_demands(places, count, book, line_no, slots, flags, asking)
+    judge_demands(places, count, book, end, slots, flags)
 }

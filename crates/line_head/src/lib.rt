@@ -1,4 +1,5 @@
 // Judging a header: rules 1 and 9 to 16, put into the lent places.
+use book_facts::Asking;
 use line_head_names::Names;
 use line_head_names::head_cells;
 use line_head_required::lacks;
@@ -16,15 +17,17 @@ ghost use lib.ListN.{length, drop};
 ghost use Rattle.text.specs.Lines.{LIMIT, cells};
 ghost use Rattle.book.specs.Book.{isSection};
 ghost use Rattle.book.specs.Text.{bookIn, IsBook};
+ghost use Rattle.book_facts.specs.Asked.{askedBy};
 ghost use Rattle.scan.specs.Places.{CEILING, HEADED-MOST, LINE-MOST, lent, Puts};
 ghost use Rattle.scan.specs.Machine.{idsOf, headBreaks, headFirst, nameBreaks};
 ghost use Rattle.line_head_stamps.specs.Stamps.{ROOM as room};
 ghost use Rattle.line_head.specs.Heads.{Kept, KeepsKinds};
 
-// A header, beside its bytes: its line, its section, and whether a header of its section, of a later one, stands above.
+// A header, beside its bytes: its line, its section, what decides which columns are asked, and whether a header of its section, of a later one, stands above.
 pub struct Head {
     pub tag: Tag,
     pub section: u32,
+    pub asking: Asking,
     pub again: bool,
     pub later: bool,
 }
@@ -58,10 +61,10 @@ fn head_names(
     requires { ⌜ length (cells (drop (names .from) (now line))) ≤ 255 ⌝ }
     requires { ⌜ length (now kinds) ≡ 256 ⌝ }
     requires { ⌜ length (now stamps) ≡ room ⌝ }
-    ensures { λ r. ⌜ Puts (nameBreaks (bookIn (now (book .entry))) (names .section) (idsOf (now (flags .entry))) (names .tag .control) (names .tag .line) (cells (drop (names .from) (now (line .entry))))) HEADED-MOST (lent (now (places .entry)) count) (lent (now (places .exit)) r) ⌝ }
+    ensures { λ r. ⌜ Puts (nameBreaks (bookIn (now (book .entry))) (askedBy (names .asking)) (names .section) (idsOf (now (flags .entry))) (names .tag .control) (names .tag .line) (cells (drop (names .from) (now (line .entry))))) HEADED-MOST (lent (now (places .entry)) count) (lent (now (places .exit)) r) ⌝ }
     ensures { λ r. ⌜ Kept (bookIn (now (book .entry))) (names .section) (cells (drop (names .from) (now (line .entry)))) (now (kinds .exit)) (now (stamps .exit)) ⌝ }
 {
-    let lacking = lacks(book, line, names.from, names.section);
+    let lacking = lacks(book, line, names.from, names.section, names.asking);
     let k = put_if(places, count, lacking, 16, names.tag.line, 1);
     head_cells(places, k, book, line, names, flags, kinds, stamps)
 }
@@ -84,11 +87,12 @@ pub fn judge_head(
     requires { ⌜ length (now kinds) ≡ 256 ⌝ }
     requires { ⌜ length (now stamps) ≡ room ⌝ }
     requires { ⌜ length (now line) ≤ LIMIT ⌝ }
-    ensures { λ r. ⌜ Puts (headBreaks (bookIn (now (book .entry))) (head .section) (head .again) (head .later) (idsOf (now (flags .entry))) (head .tag .control) (head .tag .line) (cells (now (line .entry)))) LINE-MOST (lent (now (places .entry)) count) (lent (now (places .exit)) r) ⌝ }
+    ensures { λ r. ⌜ Puts (headBreaks (bookIn (now (book .entry))) (askedBy (head .asking)) (head .section) (head .again) (head .later) (idsOf (now (flags .entry))) (head .tag .control) (head .tag .line) (cells (now (line .entry)))) LINE-MOST (lent (now (places .entry)) count) (lent (now (places .exit)) r) ⌝ }
     ensures { λ r. ⌜ KeepsKinds (bookIn (now (book .entry))) (head .section) (now (line .entry)) (now (kinds .exit)) (now (stamps .exit)) ⌝ }
 {
     let wide = MOST_CELLS < count_cells(line);
     let tag = head.tag;
+    let asking = head.asking;
     let k = head_code(places, count, head, wide);
     if wide {
         return put_if(places, k, 1 < tag.control, 1, tag.line, tag.control);
@@ -100,6 +104,7 @@ pub fn judge_head(
     let names = Names {
         tag,
         section: head.section,
+        asking,
         from: e + 1,
     };
     head_names(places, k, book, line, names, flags, kinds, stamps)

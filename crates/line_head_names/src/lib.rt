@@ -1,6 +1,7 @@
 // The column names of a header, each judged by what the book says of it.
 use book::column;
 use book::is_opt;
+use book_facts::Asking;
 use book_kinds::family_number;
 use book_names::Found;
 use line_head_stamps::came_before;
@@ -27,10 +28,11 @@ ghost use Rattle.line_head_stamps.specs.Stamps.{ROOM as room};
 // The letter of a column that names no id.
 const NO_FAMILY: u8 = b'-';
 
-// The names of a header: its line, its section, and where the first of them begins.
+// The names of a header: its line, its section, what decides which of them are asked, and where the first begins.
 pub struct Names {
     pub tag: Tag,
     pub section: u32,
+    pub asking: Asking,
     pub from: usize,
 }
 

@@ -1,8 +1,9 @@
--- Whether a wanted name is among the names of a header. Assumes nothing.
+-- The line of a required column. No public contract cites this file. Assumes nothing.
 use mathlib.Core.Bool.{Bool}
-use mathlib.Core.List.{List}
-use Rattle.text_bytes.specs.Bytes.{Bytes, same, any}
+use lib.ListN.{length}
+use lib.Dec.{leb}
+use Rattle.text_bytes.specs.Bytes.{Bytes}
 
--- a wanted name is one of these
-abbrev pub isIn : List Bytes → Bytes → Bool
-isIn names wanted = any (same wanted) names
+-- it has a letter and a space
+abbrev pub isLine : Bytes → Bool
+isLine line = leb 2 (length line)

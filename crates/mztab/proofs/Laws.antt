@@ -1,4 +1,3 @@
 -- Laws over plain lists and positions, with no code in them.
 pub mod Locating
 pub mod Counting
-pub mod Judging

@@ -4,8 +4,6 @@ use mathlib.Core.Path.{_≡_, sym, ap, _∙_}
 use mathlib.Core.Bool.{Bool, true, false}
 use denote.Ref.{RefT}
 use Rattle.text_bytes.specs.Bytes.{Bytes, is}
-use mathlib.Core.List.{List}
-use Rattle.mztab.specs.Judged.{Outcome, outcome, judged}
 use Rattle.mztab.specs.Readings.{Told, told, readingOf}
 use Rattle.mztab.specs.declared.records.Reading.{Reading}
 use Rattle.mztab.specs.Shown.{Sought, Shown, given, sought, shown, orElse, Points, PointsOr}
@@ -41,8 +39,3 @@ module _ (file : RefT Bytes) (section row column : ℕ) (v w : RefT Bytes) where
 pub reading-once : (file : Bytes) (section row column : ℕ) {n m : ℕ} {r q : Reading}
     → told n r ≡ readingOf (sought file section row column) → told m q ≡ readingOf (sought file section row column) → (n ≡ m) × (r ≡ q)
 reading-once file section row column p q = (ap (λ (x : Told). x .number) (p ∙ sym q), ap (λ (x : Told). x .reading) (p ∙ sym q))
-
--- `judge_places` and `mztab_judge`: one number, one count, and every place of the list
-pub judge-places-once : (file : Bytes) (ys : List ℕ) {n m k l : ℕ} {zs ws : List ℕ} → outcome n k zs ≡ judged file ys → outcome m l ws ≡ judged file ys → (n ≡ m) × (k ≡ l) × (zs ≡ ws)
-judge-places-once file ys p q =
-    (ap (λ (x : Outcome). x .number) (p ∙ sym q), ap (λ (x : Outcome). x .count) (p ∙ sym q), ap (λ (x : Outcome). x .places) (p ∙ sym q))

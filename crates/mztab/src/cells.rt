@@ -1,7 +1,7 @@
 // The cell calls: one function finds the place, and each call shows it in its own way.
 use crate::records::Reading;
-use book::directory::directory;
 use book::directory::is_section;
+use book_text::directory;
 use numbers::NO_CELL;
 use numbers::NO_ROW;
 use numbers::NO_SECTION;

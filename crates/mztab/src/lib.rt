@@ -1,4 +1,3 @@
-// The public calls: the library over lent bytes.
+// The public cell calls: the library over lent bytes.
 pub mod cells;
-pub mod judged;
 pub mod records;

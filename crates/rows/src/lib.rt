@@ -1,7 +1,7 @@
 // The rows of a section, in the file's order, whatever breaks the file has, and the columns of a line.
 use book::directory::code_of;
-use book::directory::directory;
 use book::directory::is_section;
+use book_text::directory;
 use numbers::NO_SECTION;
 use numbers::TOO_LONG;
 use text::LIMIT;

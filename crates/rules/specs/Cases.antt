@@ -16,14 +16,15 @@ use Rattle.book.specs.Columns.{proteinColumns, peptideColumns, psmColumns, mole
 use Rattle.book.specs.Book.{mzTab, upFrom, wantsOf, wantsIn, lastCell, hasForm, demands, bookOf, isSection, sectionOf, codedFrom, keyOf, isOpt, optOf, columnOf}
 use Rattle.book_ids.specs.Ids.{declares}
 use Rattle.book_facts.specs.Facts.{earliest, modeOf, typeOf}
+use Rattle.book_facts.specs.Asked.{asks}
 use Rattle.value_references.specs.References.{refTo, trimmed, refsTo, isReferences}
 use Rattle.book_kinds.specs.Kinds.{familyNumber, isKept, isFixed, ofKind, cellOfKind}
 use Rattle.rules.specs.Sorts.{codeSort, sortOf, isSilent}
 use Rattle.rules.specs.Breaks.{Break, breakAt, each, atCell, atLine, inLines, atEnd}
-use Rattle.rules.specs.Rules.{sameKey, namedIn, isUndeclared, lacksColumn, nearestIn, rules, asks, isPresent, isAsked, hasKey, isUnmet, endRules, breaksBy, breaks}
+use Rattle.rules.specs.Rules.{sameKey, namedIn, isUndeclared, lacksColumn, nearestIn, rules, isPresent, isAsked, hasKey, isUnmet, endRules, breaksBy, breaks}
 
 pub example : breaks (bytes "MTD\tmzTab-version\t1.0.0\nMTD\tmzTab-mode\tSummary\nMTD\tmzTab-type\tIdentification\nMTD\tdescription\tYeast check\nMTD\tms_run[1]-location\tfile:///a.mzML\n\nPRH\taccession\tdescription\tdatabase\tsearch_engine\tnum_psms_ms_run[2]\nPRT\tY1\tnull\tdb\tnull\t\nPRT\tnull\tx\tdb\tnull\t4\n")
-    ≡ breakAt 7 6 15 ∷ breakAt 8 6 19 ∷ breakAt 9 2 20 ∷ []
+    ≡ breakAt 7 6 15 ∷ breakAt 8 6 19 ∷ breakAt 9 2 20 ∷ breakAt 10 500 22 ∷ breakAt 10 900 22 ∷ breakAt 10 1000 22 ∷ []
 unfolding bytes same begins isEmpty any all onFirst splitOn lines startsLf coded cell isField control firstControl written digits number bracketed indexAt areDigits unsigned unmarked dotted isE mantissa exponent isExponent isUnsigned isText isWhole isNumeral isDecimal isDecimals isWindow isNull quotedAfter cutOutside isSpace hasFields isParameter isParameters piecesFrom entryOf fits firstOf keys isColunit proteinColumns peptideColumns psmColumns moleculeColumns proteinRequired peptideRequired psmRequired moleculeRequired mzTab demands bookOf isSection sectionOf codedFrom keyOf isOpt optOf columnOf declares refTo trimmed refsTo isReferences familyNumber isKept isFixed namedIn ofKind cellOfKind codeSort sortOf isSilent each atCell atLine inLines atEnd sameKey isUndeclared lacksColumn nearestIn rules hasForm hasKey asks modeOf typeOf earliest isPresent isAsked upFrom wantsOf wantsIn isUnmet lastCell endRules breaksBy breaks
 example = refl
 

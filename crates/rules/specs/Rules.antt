@@ -1,18 +1,18 @@
--- When a line breaks each of the 21 rules: paper 01, 'The 21 rules', one line each, in its words and order, with what stops it. Assumes nothing.
-use Prim.Native.Nat.{ℕ, _-_}
-use Prim.Native.String.{String}
+-- When a line breaks each of the 22 rules: paper 01, 'The 21 rules', one line each, in its words and order, with what stops it; and rule 22 of request
+-- 2026-01. Assumes nothing.
+use Prim.Native.Nat.{ℕ, _+_, _-_}
 use mathlib.Core.Bool.{Bool, true, false, cond, not, _&&_, _||_}
-use mathlib.Core.List.{List, [], _∷_, _++_}
+use mathlib.Core.List.{List, [], _∷_, _++_, map}
 use lib.ListN.{length, getD, take, drop}
 use lib.Dec.{eqb, leb, ltb}
 use Rattle.text_bytes.specs.Bytes.{Bytes, bytes, same, isEmpty, any, all}
 use Rattle.text.specs.Lines.{lines, cells, cell, width, isMeta, isThree, isField}
 use Rattle.book.specs.Keys.{isColunit}
-use Rattle.book.specs.Book.{Want, cellOf, upFrom, wants, lastCell, Book, hasForm, sectionOf, keyOf, isOpt, columnOf, bookOf}
-use Rattle.book.specs.Letters.{TEXT, REFERENCE, REFERENCES, NONE, ALWAYS, TYPED, COMPLETE, QUANTIFIED, BOTH, ASSAYED}
+use Rattle.book.specs.Book.{Demand, ONCE, Want, want, wants, lastCell, Book, hasForm, sectionOf, keyOf, isOpt, columnOf, bookOf}
+use Rattle.book.specs.Letters.{TEXT, REFERENCE, REFERENCES, NONE}
 use Rattle.book_names.specs.Names.{isKnown}
-use Rattle.book_ids.specs.Ids.{ASSAYS, declares}
-use Rattle.book_facts.specs.Facts.{modeOf, typeOf}
+use Rattle.book_ids.specs.Ids.{declares}
+use Rattle.book_facts.specs.Asked.{askedOf}
 use Rattle.value_references.specs.Index.{MOST}
 use Rattle.value_references.specs.References.{refTo, refsTo}
 use Rattle.book_kinds.specs.Kinds.{ofKind, cellOfKind, familyNumber, wordOf}
@@ -85,12 +85,12 @@ abbrev pub columnUndeclared : Book → List Bytes → Found → Bool
 columnUndeclared b file (Unknown w) = false
 columnUndeclared b file (Known e k f i j) = not (eqb f NONE) && isUndeclared b file (familyNumber f) (lastIndex i j)
 
--- a required column stands among the names
-abbrev pub hasColumn : List Bytes → String → Bool
-hasColumn ns r = any (same (bytes r)) ns
+-- a required column, by its line: it is not asked, by its letter, or its name, behind the letter and a space, is one of these
+abbrev pub hasColumn : (ℕ → Bool) → List Bytes → Bytes → Bool
+hasColumn asked ns line = not (asked (getD line 0 0)) || any (same (drop 2 line)) ns
 
-unfoldable pub lacksColumn : Book → ℕ → List Bytes → Bool
-lacksColumn b section ns = not (all (hasColumn ns) ((sectionOf b section) .required))
+unfoldable pub lacksColumn : Book → (ℕ → Bool) → ℕ → List Bytes → Bool
+lacksColumn b asked section ns = not (all (hasColumn asked ns) (map bytes ((sectionOf b section) .required)))
 
 -- the nearest header above, the empty line where there is none
 abbrev pub nearer : Book → Bytes → Bytes → Bytes
@@ -139,7 +139,7 @@ rules b =
     ∷ rule 13 (λ p c. leb 2 c && (isJudged b p && any (same (cell c (p .here))) (namesBefore (p .here) c)))
     ∷ rule 14 (λ p c. leb 2 c && (isJudged b p && (not (isOpt (cell c (p .here))) && any isOpt (namesBefore (p .here) c))))
     ∷ rule 15 (λ p c. leb 2 c && (isJudged b p && columnUndeclared b (p .file) (columnFound b (header b (p .here)) (p .here) c)))
-    ∷ rule 16 (λ p c. eqb c 1 && (isJudged b p && lacksColumn b (header b (p .here)) (names (p .here))))
+    ∷ rule 16 (λ p c. eqb c 1 && (isJudged b p && lacksColumn b (askedOf b (p .file)) (header b (p .here)) (names (p .here))))
     ∷ rule 17 (λ p c. eqb c 1 && (isRow b (p .here) && not (isHeaded b p)))
     ∷ rule 18 (λ p c. eqb c 1 && (isUnder b p && not (isAsWide b p)))
     ∷ rule 19 (λ p c. leb 2 c && ((isUnder b p && isAsWide b p) && isEmpty (cell c (p .here))))
@@ -147,22 +147,6 @@ rules b =
     ∷ []
 
 -- REQUIRED METADATA, at line N + 1, at the cells that the book's demands name
-
--- when a demand is asked, by its letter, of a file of this mode and type, 0 for none (67 is C Complete, 81 Q Quantification); `assay` says whether some assay
--- is declared
-unfoldable pub asks : ℕ → ℕ → ℕ → Bool → Bool
-asks asked mode type assay =
-    cond (eqb asked ALWAYS) true
-    (cond (eqb mode 0 || eqb type 0) false
-    (cond (eqb asked TYPED) true
-    (cond (eqb asked COMPLETE) (eqb mode 67)
-    (cond (eqb asked QUANTIFIED) (eqb type 81)
-    (cond (eqb asked BOTH) (eqb type 81 && eqb mode 67)
-    (cond (eqb asked ASSAYED) (eqb type 81 && (eqb mode 67 || assay)) false))))))
-
--- some id of a family is declared
-abbrev pub isDeclared : Book → List Bytes → ℕ → Bool
-isDeclared b file f = any (λ i. any (declares b f i) file) (upFrom MOST 1)
 
 -- a section is present where a line has its header code or its row code; 0 is asked of none
 abbrev pub inSection : Book → ℕ → Bytes → Bool
@@ -176,7 +160,7 @@ abbrev pub isFor : Book → List Bytes → Want → Bool
 isFor b file w = eqb (w .index) 0 || any (declares b (w .demand .each) (w .index)) file
 
 unfoldable pub isAsked : Book → List Bytes → Want → Bool
-isAsked b file w = (asks (w .demand .asked) (modeOf file) (typeOf file) (isDeclared b file ASSAYS) && isPresent b file (w .demand .section)) && isFor b file w
+isAsked b file w = (askedOf b file (w .demand .asked) && isPresent b file (w .demand .section)) && isFor b file w
 
 -- a key of the form that is wanted, as the table of keys writes it, and with the id's index
 abbrev pub isWanted : Book → Want → Found → Bool
@@ -191,8 +175,19 @@ hasKey b w m = isField m && isWanted b w (keyFound b m)
 unfoldable pub isUnmet : Book → List Bytes → Want → Bool
 isUnmet b file w = isAsked b file w && not (any (hasKey b w) file)
 
+-- a demand has this cell: its own, or so many further on as an index says
+abbrev pub hasCell : Demand → ℕ → Bool
+hasCell d c = cond (eqb (d .each) ONCE) (eqb c (d .cell)) (ltb (d .cell) c && leb c (d .cell + MOST))
+
+-- a demand breaks rule k at cell c: what it wants there is asked, and no line has it
+abbrev pub isBrokenAt : Book → List Bytes → ℕ → ℕ → Demand → Bool
+isBrokenAt b file k c d = eqb (d .rule) k && (hasCell d c && isUnmet b file (want d (c - d .cell)))
+
 unfoldable pub endRules : Book → List Rule
-endRules b = rule 21 (λ p c. any (λ w. eqb (cellOf w) c && isUnmet b (p .file) w) (wants b)) ∷ []
+endRules b =
+    rule 21 (λ p c. any (isBrokenAt b (p .file) 21 c) (b .demands))
+    ∷ rule 22 (λ p c. any (isBrokenAt b (p .file) 22 c) (b .demands))
+    ∷ []
 
 abbrev pub ends : Book → ℕ
 ends b = lastCell 0 (wants b)

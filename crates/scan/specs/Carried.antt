@@ -8,6 +8,8 @@ use lib.Dec.{ltb}
 use Rattle.text_bytes.specs.Bytes.{Bytes, any}
 use Rattle.text.specs.Lines.{cells, lines, width}
 use Rattle.book.specs.Book.{SECTIONS, SLOTS, Book}
+use Rattle.book_facts.specs.Asked.{askedBy}
+use Rattle.book_facts.specs.declared.Asking.{Asking}
 use Rattle.rules.specs.Sorts.{sortOf, header, isTable, controlCell}
 use Rattle.rules.specs.Breaks.{Break, spotAt, each, atLine, atEnd}
 use Rattle.rules.specs.Rules.{ofSection, ofLater, nearer, nearest, isPresent, rules, endRules, ends}
@@ -17,13 +19,14 @@ use Rattle.rules.specs.declared.sorts.Sort.{Sort}
 use Rattle.rules.specs.declared.sorts.Sort.the-variants.{Silent, Unknown, Meta, Header, Row}
 
 -- no line is above
-abbrev pub initial : State
-initial =
+abbrev pub initial : Asking → State
+initial a =
     record {
       seen = false ∷ false ∷ false ∷ false ∷ false ∷ [];
       present = true ∷ false ∷ false ∷ false ∷ false ∷ [];
       highest = 0;
       section = 0;
+      asking = a;
       width = 1;
       table = false;
     }
@@ -35,6 +38,7 @@ afterHeader h w s =
       present = set (s .present) h true;
       highest = cond (ltb (s .highest) h) h (s .highest);
       section = h;
+      asking = s .asking;
       width = w;
       table = true;
     }
@@ -43,7 +47,7 @@ afterHeader h w s =
 abbrev pub afterRow : ℕ → State → State
 afterRow r s =
     cond (getD (s .present) r false) s
-    (record { seen = s .seen; present = set (s .present) r true; highest = s .highest; section = s .section; width = s .width; table = true })
+    (record { seen = s .seen; present = set (s .present) r true; highest = s .highest; section = s .section; asking = s .asking; width = s .width; table = true })
 
 -- the state after a line of w cells, by its sort
 abbrev pub sortState : Sort → State → ℕ → State
@@ -58,7 +62,7 @@ abbrev pub sortBreaks : Book → Sort → Ids → State → List ℕ → List Bo
 sortBreaks b Silent ids s kinds slots cc n xs rest = rest
 sortBreaks b Unknown ids s kinds slots cc n xs rest = unknownBreaks cc n rest
 sortBreaks b Meta ids s kinds slots cc n xs rest = metaBreaks b (s .table) slots ids cc n xs rest
-sortBreaks b (Header h) ids s kinds slots cc n xs rest = headBreaks b h (getD (s .seen) h false) (ltb h (s .highest)) ids cc n xs rest
+sortBreaks b (Header h) ids s kinds slots cc n xs rest = headBreaks b (askedBy (s .asking)) h (getD (s .seen) h false) (ltb h (s .highest)) ids cc n xs rest
 sortBreaks b (Row r) ids s kinds slots cc n xs rest = rowBreaks (s .section) (s .width) kinds r cc n xs rest
 
 abbrev pub lineBreaks : Book → Ids → State → List ℕ → List Bool → ℕ → Bytes → List Break → List Break

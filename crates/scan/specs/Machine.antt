@@ -7,13 +7,14 @@ use mathlib.Core.List.{List, [], _∷_}
 use lib.ListN.{length, getD, take, drop}
 use lib.Dec.{eqb, leb, ltb}
 use Rattle.text_bytes.specs.Bytes.{Bytes, same, isEmpty, any}
-use Rattle.book.specs.Letters.{NONE}
+use Rattle.book.specs.Letters.{NONE, ASSAYS}
 use Rattle.book.specs.Keys.{isColunit}
-use Rattle.book.specs.Book.{SECTIONS, SLOTS, Demand, Want, cellOf, upFrom, wants, Book, keyOf, keyEntries, isOpt, columnOf}
+use Rattle.book.specs.Book.{SECTIONS, SLOTS, Demand, Want, cellOf, wants, Book, keyOf, keyEntries, isOpt, columnOf}
 use Rattle.book.specs.Text.{entryFor}
 use Rattle.book_names.specs.Names.{startOf, slotOf, isKnown}
-use Rattle.book_ids.specs.Ids.{ASSAYS, declares}
+use Rattle.book_ids.specs.Ids.{declares, isMarked}
 use Rattle.book_facts.specs.Facts.{modeOf, typeOf}
+use Rattle.book_facts.specs.Asked.{asks}
 use Rattle.value_references.specs.Index.{MOST}
 use Rattle.book_kinds.specs.Kinds.{ofKind, cellOfKind, familyNumber}
 use Rattle.book_names.specs.declared.Found.{Found}
@@ -21,7 +22,7 @@ use Rattle.book_names.specs.declared.Found.the-variants.{Unknown, Known}
 use Rattle.text.specs.Lines.{width, isField}
 use Rattle.rules.specs.Sorts.{header}
 use Rattle.rules.specs.Breaks.{Break, breakAt, when}
-use Rattle.rules.specs.Rules.{keyFound, isWrong, lastIndex, lacksColumn, names, kindIn, namedIn, asks, isPresent}
+use Rattle.rules.specs.Rules.{keyFound, isWrong, lastIndex, lacksColumn, names, kindIn, namedIn, isPresent}
 
 -- CELLS
 
@@ -47,6 +48,10 @@ Ids = ℕ → ℕ → Bool
 -- the flags say it: index i stands at place i - 1
 abbrev pub idsOf : List (List Bool) → Ids
 idsOf flags f i = getD (getD flags f []) (i - 1) false
+
+-- whether something is asked of the file, by its letter
+abbrev pub Asked : Type 0
+Asked = ℕ → Bool
 
 -- METADATA LINES, by the slots of the keys that came before
 
@@ -105,14 +110,14 @@ abbrev pub headFirst : Bool → Bool → Bool → ℕ → ℕ → List Break →
 headFirst again later wide cc n rest = controlAt cc n 1 (when again (breakAt n 1 9) (when later (breakAt n 1 10) (when wide (breakAt n 1 11) rest)))
 
 -- the names: one rule at cell 1, and those at each
-abbrev pub nameBreaks : Book → ℕ → Ids → ℕ → ℕ → List Bytes → List Break → List Break
-nameBreaks b section ids cc n ns rest = when (lacksColumn b section ns) (breakAt n 1 16) (eachCell (headCell b section ns ids cc n) 2 ns rest)
+abbrev pub nameBreaks : Book → Asked → ℕ → Ids → ℕ → ℕ → List Bytes → List Break → List Break
+nameBreaks b asked section ids cc n ns rest = when (lacksColumn b asked section ns) (breakAt n 1 16) (eachCell (headCell b section ns ids cc n) 2 ns rest)
 
 -- a header of the cells xs
-unfoldable pub headBreaks : Book → ℕ → Bool → Bool → Ids → ℕ → ℕ → List Bytes → List Break → List Break
-headBreaks b section again later ids cc n xs rest =
+unfoldable pub headBreaks : Book → Asked → ℕ → Bool → Bool → Ids → ℕ → ℕ → List Bytes → List Break → List Break
+headBreaks b asked section again later ids cc n xs rest =
     let wide = ltb 256 (length xs) in
-    headFirst again later wide cc n (cond wide (plainRest cc n rest) (nameBreaks b section ids cc n (drop 1 xs) rest))
+    headFirst again later wide cc n (cond wide (plainRest cc n rest) (nameBreaks b asked section ids cc n (drop 1 xs) rest))
 
 -- the kinds of a header's columns, cell c's at place c - 1
 abbrev pub KindsOf : Book → ℕ → List Bytes → List ℕ → Type 0
@@ -171,10 +176,6 @@ Declares b file ids = (f i : ℕ) → f < 4 → 1 ≤ i → i ≤ 64 → ids f i
 
 -- REQUIRED METADATA, by the slots of all lines, the ids, the facts and the sections present
 
--- whether a flag or a slot is marked, from one up to another
-unfoldable pub isMarked : List Bool → ℕ → ℕ → Bool
-isMarked slots from to = any (λ s. getD slots s false) (upFrom (to - from) from)
-
 -- what was found of the file
 pub record Seen : Type 0 where
   pub slots : List Bool
@@ -210,7 +211,7 @@ unfoldable pub isLacking : Book → Seen → Want → Bool
 isLacking b x w = (isAskedIn x (w .demand) && isForIn x w) && not (isMarked (x .slots) (firstSlot b w) (endSlot b w))
 
 abbrev pub wantBreak : Book → Seen → ℕ → Want → List Break → List Break
-wantBreak b x n w rest = when (isLacking b x w) (breakAt n (cellOf w) 21) rest
+wantBreak b x n w rest = when (isLacking b x w) (breakAt n (cellOf w) (w .demand .rule)) rest
 
 -- these, one after the other, and all of a book
 unfoldable pub wantBreaks : Book → Seen → ℕ → List Want → List Break → List Break

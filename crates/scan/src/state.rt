@@ -1,5 +1,6 @@
 // What is carried from line to line: the state that stands for the lines above.
 use book::SECTIONS;
+use book_facts::Asking;
 ghost use mathlib.Core.Path.{_≡_};
 ghost use mathlib.Core.Bool.{cond};
 ghost use Prim.Native.Nat.{_<_};
@@ -11,20 +12,22 @@ ghost use Rattle.scan.specs.Carried.{initial, afterHeader, afterRow};
 pub const MOST_CELLS: usize = 256;
 
 // Of the lines above: the sections that had a header, those that had a header or a row (and 0, which is none), the highest that had a header, the nearest
-// header's section and number of cells (0 and 1 where there is none), and whether any is a header or row. `table` stands beside `seen`: at the end it would
-// leave seven bytes of padding, which a copy takes in two halves that overlap, and the next copy waits for both.
+// header's section and number of cells (0 and 1 where there is none), and whether any is a header or row; and of the whole file what decides whether something
+// is asked. `table` stands beside `seen` and `asking` before `width`, in bytes that would be padding: more of it, or some at the end, is copied in halves that
+// overlap, and the next copy waits for both.
 pub struct State {
     pub seen: [bool; SECTIONS],
     pub present: [bool; SECTIONS],
     pub table: bool,
     pub highest: u32,
     pub section: u32,
+    pub asking: Asking,
     pub width: usize,
 }
 
 // No line is above.
-pub fn start() -> State
-    ensures { λ r. ⌜ r ≡ initial ⌝ }
+pub fn start(asking: Asking) -> State
+    ensures { λ r. ⌜ r ≡ initial asking ⌝ }
 {
     let mut present = [false; SECTIONS];
     present[0] = true;
@@ -33,6 +36,7 @@ pub fn start() -> State
         present,
         highest: 0,
         section: 0,
+        asking,
         width: 1,
         table: false,
     }

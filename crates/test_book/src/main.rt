@@ -159,7 +159,7 @@ fn run(out: &mut [u8], book: &[u8], names: &[u8])
 fn main() {
     let mut space = [0u8; 262144];
     let n = io::read_full(0, &mut space);
-    let book = book::layout::book();
+    let book = book_text::book();
     let mut out = [0u8; 128];
     run(&mut out, &book, &space[..n]);
 }

@@ -1,6 +1,6 @@
 // Judges each of the files of a table on standard input over lent records, and prints it as judges_run prints what the plain places give: both have the same
 // table, and the same stored output. A file ends with the byte 30.
-use faults::Fault;
+use fault_steps::Fault;
 use faults::judge;
 use judge_report::print_break;
 use judge_report::print_count;
@@ -8,7 +8,7 @@ use text_bytes::seek;
 ghost use mathlib.Core.Path.{_≡_};
 ghost use lib.ListN.{replicate};
 ghost use Rattle.faults.specs.Records.{judged};
-ghost use Rattle.faults.specs.Steps.{fault};
+ghost use Rattle.fault_steps.specs.Steps.{fault};
 
 const FILE_END: u8 = 30;
 

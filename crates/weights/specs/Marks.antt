@@ -9,7 +9,7 @@ use Rattle.text_bytes.specs.Bytes.{Bytes, is}
 use Rattle.text.specs.Lines.{LIMIT, cells, coded}
 use Rattle.book.specs.Book.{rowCode, mzTab}
 use Rattle.value_references.specs.References.{refTo}
-use Rattle.fee.specs.Sums.{bit}
+use Rattle.fee_shares.specs.Sums.{bit}
 use Rattle.weights.specs.Weights.{PROTEIN, WORD, VARIABLES}
 use Rattle.weights.specs.declared.Marks.{Marks}
 

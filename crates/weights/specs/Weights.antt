@@ -13,7 +13,7 @@ use Rattle.book.specs.Book.{rowCode, mzTab}
 use Rattle.value_references.specs.Index.{written}
 use Rattle.rows.specs.Rows.{headerOf, columnNamed, cellAt}
 use Rattle.rules.specs.Rules.{isAccepted}
-use Rattle.fee.specs.Sums.{listTo}
+use Rattle.fee_shares.specs.Sums.{listTo}
 
 -- protein is section 1
 abbrev pub PROTEIN : ℕ

@@ -1,5 +1,5 @@
 // The weights of a file's study variables: for each the protein rows whose abundance for it is not `null`, counted in one pass over the lines.
-use mztab::judged::judge_places;
+use judged::judge_places;
 use numbers::NOT_ACCEPTED;
 use numbers::NOT_AS_MANY;
 use numbers::TOO_LONG;

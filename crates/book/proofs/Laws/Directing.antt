@@ -111,25 +111,3 @@ pub columns-at : {b : Book} {t : Bytes} → IsText b t → (s k : ℕ) → b .fi
 columns-at {b} {t} d s k l e h =
     d .columns k h .rows
     ∙ ap (λ (u : Section). entriesOf (u .columns)) (ap (λ (i : ℕ). getD (b .sections) i noSection) e ∙ sym (section-at b s (section-here b s l (omega arith))))
-
--- THE DIRECTORY OF THE BOOK, computed
-its-codes : (row : Bool) (j : ℕ) → j < 4 → part (codeAt row j) (codeAt row j + 3) directoryText ≡ bytes (codeIn row (getD (mzTab .sections) j noSection))
-unfolding directoryText directoryOf mzTab demands entriesFrom demandRows entryFor hasForm same bytes keys tabbed proteinColumns proteinRequired peptideColumns peptideRequired psmColumns psmRequired moleculeColumns moleculeRequired
-its-codes true zero h = refl
-its-codes true (suc zero) h = refl
-its-codes true (suc (suc zero)) h = refl
-its-codes true (suc (suc (suc zero))) h = refl
-its-codes true (suc (suc (suc (suc j)))) h = absurd (omega arith)
-its-codes false zero h = refl
-its-codes false (suc zero) h = refl
-its-codes false (suc (suc zero)) h = refl
-its-codes false (suc (suc (suc zero))) h = refl
-its-codes false (suc (suc (suc (suc j)))) h = absurd (omega arith)
-
-its-directory : IsDirectory mzTab directoryText
-unfolding directoryText directoryOf mzTab demands entriesFrom demandRows entryFor hasForm same bytes keys tabbed proteinColumns proteinRequired peptideColumns peptideRequired psmColumns psmRequired moleculeColumns moleculeRequired
-its-directory = record { first = refl; count = refl; size = omega arith; codes = its-codes }
-
-pub has-directory : (t : Bytes) → t ≡ directoryText → HasDirectory t
-unfolding bookIn
-has-directory t e = rw e its-directory

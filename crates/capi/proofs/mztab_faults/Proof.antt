@@ -37,9 +37,9 @@ use denote.Triple.Statement.{Contract, Triple}
 use denote.Triple.Table.{entered, cited}
 use denote.Triple.Walked.{says, Stays, stay-none-slice, gave-slice, gave-ref, walkOf, goes-none-slice, goes-gave-slice, goes-gave-ref, Walks, ends-at, walked, walk-meets}
 use denote.Exit.{yes}
-use Rattle.faults.specs.declared.Fault.{Fault}
+use Rattle.fault_steps.specs.declared.Fault.{Fault}
 use Rattle.faults.specs.Records.{outcome, judged}
-use Rattle.faults.proofs.Fault as T
+use Rattle.fault_steps.proofs.Fault as T
 use Rattle.faults.proofs.judge as judge
 use Rattle.faults.proofs.judge.Symbol as judge-def
 use Rattle.faults.proofs.judge.Symbol.{name as #faults·judge}

@@ -11,11 +11,12 @@ use Rattle.text_bytes.specs.Bytes.{Bytes}
 use Rattle.text.specs.Lines.{LIMIT}
 use Rattle.rules.specs.Breaks.{Break}
 use Rattle.rules.specs.Rules.{breaks}
-use Rattle.faults.specs.declared.Fault.{Fault}
-use Rattle.faults.specs.declared.steps.Progress.{Progress}
-use Rattle.faults.specs.Records.{faultOf, outcome, judged}
+use Rattle.fault_steps.specs.declared.Fault.{Fault}
+use Rattle.fault_steps.specs.declared.Progress.{Progress}
 use Rattle.judging.specs.Calls.{lengthNumber}
-use Rattle.faults.specs.Steps.{reported, records, remaining, Between, Moves}
+use Rattle.fault_steps.specs.Records.{faultOf}
+use Rattle.fault_steps.specs.Steps.{reported, records, remaining, Between, Moves}
+use Rattle.faults.specs.Records.{outcome, judged}
 
 -- the list that is to be
 abbrev pub whole : Bytes → List Fault → List Fault

@@ -7,8 +7,8 @@ use native.Mathlib.Omega.{arith}
 use lib.Seq.{sets, length-sets, getD-set-same, getD-set-other}
 use lib.ListN.{length, getD, set, length-set, length-map, List·getD-map}
 use Rattle.rules.specs.Breaks.{Break, breakAt}
-use Rattle.faults.specs.declared.Fault.{Fault}
-use Rattle.faults.specs.Records.{faultOf}
+use Rattle.fault_steps.specs.declared.Fault.{Fault}
+use Rattle.fault_steps.specs.Records.{faultOf}
 
 -- a run of stores from place k on
 module _ {A : Type 0} (d : A) where

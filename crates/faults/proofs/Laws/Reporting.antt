@@ -11,8 +11,9 @@ use Rattle.text.specs.Lines.{LIMIT}
 use Rattle.rules.specs.Breaks.{breakAt}
 use Rattle.rules.specs.Rules.{breaks}
 use Rattle.rules.proofs.Laws.Promises.{breaks-reported, accepted-whole, whole-accepted, length-none}
-use Rattle.faults.specs.declared.Fault.{Fault}
-use Rattle.faults.specs.Records.{Outcome, outcome, faultOf, judged}
+use Rattle.fault_steps.specs.declared.Fault.{Fault}
+use Rattle.fault_steps.specs.Records.{faultOf}
+use Rattle.faults.specs.Records.{Outcome, outcome, judged}
 use Rattle.faults.specs.Promised.{Refused, Promised}
 use Rattle.faults.proofs.Laws.Recording.{recorded-length, recorded-at, recorded-above}
 

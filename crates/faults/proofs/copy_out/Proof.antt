@@ -45,14 +45,14 @@ use denote.Triple.Spec.{Meets, tripleOf}
 use denote.Triple.Statement.{Contract, Triple}
 use denote.Triple.Table.{entered, cited}
 use denote.Triple.Walked.{says, needs}
-use Rattle.faults.specs.declared.Fault.{Fault}
-use Rattle.faults.specs.Steps.{recordAt, records}
+use Rattle.fault_steps.specs.declared.Fault.{Fault}
+use Rattle.fault_steps.specs.Steps.{recordAt, records}
 use Rattle.walks.proofs.Again.{LentAgain, lends-again, comes-back}
 use Rattle.walks.proofs.Locals.{room, full, env-of, here}
 use Rattle.walks.proofs.Slices as by-slices
 use Rattle.walks.proofs.Slices.{Passed}
 use Rattle.walks.proofs.Tests.{yes-is, no-is}
-use Rattle.faults.proofs.Fault as T
+use Rattle.fault_steps.proofs.Fault as T
 use Rattle.faults.proofs.put_record as put
 use Rattle.faults.proofs.put_record.Symbol as put-def
 use Rattle.faults.proofs.put_record.Symbol.{name as #faults·put-record}

@@ -55,29 +55,29 @@ use denote.Triple.Walked.{says, Stays, stay-none-slice, stay-slice, stay-ref, wa
 use denote.Exit.{yes}
 use Rattle.book.specs.Book.{SLOTS}
 use Rattle.book.specs.Text.{LINKS, IsBook}
-use Rattle.faults.specs.declared.Fault.{Fault}
-use Rattle.faults.specs.declared.steps.Progress.{Progress}
+use Rattle.fault_steps.specs.declared.Fault.{Fault}
+use Rattle.fault_steps.specs.declared.Progress.{Progress}
+use Rattle.fault_steps.specs.Steps.{PLACES, records, remaining, away, Between, Moves}
 use Rattle.faults.specs.Records.{outcome, judged}
-use Rattle.faults.specs.Steps.{PLACES, records, remaining, away, Between, Moves}
 use Rattle.walks.proofs.Again.{LentAgain, lends-again, comes-back}
 use Rattle.faults.proofs.Laws.Closing.{whole as final-of, ahead-first, ahead-next, ended}
 use Rattle.walks.proofs.Lent.{facts4, says-all, big-lit, init-times, times-in, array-room, lends-all, all-back}
 use Rattle.walks.proofs.Locals.{room, full, away as gone, env-of, here}
-use Rattle.faults.proofs.Fault as T
-use Rattle.faults.proofs.steps.Progress as S
-use Rattle.faults.proofs.steps.Progress.Laws as S′
-use Rattle.book.proofs.layout.book as made
-use Rattle.book.proofs.layout.book.Symbol as made-def
-use Rattle.book.proofs.layout.book.Symbol.{name as #book·layout·book}
-use Rattle.book.proofs.layout.book.Met as made-thm
-use Rattle.faults.proofs.steps.begin as begin
-use Rattle.faults.proofs.steps.begin.Symbol as begin-def
-use Rattle.faults.proofs.steps.begin.Symbol.{name as #faults·steps·begin}
-use Rattle.faults.proofs.steps.begin.Met as begin-thm
-use Rattle.faults.proofs.steps.next as next
-use Rattle.faults.proofs.steps.next.Symbol as next-def
-use Rattle.faults.proofs.steps.next.Symbol.{name as #faults·steps·next}
-use Rattle.faults.proofs.steps.next.Met as next-thm
+use Rattle.fault_steps.proofs.Fault as T
+use Rattle.fault_steps.proofs.Progress as S
+use Rattle.fault_steps.proofs.Progress.Laws as S′
+use Rattle.book_text.proofs.book as made
+use Rattle.book_text.proofs.book.Symbol as made-def
+use Rattle.book_text.proofs.book.Symbol.{name as #book-text·book}
+use Rattle.book_text.proofs.book.Met as made-thm
+use Rattle.fault_steps.proofs.begin as begin
+use Rattle.fault_steps.proofs.begin.Symbol as begin-def
+use Rattle.fault_steps.proofs.begin.Symbol.{name as #fault-steps·begin}
+use Rattle.fault_steps.proofs.begin.Met as begin-thm
+use Rattle.fault_steps.proofs.next as next
+use Rattle.fault_steps.proofs.next.Symbol as next-def
+use Rattle.fault_steps.proofs.next.Symbol.{name as #fault-steps·next}
+use Rattle.fault_steps.proofs.next.Met as next-thm
 use Rattle.faults.proofs.copy_out as copy
 use Rattle.faults.proofs.copy_out.Symbol as copy-def
 use Rattle.faults.proofs.copy_out.Symbol.{name as #faults·copy-out}
@@ -316,7 +316,7 @@ module _ {M : Type 1} (𝓤 : URA M) (H : Heap 𝓤) (A : Atoms 𝓤) (W : Given
     ahead = ahead-next (p .now) (z .st) r lp (z .cur) zs ys h (z .long ∙ sym (z .cap-is)) e (z .ahead);
   }
 
-  module _ (𝓣 : Tables 𝓤 H) (fm : FmC 𝓤 H (W .laws) (𝓣 .C)) (known-made : Triple 𝓤 (𝓣 .C #book·layout·book) (Made 𝓤 H A mem′ run)) (known-begin : Triple 𝓤 (𝓣 .C #faults·steps·begin) (Begin 𝓤 H A mem′ run)) (known-next : Triple 𝓤 (𝓣 .C #faults·steps·next) (Next 𝓤 H A mem′ run)) (known-copy : Triple 𝓤 (𝓣 .C #faults·copy-out) (Copy 𝓤 H A mem′ run)) (F : Facts) where
+  module _ (𝓣 : Tables 𝓤 H) (fm : FmC 𝓤 H (W .laws) (𝓣 .C)) (known-made : Triple 𝓤 (𝓣 .C #book-text·book) (Made 𝓤 H A mem′ run)) (known-begin : Triple 𝓤 (𝓣 .C #fault-steps·begin) (Begin 𝓤 H A mem′ run)) (known-next : Triple 𝓤 (𝓣 .C #fault-steps·next) (Next 𝓤 H A mem′ run)) (known-copy : Triple 𝓤 (𝓣 .C #faults·copy-out) (Copy 𝓤 H A mem′ run)) (F : Facts) where
     abbrev C : Calls 𝓤 H
     C = 𝓣 .C
 
@@ -533,7 +533,7 @@ module _ {M : Type 1} (𝓤 : URA M) (H : Heap 𝓤) (A : Atoms 𝓤) (W : Given
         })))))))))))))))))))))))))))))))))))
 
 module _ {M : Type 1} (𝓤 : URA M) (H : Heap 𝓤) (A : Atoms 𝓤) (W : Given 𝓤 H A) (mem′ : Memory → SProp 𝓤) (run : Routine → Fun 𝓤) where
-  judge-walks : (𝓣 : Tables 𝓤 H) → Triple 𝓤 (𝓣 .C #book·layout·book) (Made 𝓤 H A mem′ run) → Triple 𝓤 (𝓣 .C #faults·steps·begin) (Begin 𝓤 H A mem′ run) → Triple 𝓤 (𝓣 .C #faults·steps·next) (Next 𝓤 H A mem′ run) → Triple 𝓤 (𝓣 .C #faults·copy-out) (Copy 𝓤 H A mem′ run)
+  judge-walks : (𝓣 : Tables 𝓤 H) → Triple 𝓤 (𝓣 .C #book-text·book) (Made 𝓤 H A mem′ run) → Triple 𝓤 (𝓣 .C #fault-steps·begin) (Begin 𝓤 H A mem′ run) → Triple 𝓤 (𝓣 .C #fault-steps·next) (Next 𝓤 H A mem′ run) → Triple 𝓤 (𝓣 .C #faults·copy-out) (Copy 𝓤 H A mem′ run)
       → Walks 𝓤 H A f′.ended stayed (WpFn 𝓤 H (𝓣 .C) (𝓣 .Λ) code.function) (f′.clauses 𝓤 H A mem′ run)
   judge-walks 𝓣 known-made known-begin known-next known-copy = walked 𝓤 H A f′.ended stayed (f′.clauses 𝓤 H A mem′ run) (WpFn 𝓤 H (𝓣 .C) (𝓣 .Λ) code.function)
       (λ κs. (slice-vals, (slice-vals, (ptr-vals, tt)))) (λ κs. (shr-slice-tells (named 0) (κs .0) u8, (mut-slice-tells (named 1) (κs .1 .0) T.the-row, (mut-tells (named 2) (κs .1 .1 .0) u32, tt))))
@@ -542,7 +542,7 @@ module _ {M : Type 1} (𝓤 : URA M) (H : Heap 𝓤) (A : Atoms 𝓤) (W : Given
       𝓣 (fmOf 𝓤 H (W .laws) 𝓣) known-made known-begin known-next known-copy (record { is-p = are .0; rooms = are .1 .0 .0 .1 })))
 
 judge-meets : {M : Type 1} (𝓤 : URA M) (H : Heap 𝓤) (A : Atoms 𝓤) → Given 𝓤 H A → (mem′ : Memory → SProp 𝓤) (run : Routine → Fun 𝓤) (𝓣 : Tables 𝓤 H)
-    → Triple 𝓤 (𝓣 .C #book·layout·book) (Made 𝓤 H A mem′ run) → Triple 𝓤 (𝓣 .C #faults·steps·begin) (Begin 𝓤 H A mem′ run) → Triple 𝓤 (𝓣 .C #faults·steps·next) (Next 𝓤 H A mem′ run) → Triple 𝓤 (𝓣 .C #faults·copy-out) (Copy 𝓤 H A mem′ run)
+    → Triple 𝓤 (𝓣 .C #book-text·book) (Made 𝓤 H A mem′ run) → Triple 𝓤 (𝓣 .C #fault-steps·begin) (Begin 𝓤 H A mem′ run) → Triple 𝓤 (𝓣 .C #fault-steps·next) (Next 𝓤 H A mem′ run) → Triple 𝓤 (𝓣 .C #faults·copy-out) (Copy 𝓤 H A mem′ run)
     → Meets 𝓤 H A f′.signature (WpFn 𝓤 H (𝓣 .C) (𝓣 .Λ) code.function) (f′.spec 𝓤 H A mem′ run)
 judge-meets 𝓤 H A W mem′ run 𝓣 known-made known-begin known-next known-copy =
     walk-meets 𝓤 H A f′.ended stayed W (goes-none-slice 𝓤 H A W 3 (0 ∷ []) tt (plain (λ _. u8)) yes, (goes-slice 𝓤 H A W 3 1 tt (plain (λ _. T.the-row)), (goes-ref 𝓤 H A W 3 2 tt (plain (λ _. u32)), tt)))
@@ -554,7 +554,7 @@ judge-spec 𝓤 H 𝓜 𝓖 𝓡 =
     entered 𝓤 H (tripleOf 𝓤 H (𝓖 .A) f′.signature (f′.spec 𝓤 H (𝓖 .A) (𝓜 .mem) (𝓡 .run)))
     (tables 𝓤 H 𝓜 𝓡 code.env .C) (tables 𝓤 H 𝓜 𝓡 code.env .Λ) #faults·judge code.function (code.unfolded 𝓤 H 𝓜 𝓡)
     (judge-meets 𝓤 H (𝓖 .A) (givenOf 𝓤 H 𝓜 𝓖) (𝓜 .mem) (𝓡 .run) (tablesOf 𝓤 H 𝓜 (tables 𝓤 H 𝓜 𝓡 code.env))
-    (cited 𝓤 H (Made 𝓤 H (𝓖 .A) (𝓜 .mem) (𝓡 .run)) 𝓜 𝓡 code.env #book·layout·book made-def.routine code.calls-book·layout·book (made-thm.met 𝓤 H 𝓜 𝓖 𝓡))
-    (cited 𝓤 H (Begin 𝓤 H (𝓖 .A) (𝓜 .mem) (𝓡 .run)) 𝓜 𝓡 code.env #faults·steps·begin begin-def.routine code.calls-faults·steps·begin (begin-thm.met 𝓤 H 𝓜 𝓖 𝓡))
-    (cited 𝓤 H (Next 𝓤 H (𝓖 .A) (𝓜 .mem) (𝓡 .run)) 𝓜 𝓡 code.env #faults·steps·next next-def.routine code.calls-faults·steps·next (next-thm.met 𝓤 H 𝓜 𝓖 𝓡))
+    (cited 𝓤 H (Made 𝓤 H (𝓖 .A) (𝓜 .mem) (𝓡 .run)) 𝓜 𝓡 code.env #book-text·book made-def.routine code.calls-book-text·book (made-thm.met 𝓤 H 𝓜 𝓖 𝓡))
+    (cited 𝓤 H (Begin 𝓤 H (𝓖 .A) (𝓜 .mem) (𝓡 .run)) 𝓜 𝓡 code.env #fault-steps·begin begin-def.routine code.calls-fault-steps·begin (begin-thm.met 𝓤 H 𝓜 𝓖 𝓡))
+    (cited 𝓤 H (Next 𝓤 H (𝓖 .A) (𝓜 .mem) (𝓡 .run)) 𝓜 𝓡 code.env #fault-steps·next next-def.routine code.calls-fault-steps·next (next-thm.met 𝓤 H 𝓜 𝓖 𝓡))
     (cited 𝓤 H (Copy 𝓤 H (𝓖 .A) (𝓜 .mem) (𝓡 .run)) 𝓜 𝓡 code.env #faults·copy-out copy-def.routine code.calls-faults·copy-out (copy-thm.met 𝓤 H 𝓜 𝓖 𝓡)))

@@ -38,13 +38,13 @@ use denote.Triple.Spec.{Meets, tripleOf}
 use denote.Triple.Statement.{Contract, Triple}
 use denote.Triple.Table.{entered, cited}
 use denote.Triple.Walked.{says, needs}
-use Rattle.faults.specs.declared.Fault.{Fault}
-use Rattle.faults.specs.Steps.{recordAt}
+use Rattle.fault_steps.specs.declared.Fault.{Fault}
+use Rattle.fault_steps.specs.Steps.{recordAt}
 use Rattle.walks.proofs.Again.{shuts}
 use Rattle.walks.proofs.Slices as by-slices
 use Rattle.walks.proofs.Slices.{Passed}
-use Rattle.faults.proofs.Fault as T
-use Rattle.faults.proofs.Fault.Laws as T′
+use Rattle.fault_steps.proofs.Fault as T
+use Rattle.fault_steps.proofs.Fault.Laws as T′
 use Rattle.faults.proofs.record_at as rec
 use Rattle.faults.proofs.record_at.Symbol as rec-def
 use Rattle.faults.proofs.record_at.Symbol.{name as #faults·record-at}

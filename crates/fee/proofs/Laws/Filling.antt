@@ -9,13 +9,15 @@ use lib.ListN.{length, getD, drop, List·getD-append}
 use lib.Seq.{sets, sets-eq, drop-length, ext-getD}
 use borrow.Author.Tests.{eqb-true, leb-true}
 use Rattle.fee.specs.declared.Cents.{Cents}
-use Rattle.fee.specs.Sums.{listTo, at}
+use Rattle.fee_shares.specs.Sums.{listTo, at}
 use Rattle.fee.specs.Places.{plain, cents}
-use Rattle.fee.specs.Shares.{share}
+use Rattle.fee_shares.specs.Shares.{share}
 use Rattle.numbers.specs.Numbers.{NOT-AS-MANY}
-use Rattle.fee.specs.Split.{MOST-WEIGHTS, refusal, Outcome, outcome, splitOf}
+use Rattle.fee_shares.specs.Refusals.{MOST-WEIGHTS, refusal}
+use Rattle.fee.specs.Split.{Outcome, outcome, splitOf}
 use Rattle.fee.specs.Steps.{shareAt, taken, Fills}
-use Rattle.fee.proofs.Laws.Calls.{granted, not-as-many, refused, shared, numbered}
+use Rattle.fee_shares.proofs.Laws.Refusals.{not-as-many, granted}
+use Rattle.fee.proofs.Laws.Calls.{refused, shared, numbered}
 use Rattle.fee.proofs.Laws.Theorems.{list-length, list-at, listed}
 
 -- THE SHARES TAKEN from the places

@@ -5,9 +5,10 @@ use native.Mathlib.Omega.{arith}
 use borrow.Author.Needs.{needs}
 use lib.ListN.{length}
 use Rattle.fee.specs.Places.{plain}
-use Rattle.fee.specs.Steps.{Granted}
-use Rattle.fee.proofs.Laws.Calls.{granted, refused, shared}
-use Rattle.fee.proofs.Laws.Halves.{floors-most}
+use Rattle.fee_shares.specs.Steps.{Granted}
+use Rattle.fee_shares.proofs.Laws.Refusals.{granted}
+use Rattle.fee.proofs.Laws.Calls.{refused, shared}
+use Rattle.fee_shares.proofs.Laws.Halves.{floors-most}
 use Rattle.fee.proofs.split_places.Statement.{statement}
 use Rattle.fee.proofs.split_places.Tie as tie
 

@@ -8,8 +8,8 @@ use lib.Seq.{drop-drop, take-all, take-add, take-append-seam, drop-append-seam}
 use lib.ListN.{length, getD, replicate, take, drop, length-append, length-drop}
 use Rattle.text_bytes.specs.Bytes.{Bytes}
 use Rattle.text.specs.Lines.{LIMIT, lines}
-use Rattle.book_facts.specs.Facts.{FactsOf}
-use Rattle.book_facts.specs.declared.Facts.{Facts}
+use Rattle.book_facts.specs.Asked.{AskingOf}
+use Rattle.book_facts.specs.declared.Asking.{Asking}
 use Rattle.rules.specs.Breaks.{Break}
 use Rattle.rules.specs.Rules.{breaksBy}
 use Rattle.scan.specs.Places.{FILE-MOST, Lent, lent, putAll, Puts}
@@ -65,12 +65,12 @@ same-everywhere (suc n) zero a = refl
 same-everywhere (suc n) (suc i) a = same-everywhere n i a
 
 -- before the first line, where no key has come
-pub midway-start : (b : Book) {s : Stand} {x : Facts} {file : Bytes} {kinds : List ℕ} {slots : List Bool} → s ≡ beginning x → FactsOf (lines file) x → ((i : ℕ) → getD slots i false ≡ false)
+pub midway-start : (b : Book) {s : Stand} {x : Asking} {file : Bytes} {kinds : List ℕ} {slots : List Bool} → s ≡ beginning x → AskingOf b (lines file) x → ((i : ℕ) → getD slots i false ≡ false)
     → Midway b file s kinds slots
-midway-start b {file = file} {kinds = kinds} {slots = slots} e f h = rw e (record { scan = scan-start b file (stands-start b kinds slots h); facts = f; most = omega arith; left = breaks-left b file })
+midway-start b {x = x} {file = file} {kinds = kinds} {slots = slots} e f h = rw e (record { scan = scan-start b file (stands-start b x kinds slots h); asking = f; most = omega arith; left = breaks-left b file })
 
 -- a part with room for more breaks than a file can have is the whole
-pub part-whole : {b : Book} → Sized b → {file : Bytes} {room : ℕ} {s r : Stand} {x : Facts} {ys ys' : List ℕ} → s ≡ beginning x → Parts b file room s r ys ys' → length file ≤ LIMIT → FILE-MOST < room
+pub part-whole : {b : Book} → Sized b → {file : Bytes} {room : ℕ} {s r : Stand} {x : Asking} {ys ys' : List ℕ} → s ≡ beginning x → Parts b file room s r ys ys' → length file ≤ LIMIT → FILE-MOST < room
     → lent ys' (r .held) ≡ putAll (lent ys 0) (breaksBy b (lines file))
 part-whole {b} sized {file} {s = s} {r = r} {ys = ys} e p limit far =
     let bs = breaksBy b (lines file) in

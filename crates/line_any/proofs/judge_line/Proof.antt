@@ -75,19 +75,19 @@ array-read-again c = section-low (c .before .before)
 
 judge-head-requires : tie.Need-judge-head-requires
 judge-head-requires c κs =
-    let told = c .before .before .before .before .before .before .before in
+    let told = c .before .before .before .before .before .before .before .before in
     let w = told .before .before .before in
     let pre = start w .pre in
     (pre .0, (pre .1 .0, (section-of told, (pre .1 .1 .1 .1 .0, (pre .1 .1 .1 .1 .1 .1, pre .1 .1 .0)))))
 
 after-header-requires : tie.Need-after-header-requires
-after-header-requires c κs = section-low (c .before .before .before .before .before .before .before .before .before .before .before .before)
+after-header-requires c κs = section-low (c .before .before .before .before .before .before .before .before .before .before .before .before .before)
 
 returns-4 : tie.Need-returns-4
 returns-4 c =
     let at-judge = c .before .before .before .before .before in
     let at-count = at-judge .before .before .before .before in
-    let told = at-count .before .before .before .before in
+    let told = at-count .before .before .before .before .before in
     let w = told .before .before .before in
     let a = start w .args in
     let pre = start w .pre in

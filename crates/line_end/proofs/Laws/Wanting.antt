@@ -16,13 +16,14 @@ use Rattle.book.specs.Book.{SECTIONS, SLOTS, Demand, ONCE, noDemand, Want, want
 use Rattle.book.specs.Text.{entryFor, Demanded}
 use Rattle.book.specs.declared.demands.Demand.{Demand as Read}
 use Rattle.book.proofs.Laws.Sized.{isEach, isSound, sound-each, sound-section, each-family, Sized}
-use Rattle.rules.specs.Rules.{asks}
+use Rattle.book_ids.specs.Ids.{isMarked}
+use Rattle.book_facts.specs.Asked.{asks}
 use Rattle.rules.specs.Breaks.{Break, breakAt, when}
 use Rattle.scan.specs.Places.{Lent, putAll, Puts}
-use Rattle.scan.specs.Machine.{Seen, isMarked, isAskedIn, isLacking, wantBreaks}
+use Rattle.scan.specs.Machine.{Seen, isAskedIn, isLacking, wantBreaks}
 use Rattle.scan.proofs.Laws.Ending.{inside, slots-below}
 use Rattle.line_end.specs.Ends.{seen, Whole, idBreaks}
-use Rattle.line_end.specs.declared.Asking.{Asking}
+use Rattle.line_end.specs.declared.End.{End}
 
 -- the same breaks, put by another name
 alike : {f g : List Break → List Break} {m m′ : ℕ} {o o' : Lent} → ((rest : List Break) → f rest ≡ g rest) → m ≡ m′ → Puts f m o o' → Puts g m′ o o'
@@ -32,34 +33,34 @@ alike {f} {g} {m} {m′} {o} {o'} e s p = record { does = λ rest. p .does rest 
 pub wants-append : (b : Book) (x : Seen) (n : ℕ) (us ws : List Want) (rest : List Break) → wantBreaks b x n (us ++ ws) rest ≡ wantBreaks b x n us (wantBreaks b x n ws rest)
 unfolding wantBreaks
 wants-append b x n [] ws rest = refl
-wants-append b x n (u ∷ us) ws rest = ap (when (isLacking b x u) (breakAt n (cellOf u) 21)) (wants-append b x n us ws rest)
+wants-append b x n (u ∷ us) ws rest = ap (when (isLacking b x u) (breakAt n (cellOf u) (u .demand .rule))) (wants-append b x n us ws rest)
 
 -- THE IDS of a family: the next one, and none
-module _ (asked : Bool) (slots ids : List Bool) (from cell n i : ℕ) (rest : List Break) where
-  pub ids-next : i < 64 → idBreaks asked slots ids from cell n (upFrom (64 - i) (i + 1)) rest
-      ≡ when ((asked && getD ids i false) && not (getD slots (from + i) false)) (breakAt n (cell + i + 1) 21) (idBreaks asked slots ids from cell n (upFrom (64 - (i + 1)) (i + 1 + 1)) rest)
+module _ (d : Read) (asked : Bool) (slots ids : List Bool) (from n i : ℕ) (rest : List Break) where
+  pub ids-next : i < 64 → idBreaks d asked slots ids from n (upFrom (64 - i) (i + 1)) rest
+      ≡ when ((asked && getD ids i false) && not (getD slots (from + i) false)) (breakAt n (d .cell + i + 1) (d .rule)) (idBreaks d asked slots ids from n (upFrom (64 - (i + 1)) (i + 1 + 1)) rest)
   unfolding upFrom idBreaks
   ids-next h =
       let e : 64 - i ≡ suc (64 - (i + 1)) = omega arith in
       let z : i + 1 - 1 ≡ i = omega arith in
-      let c : cell + (i + 1) ≡ cell + i + 1 = omega arith in
+      let c : d .cell + (i + 1) ≡ d .cell + i + 1 = omega arith in
       rw (e, add-one (i + 1), z, c)
 
-  pub ids-done : 64 ≤ i → idBreaks asked slots ids from cell n (upFrom (64 - i) (i + 1)) rest ≡ rest
+  pub ids-done : 64 ≤ i → idBreaks d asked slots ids from n (upFrom (64 - i) (i + 1)) rest ≡ rest
   unfolding upFrom idBreaks
   ids-done h = let e : 64 - i ≡ 0 = omega arith in rw e
 
 -- the break of the next one is put
-module _ (asked : Bool) (slots ids : List Bool) (from cell n i : ℕ) where
+module _ (d : Read) (asked : Bool) (slots ids : List Bool) (from n i : ℕ) where
   abbrev after : ℕ → List Break → List Break
-  after k rest = idBreaks asked slots ids from cell n (upFrom (64 - k) (k + 1)) rest
+  after k rest = idBreaks d asked slots ids from n (upFrom (64 - k) (k + 1)) rest
 
-  pub ids-turn : (o₀ : Lent) {o o' : Lent} {t u : Bool} {c : ℕ} → i < 64 → u ≡ (asked && getD ids i false) → t ≡ (u && not (getD slots (from + i) false)) → c ≡ cell + i + 1
-      → Puts (when t (breakAt n c 21)) 1 o o' → ((rest : List Break) → putAll o (after i rest) ≡ putAll o₀ (idBreaks asked slots ids from cell n (upFrom 64 1) rest))
-      → (rest : List Break) → putAll o' (after (i + 1) rest) ≡ putAll o₀ (idBreaks asked slots ids from cell n (upFrom 64 1) rest)
-  ids-turn o₀ {o} {o'} {t} {u} {c} h e f g p inv rest = p .does (after (i + 1) rest) ∙ ap (putAll o) (here ∙ sym (ids-next asked slots ids from cell n i rest h)) ∙ inv rest
+  pub ids-turn : (o₀ : Lent) {o o' : Lent} {t u : Bool} {c : ℕ} → i < 64 → u ≡ (asked && getD ids i false) → t ≡ (u && not (getD slots (from + i) false)) → c ≡ d .cell + i + 1
+      → Puts (when t (breakAt n c (d .rule))) 1 o o' → ((rest : List Break) → putAll o (after i rest) ≡ putAll o₀ (idBreaks d asked slots ids from n (upFrom 64 1) rest))
+      → (rest : List Break) → putAll o' (after (i + 1) rest) ≡ putAll o₀ (idBreaks d asked slots ids from n (upFrom 64 1) rest)
+  ids-turn o₀ {o} {o'} {t} {u} {c} h e f g p inv rest = p .does (after (i + 1) rest) ∙ ap (putAll o) (here ∙ sym (ids-next d asked slots ids from n i rest h)) ∙ inv rest
     where
-      here : when t (breakAt n c 21) (after (i + 1) rest) ≡ when ((asked && getD ids i false) && not (getD slots (from + i) false)) (breakAt n (cell + i + 1) 21) (after (i + 1) rest)
+      here : when t (breakAt n c (d .rule)) (after (i + 1) rest) ≡ when ((asked && getD ids i false) && not (getD slots (from + i) false)) (breakAt n (d .cell + i + 1) (d .rule)) (after (i + 1) rest)
       here = rw (f, e, g)
 
 -- A DEMAND as it was read
@@ -78,11 +79,11 @@ module _ (b : Book) (sized : Sized b) (k : ℕ) (l : k < length (b .demands)) wh
     section-in = rw (d .section) (sound-section (b .keys) D sound)
 
     -- its letter and its section say whether it is asked
-    module _ (slots : List Bool) (flags : List (List Bool)) (asking : Asking) (whole : Whole slots flags asking) where
+    module _ (slots : List Bool) (flags : List (List Bool)) (end : End) (whole : Whole slots flags (end .asking)) where
       abbrev x : Seen
-      x = seen slots flags asking
+      x = seen slots flags end
 
-      pub asked-is : {a u v : Bool} → a ≡ (u && v) → u ≡ asks (r .asked) (asking .mode) (asking .typed) (asking .assay) → v ≡ getD (asking .present) (r .section) false → a ≡ isAskedIn x D
+      pub asked-is : {a u v : Bool} → a ≡ (u && v) → u ≡ asks (r .asked) (end .asking .mode) (end .asking .typed) (end .asking .assay) → v ≡ getD (end .present) (r .section) false → a ≡ isAskedIn x D
       unfolding isAskedIn
       asked-is p q t = p ∙ rw (q, t, whole .assay, d .asked, d .section)
 
@@ -101,21 +102,21 @@ module _ (b : Book) (sized : Sized b) (k : ℕ) (l : k < length (b .demands)) wh
             rw (d .entry) (omega (arith, s .0), s .1)
 
         pub once-puts : {a m t : Bool} {from to : ℕ} (n : ℕ) {o o' : Lent} → a ≡ isAskedIn x D → m ≡ isMarked slots from to → from ≡ startOf (keyEntries b) (r .entry)
-            → to ≡ startOf (keyEntries b) (r .entry + 1) → t ≡ (a && not m) → Puts (when t (breakAt n (r .cell) 21)) 1 o o' → Puts (wantBreaks b x n (wantsOf D)) (length (wantsOf D)) o o'
+            → to ≡ startOf (keyEntries b) (r .entry + 1) → t ≡ (a && not m) → Puts (when t (breakAt n (r .cell) (r .rule))) 1 o o' → Puts (wantBreaks b x n (wantsOf D)) (length (wantsOf D)) o o'
         unfolding wantBreaks isLacking
         once-puts {a} {m} {t} {from} {to} n {o} {o'} p q f e s h = alike same (sym once-many) h
           where
             begin : startOf (keyEntries b) (entryFor (b .keys) (D .form)) + (0 - 1) ≡ from
             begin = omega (arith, f, ap (startOf (keyEntries b)) (d .entry))
 
-            end : startOf (keyEntries b) (entryFor (b .keys) (D .form) + 1) ≡ to
-            end = sym (e ∙ ap (λ (i : ℕ). startOf (keyEntries b) (i + 1)) (d .entry))
+            stop : startOf (keyEntries b) (entryFor (b .keys) (D .form) + 1) ≡ to
+            stop = sym (e ∙ ap (λ (i : ℕ). startOf (keyEntries b) (i + 1)) (d .entry))
 
             cell : D .cell + 0 ≡ r .cell
             cell = omega (arith, d .cell)
 
-            same : (rest : List Break) → when t (breakAt n (r .cell) 21) rest ≡ wantBreaks b x n (wantsOf D) rest
-            same rest = rw (once-wants, begin, end, cell, and-true (isAskedIn x D), s, p, q)
+            same : (rest : List Break) → when t (breakAt n (r .cell) (r .rule)) rest ≡ wantBreaks b x n (wantsOf D) rest
+            same rest = rw (once-wants, begin, stop, cell, d .rule, and-true (isAskedIn x D), s, p, q)
 
       -- for each id
       module _ (each : r .each ≡ ONCE → ⊥) where
@@ -149,11 +150,11 @@ module _ (b : Book) (sized : Sized b) (k : ℕ) (l : k < length (b .demands)) wh
             rw (ne-eqb i 0 z, begin, one, or-false (getD slots (from + (i - 1)) false), p, d .each)
 
         ids-same : {a : Bool} {from : ℕ} (n m i : ℕ) → 1 ≤ i → a ≡ isAskedIn x D → from ≡ startOf (keyEntries b) (r .entry) → (rest : List Break)
-            → idBreaks a slots (getD flags (r .each) []) from (r .cell) n (upFrom m i) rest ≡ wantBreaks b x n (map (want D) (upFrom m i)) rest
+            → idBreaks r a slots (getD flags (r .each) []) from n (upFrom m i) rest ≡ wantBreaks b x n (map (want D) (upFrom m i)) rest
         unfolding idBreaks wantBreaks upFrom
         ids-same n zero i low p f rest = refl
-        ids-same n (suc m) i low p f rest = rw (ids-same n m (suc i) (omega arith) p f rest, id-lacks i low p f, d .cell)
+        ids-same n (suc m) i low p f rest = rw (ids-same n m (suc i) (omega arith) p f rest, id-lacks i low p f, d .cell, d .rule)
 
         pub ids-puts : {a : Bool} {from : ℕ} (n : ℕ) {o o' : Lent} → a ≡ isAskedIn x D → from ≡ startOf (keyEntries b) (r .entry)
-            → Puts (idBreaks a slots (getD flags (r .each) []) from (r .cell) n (upFrom 64 1)) 64 o o' → Puts (wantBreaks b x n (wantsOf D)) (length (wantsOf D)) o o'
+            → Puts (idBreaks r a slots (getD flags (r .each) []) from n (upFrom 64 1)) 64 o o' → Puts (wantBreaks b x n (wantsOf D)) (length (wantsOf D)) o o'
         ids-puts {a} {from} n p f h = alike (λ rest. ids-same n 64 1 (omega arith) p f rest ∙ ap (λ (ws : List Want). wantBreaks b x n ws rest) (sym ids-wants)) (sym ids-many) h

@@ -29,11 +29,11 @@ demand c = c .before .before .before .before
 -- whether it is asked
 asked : (c : tie.After-both) → let d = demand c in
     let a = start d .args in
-    c .both .result ≡ isAskedIn (seen (a .slots .now) (a .flags .now) (a .asking)) (getD ((bookIn (a .book .now)) .demands) (a .k) noDemand)
+    c .both .result ≡ isAskedIn (seen (a .slots .now) (a .flags .now) (a .end)) (getD ((bookIn (a .book .now)) .demands) (a .k) noDemand)
 asked c =
     let d = demand c in
     let a = start d .args in
-    asked-is _ (book-sized (a .book .now)) _ (start d .pre .1 .0) _ (d .nth-demand .ensures) (a .slots .now) (a .flags .now) (a .asking) (start d .pre .1 .1 .0) (c .both .ensures) (c .before .is-asked .ensures) refl
+    asked-is _ (book-sized (a .book .now)) _ (start d .pre .1 .0) _ (d .nth-demand .ensures) (a .slots .now) (a .flags .now) (a .end) (start d .pre .1 .1 .0) (c .both .ensures) (c .before .is-asked .ensures) refl
 
 judge-ids-requires : tie.Need-judge-ids-requires
 judge-ids-requires c κs =
@@ -43,9 +43,9 @@ judge-ids-requires c κs =
     let s = start d in
     let w = s .pre .1 .1 .0 in
     let from = o .before .before .before .start-of .ensures in
-    let f = family-in _ (book-sized (s .args .book .now)) _ (s .pre .1 .0) _ (d .nth-demand .ensures) (s .args .slots .now) (s .args .flags .now) (s .args .asking) w (t .if1 .taken) in
-    let n = ids-slots _ (book-sized (s .args .book .now)) _ (s .pre .1 .0) _ (d .nth-demand .ensures) (s .args .slots .now) (s .args .flags .now) (s .args .asking) w (t .if1 .taken) in
-    let m = ids-many _ (book-sized (s .args .book .now)) _ (s .pre .1 .0) _ (d .nth-demand .ensures) (s .args .slots .now) (s .args .flags .now) (s .args .asking) w (t .if1 .taken) in
+    let f = family-in _ (book-sized (s .args .book .now)) _ (s .pre .1 .0) _ (d .nth-demand .ensures) (s .args .slots .now) (s .args .flags .now) (s .args .end) w (t .if1 .taken) in
+    let n = ids-slots _ (book-sized (s .args .book .now)) _ (s .pre .1 .0) _ (d .nth-demand .ensures) (s .args .slots .now) (s .args .flags .now) (s .args .end) w (t .if1 .taken) in
+    let m = ids-many _ (book-sized (s .args .book .now)) _ (s .pre .1 .0) _ (d .nth-demand .ensures) (s .args .slots .now) (s .args .flags .now) (s .args .end) w (t .if1 .taken) in
     (f, (omega (arith, from, n, w .long), (w .shape, (d .nth-demand .ensures .fits, omega (arith, m, s .pre .1 .1 .1)))))
 
 returns : tie.Need-returns
@@ -56,7 +56,7 @@ returns c =
     let d = demand o in
     let s = start d in
     let a = s .args in
-    ids-puts _ (book-sized (a .book .now)) _ (s .pre .1 .0) _ (d .nth-demand .ensures) (a .slots .now) (a .flags .now) (a .asking) (s .pre .1 .1 .0) (t .if1 .taken) (a .line-no) (asked o)
+    ids-puts _ (book-sized (a .book .now)) _ (s .pre .1 .0) _ (d .nth-demand .ensures) (a .slots .now) (a .flags .now) (a .end) (s .pre .1 .1 .0) (t .if1 .taken) (a .end .line) (asked o)
     (o .before .before .before .start-of .ensures) (j .judge-ids .ensures)
 
 any-marked-requires : tie.Need-any-marked-requires
@@ -66,7 +66,7 @@ any-marked-requires c κs =
     let d = demand o in
     let s = start d in
     let a = s .args in
-    let m = once-slots _ (book-sized (a .book .now)) _ (s .pre .1 .0) _ (d .nth-demand .ensures) (a .slots .now) (a .flags .now) (a .asking) (s .pre .1 .1 .0) (e .if1 .left) in
+    let m = once-slots _ (book-sized (a .book .now)) _ (s .pre .1 .0) _ (d .nth-demand .ensures) (a .slots .now) (a .flags .now) (a .end) (s .pre .1 .1 .0) (e .if1 .left) in
     (omega (arith, o .before .before .before .start-of .ensures, c .start-of2 .ensures, m), omega (arith, c .start-of2 .ensures, m, s .pre .1 .1 .0 .long))
 
 put-if-requires : tie.Need-put-if-requires
@@ -75,7 +75,7 @@ put-if-requires c κs =
     let d = demand (e .before .before) in
     let s = start d in
     let a = s .args in
-    let m = once-many _ (book-sized (a .book .now)) _ (s .pre .1 .0) _ (d .nth-demand .ensures) (a .slots .now) (a .flags .now) (a .asking) (s .pre .1 .1 .0) (e .if1 .left) in
+    let m = once-many _ (book-sized (a .book .now)) _ (s .pre .1 .0) _ (d .nth-demand .ensures) (a .slots .now) (a .flags .now) (a .end) (s .pre .1 .1 .0) (e .if1 .left) in
     omega (arith, m, s .pre .1 .1 .1)
 
 returns-2 : tie.Need-returns-2
@@ -89,7 +89,7 @@ returns-2 c =
     let d = demand o in
     let s = start d in
     let a = s .args in
-    once-puts _ (book-sized (a .book .now)) _ (s .pre .1 .0) _ (d .nth-demand .ensures) (a .slots .now) (a .flags .now) (a .asking) (s .pre .1 .1 .0) (e .if1 .left) (a .line-no) (asked o)
+    once-puts _ (book-sized (a .book .now)) _ (s .pre .1 .0) _ (d .nth-demand .ensures) (a .slots .now) (a .flags .now) (a .end) (s .pre .1 .1 .0) (e .if1 .left) (a .end .line) (asked o)
     (m .any-marked .ensures) (o .before .before .before .start-of .ensures) (u .start-of2 .ensures) (b .both2 .ensures) (p .put-if .ensures)
 
 pub judge-demand-spec : {M : Type 1} → statement M

@@ -19,13 +19,13 @@ use Rattle.line_end.proofs.judge_demands.Statement.{statement}
 use Rattle.line_end.proofs.judge_demands.Tie as tie
 
 abbrev Inv-loop : tie.InvT-loop
-Inv-loop places₀ count book line-no slots flags asking n k₀ c₀ places k c =
+Inv-loop places₀ count book end slots flags n k₀ c₀ places k c =
     (k ≤ n) × (c + length (wantsIn (drop k ((bookIn book) .demands))) ≤ count + length (wants (bookIn book))) × (length places ≡ length places₀)
-    × ((rest : List Break) → putAll (lent places c) (wantBreaks (bookIn book) (seen slots flags asking) line-no (wantsIn (drop k ((bookIn book) .demands))) rest)
-    ≡ putAll (lent places₀ count) (endBreaks (bookIn book) (seen slots flags asking) line-no rest))
+    × ((rest : List Break) → putAll (lent places c) (wantBreaks (bookIn book) (seen slots flags end) (end .line) (wantsIn (drop k ((bookIn book) .demands))) rest)
+    ≡ putAll (lent places₀ count) (endBreaks (bookIn book) (seen slots flags end) (end .line) rest))
 
 abbrev μ-loop : tie.MeasureT-loop
-μ-loop places₀ count book line-no slots flags asking n k₀ c₀ places k c = n - k
+μ-loop places₀ count book end slots flags n k₀ c₀ places k c = n - k
 
 abbrev start : tie.At-loop Inv-loop μ-loop → tie.Start Inv-loop μ-loop
 start l = l .before .before .before .before .before
@@ -68,7 +68,7 @@ loop-again c =
     let l = i .before in
     let a = start l .args in
     let b = bookIn (a .book .now) in
-    let x = seen (a .slots .now) (a .flags .now) (a .asking) in
+    let x = seen (a .slots .now) (a .flags .now) (a .end) in
     let k = l .loop .k in
     let D = getD (b .demands) k noDemand in
     let p = j .judge-demand .ensures in
@@ -76,9 +76,9 @@ loop-again c =
       omega (arith, i .loop-test .taken),
       omega (arith, p .most, l .loop .inv .1, sizes l (i .loop-test .taken)),
       search needs,
-      λ rest. p .does (wantBreaks b x (a .line-no) (wantsIn (drop (k + 1) (b .demands))) rest)
+      λ rest. p .does (wantBreaks b x (a .end .line) (wantsIn (drop (k + 1) (b .demands))) rest)
           ∙ ap (putAll (lent (l .loop .places) (l .loop .c)))
-          (sym (wants-append b x (a .line-no) (wantsOf D) (wantsIn (drop (k + 1) (b .demands))) rest) ∙ ap (λ (ds : List Demand). wantBreaks b x (a .line-no) (wantsIn ds) rest) (sym e))
+          (sym (wants-append b x (a .end .line) (wantsOf D) (wantsIn (drop (k + 1) (b .demands))) rest) ∙ ap (λ (ds : List Demand). wantBreaks b x (a .end .line) (wantsIn ds) rest) (sym e))
           ∙ l .loop .inv .3 rest,
     )
 
@@ -88,10 +88,10 @@ returns c =
     let l = c .before in
     let a = start l .args in
     let b = bookIn (a .book .now) in
-    let x = seen (a .slots .now) (a .flags .now) (a .asking) in
+    let x = seen (a .slots .now) (a .flags .now) (a .end) in
     let none = drop-of-length-le (b .demands) {i = l .loop .k} (omega (arith, many l, c .loop-test .left)) in
     record {
-      does = λ rest. ap (λ (ds : List Demand). putAll (lent (l .loop .places) (l .loop .c)) (wantBreaks b x (a .line-no) (wantsIn ds) rest)) (sym none) ∙ l .loop .inv .3 rest;
+      does = λ rest. ap (λ (ds : List Demand). putAll (lent (l .loop .places) (l .loop .c)) (wantBreaks b x (a .end .line) (wantsIn ds) rest)) (sym none) ∙ l .loop .inv .3 rest;
       most = omega (arith, l .loop .inv .1, book-sized (a .book .now) .many);
     }
 

@@ -15,12 +15,12 @@ use Rattle.line_end.proofs.judge_ids.Statement.{statement}
 use Rattle.line_end.proofs.judge_ids.Tie as tie
 
 abbrev Inv-loop : tie.InvT-loop
-Inv-loop places₀ count line-no from asked slots flags f ids c₀ cell₀ i₀ places c cell i =
+Inv-loop places₀ count line-no d from asked slots flags f ids c₀ cell₀ i₀ places c cell i =
     (i ≤ 64) × (c ≤ count + i) × (cell ≡ cell₀ + i) × (length places ≡ length places₀)
-    × ((rest : List Break) → putAll (lent places c) (idBreaks asked slots ids from cell₀ line-no (upFrom (64 - i) (i + 1)) rest) ≡ putAll (lent places₀ count) (idBreaks asked slots ids from cell₀ line-no (upFrom 64 1) rest))
+    × ((rest : List Break) → putAll (lent places c) (idBreaks d asked slots ids from line-no (upFrom (64 - i) (i + 1)) rest) ≡ putAll (lent places₀ count) (idBreaks d asked slots ids from line-no (upFrom 64 1) rest))
 
 abbrev μ-loop : tie.MeasureT-loop
-μ-loop places₀ count line-no from asked slots flags f ids c₀ cell₀ i₀ places c cell i = 64 - i
+μ-loop places₀ count line-no d from asked slots flags f ids c₀ cell₀ i₀ places c cell i = 64 - i
 
 abbrev start : tie.At-loop Inv-loop μ-loop → tie.Start Inv-loop μ-loop
 start l = l .before .before .before .before
@@ -39,7 +39,7 @@ loop-again c =
       omega (arith, p .put-if .ensures .most, v .1),
       omega (arith, v .2),
       search needs,
-      ids-turn (a .asked) (a .slots .now) (getD (a .flags .now) (a .d .each) []) (a .from) (a .d .cell) (a .line-no) (l .loop .i) (lent (a .places .now) (a .count)) h (b1 .both .ensures) (b2 .both2 .ensures) (omega (arith, v .2)) (p .put-if .ensures) (v .4),
+      ids-turn (a .d) (a .asked) (a .slots .now) (getD (a .flags .now) (a .d .each) []) (a .from) (a .line-no) (l .loop .i) (lent (a .places .now) (a .count)) h (b1 .both .ensures) (b2 .both2 .ensures) (omega (arith, v .2)) (p .put-if .ensures) (v .4),
     )
 
 returns : tie.Need-returns Inv-loop μ-loop

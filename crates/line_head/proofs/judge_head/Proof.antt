@@ -6,6 +6,7 @@ use native.Mathlib.Omega.{arith}
 use borrow.Author.Tests.{ltb-true, ltb-false}
 use lib.ListN.{length, drop}
 use Rattle.text.specs.Lines.{cells}
+use Rattle.book_facts.specs.Asked.{askedBy}
 use Rattle.scan.specs.Machine.{idsOf}
 use Rattle.scan.proofs.Laws.Celling.{cell-here, cells-next, cells-last}
 use Rattle.line_head.proofs.Laws.Heading.{head-wide, head-named, names-none}
@@ -16,14 +17,14 @@ use Rattle.line_head.proofs.judge_head.Tie as tie
 returns : tie.Need-returns
 returns c =
     let code = c .before .before .before .before .before .before .before .before in
-    let at-count = code .before .before .before in
+    let at-count = code .before .before .before .before in
     let start = at-count .before .before .before .before .before in
     let args = start .args in
     let pre = start .pre in
     let line = args .line .now in
     let count = at-count .count-cells .ensures in
     let taken = c .before .before .before .before .before .if1 .taken in (
-      head-wide _ (args .head .section) (args .head .again) (args .head .later) (idsOf (args .flags .now)) (args .head .tag .control) (args .head .tag .line) (cells line) (rw count at (code .head-code .ensures)) (rw count at (taken)) (c .before .before .put-if .ensures),
+      head-wide _ (askedBy (args .head .asking)) (args .head .section) (args .head .again) (args .head .later) (idsOf (args .flags .now)) (args .head .tag .control) (args .head .tag .line) (cells line) (rw count at (code .head-code .ensures)) (rw count at (taken)) (c .before .before .put-if .ensures),
       record { columns = λ narrow. absurd (omega (arith, ltb-true 256 (length (cells line)) (rw count at taken), narrow)); kind-places = pre .1 .1 .1 .0; stamp-places = pre .1 .1 .1 .1 .0 },
     )
 
@@ -32,15 +33,15 @@ returns-2 c =
     let at-then = c .before .before .before .before in
     let at-end = at-then .before in
     let code = at-end .before .before .before .before in
-    let at-count = code .before .before .before in
+    let at-count = code .before .before .before .before in
     let start = at-count .before .before .before .before .before in
     let args = start .args in
     let pre = start .pre in
     let line = args .line .now in
     let count = at-count .count-cells .ensures in
     let last = cells-last (at-end .cell-end .ensures) (at-then .if2 .taken) in (
-      head-named _ (args .head .section) (args .head .again) (args .head .later) (idsOf (args .flags .now)) (args .head .tag .control) (args .head .tag .line) (cells line) (rw count at (code .head-code .ensures)) (rw count at (at-end .before .if1 .left))
-          (names-none _ (args .head .section) (idsOf (args .flags .now)) (args .head .tag .control) (args .head .tag .line) (drop 1 (cells line)) (pre .1 .1 .0) last (c .before .before .put-if2 .ensures)),
+      head-named _ (askedBy (args .head .asking)) (args .head .section) (args .head .again) (args .head .later) (idsOf (args .flags .now)) (args .head .tag .control) (args .head .tag .line) (cells line) (rw count at (code .head-code .ensures)) (rw count at (at-end .before .if1 .left))
+          (names-none _ (args .head .asking) (args .head .section) (idsOf (args .flags .now)) (args .head .tag .control) (args .head .tag .line) (drop 1 (cells line)) (pre .1 .1 .0) last (c .before .before .put-if2 .ensures)),
       record { columns = λ narrow. rw last (λ i l. absurd (not-suc-le-zero l)); kind-places = pre .1 .1 .1 .0; stamp-places = pre .1 .1 .1 .1 .0 },
     )
 
@@ -49,7 +50,7 @@ head-names-requires c κs =
     let at-else = c .before .before .before in
     let at-end = at-else .before in
     let code = at-end .before .before .before .before in
-    let at-count = code .before .before .before in
+    let at-count = code .before .before .before .before in
     let start = at-count .before .before .before .before .before in
     let args = start .args in
     let pre = start .pre in
@@ -66,7 +67,7 @@ returns-3 c =
     let at-else = names .before .before .before .before in
     let at-end = at-else .before in
     let code = at-end .before .before .before .before in
-    let at-count = code .before .before .before in
+    let at-count = code .before .before .before .before in
     let start = at-count .before .before .before .before .before in
     let args = start .args in
     let pre = start .pre in
@@ -76,7 +77,7 @@ returns-3 c =
     let lt : at-end .cell-end .result < length line = omega (arith, at-else .if2 .left, ends .within) in
     let next = cells-next ends lt in
     let ens = names .head-names .ensures in (
-      head-named _ (args .head .section) (args .head .again) (args .head .later) (idsOf (args .flags .now)) (args .head .tag .control) (args .head .tag .line) (cells line) (rw count at (code .head-code .ensures)) (rw count at (at-end .before .if1 .left)) (rw (← next) at (ens .0)),
+      head-named _ (askedBy (args .head .asking)) (args .head .section) (args .head .again) (args .head .later) (idsOf (args .flags .now)) (args .head .tag .control) (args .head .tag .line) (cells line) (rw count at (code .head-code .ensures)) (rw count at (at-end .before .if1 .left)) (rw (← next) at (ens .0)),
       record { columns = λ narrow. rw next (ens .1 .columns); kind-places = ens .1 .kind-places; stamp-places = ens .1 .stamp-places },
     )
 

@@ -8,7 +8,7 @@ use Rattle.text_bytes.specs.Bytes.{Bytes}
 use Rattle.book.specs.Book.{Book}
 use Rattle.book.specs.Text.{IsText, bookIn}
 use Rattle.book.proofs.Laws.Directing.{section-within}
-use Rattle.line_head_required.proofs.Laws.Requiring.{wanted-within, lacks-wanted}
+use Rattle.line_head_required.proofs.Laws.Requiring.{wanted-within, lacks-wanted, wanted-lines}
 use Rattle.line_head_required.proofs.lacks.Statement.{statement}
 use Rattle.line_head_required.proofs.lacks.Tie as tie
 
@@ -38,12 +38,18 @@ within c =
     let w = c .before .before in
     wanted-within (start w .pre .0) (start w .args .section) (start w .args .section - w .wide .result) _ _ (start w .pre .1 .0) (place w) (c .before .wanted-at .ensures) (c .wanted-at2 .ensures)
 
+lacks-any-requires : tie.Need-lacks-any-requires
+lacks-any-requires c κs =
+    let e = c .before in
+    let w = e .before .before in
+    (start w .pre .1 .1 .0, wanted-lines (start w .pre .0) (start w .args .section) (start w .args .section - w .wide .result) _ _ (start w .pre .1 .0) (place w) (e .before .wanted-at .ensures) (e .wanted-at2 .ensures))
+
 returns : tie.Need-returns
 returns c =
     let e = c .before .before in
     let w = e .before .before in
     c .lacks-any .ensures
-    ∙ lacks-wanted (start w .pre .0) (start w .args .section) (start w .args .section - w .wide .result) _ _ (start w .pre .1 .0) (place w) (e .before .wanted-at .ensures) (e .wanted-at2 .ensures) _ (start w .pre .1 .1 .1)
+    ∙ lacks-wanted (start w .pre .0) (start w .args .section) (start w .args .section - w .wide .result) _ _ (start w .pre .1 .0) (place w) (e .before .wanted-at .ensures) (e .wanted-at2 .ensures) _ _ (start w .pre .1 .1 .1)
 
 pub lacks-spec : {M : Type 1} → statement M
 lacks-spec =
@@ -59,5 +65,5 @@ lacks-spec =
     (λ c. omega (arith, within c))
     (λ c. omega (arith, within c))
     (λ c. omega (arith, within c))
-    (λ c κs. search needs)
+    lacks-any-requires
     returns)

@@ -1,23 +1,18 @@
--- What is counted: row r is there exactly for r up to the number of rows, and the judging call counts all breaks. Assumes nothing.
+-- What is counted: row r is there exactly for r up to the number of rows. Assumes nothing.
 use mathlib.Core.Path.{_≡_, refl, sym, ap, _∙_}
 use mathlib.Core.Bool.{Bool, true, false, cond}
-use mathlib.Core.List.{List}
 use mathlib.Core.Option.{Option, none, some}
 use Prim.Native.Nat.{ℕ, _+_, _≤_, _<_}
 use native.Mathlib.Omega.{arith}
 use lib.Dec.{ltb}
 use lib.ListN.{length}
-use borrow.Author.Tests.{ltb-true, ltb-false, le-ltb}
+use borrow.Author.Tests.{ltb-true, ltb-false}
 use Rattle.numbers.specs.Numbers.{TOO-LONG, NO-SECTION, NO-ROW}
 use Rattle.text_bytes.specs.Bytes.{Bytes}
 use Rattle.text.specs.Lines.{LIMIT, lines}
 use Rattle.rows.specs.Rows.{Line, rowOf, rowCount, cellAt}
 use Rattle.rows.specs.Counted.{Counted, counted, rowsIn}
 use Rattle.rows.proofs.Laws.Finding.{row-beyond, row-within}
-use Rattle.scan.specs.Places.{lent}
-use Rattle.rules.specs.Rules.{breaks}
-use Rattle.scan.proofs.Laws.Putting.{put-count}
-use Rattle.mztab.specs.Judged.{Outcome, outcome, judged}
 use Rattle.mztab.specs.Shown.{Shown, refused, cellStart, soughtCell, soughtRow, sought, given, shown}
 use Rattle.book.specs.Book.{isSection, bookOf}
 
@@ -52,9 +47,3 @@ rows-cell file section row column {k} {n} a b low =
 
         beyond : k < row → n ≡ NO-ROW
         beyond h = r ∙ ap (λ (o : Option Line). soughtRow file o column .number) (row-beyond file section row low (omega arith))
-
--- the count of the judging call is that of all breaks, whatever the list
-pub judged-count : (file : Bytes) (ys : List ℕ) {zs : List ℕ} {n k : ℕ} → length file ≤ LIMIT → outcome n k zs ≡ judged file ys → k ≡ length (breaks file)
-unfolding judged
-judged-count file ys fits e =
-    ap (λ (o : Outcome). o .count) e ∙ rw (le-ltb LIMIT (length file) fits) (put-count (breaks file) (lent ys 0) ∙ omega arith)

@@ -1,4 +1,4 @@
--- Required metadata, by the slots of all lines, the ids, the facts and the sections present: rule 21. Assumes nothing.
+-- Required metadata, by the slots of all lines, the ids, the facts and the sections present: rules 21 and 22. Assumes nothing.
 use mathlib.Core.Path.{_≡_, refl, sym, ap, subst, _∙_}
 use mathlib.Core.Bool.{Bool, true, false, cond, _&&_, _||_, and-true, or-false}
 use mathlib.Core.List.{List, [], _∷_, _++_, map}
@@ -15,21 +15,22 @@ use Rattle.text_bytes.proofs.Laws.Same.{same-equal}
 use Rattle.text_bytes.proofs.Laws.Tests.{absurd-bool, and-both}
 use Rattle.text.specs.Lines.{cell, isField}
 use Rattle.book_names.specs.Names.{Entry, entryOf, formOf, piecesFrom, pieces, startOf, slotOf}
-use Rattle.book_ids.specs.Ids.{ASSAYS, declares}
-use Rattle.book_facts.specs.Facts.{modeOf, typeOf}
+use Rattle.book.specs.Letters.{ASSAYS}
+use Rattle.book_ids.specs.Ids.{declares, isMarked}
+use Rattle.book_facts.specs.Asked.{isDeclared, askedOf}
 use Rattle.value_references.specs.Index.{MOST}
 use Rattle.book_names.specs.declared.Found.{Found}
 use Rattle.book_names.specs.declared.Found.the-variants.{Unknown, Known}
 use Rattle.book_names.proofs.Laws.Known.{Of, known-of, holes, nth, among-one, start-rise, start-mono, slot-before, slot-inside, slot-apart}
 use Rattle.book.specs.Book.{SECTIONS, SLOTS, Demand, ONCE, Want, want, cellOf, upFrom, wantsOf, wantsIn, wants, Book, hasForm, keyOf, keyEntries}
 use Rattle.book.specs.Text.{entryFor}
-use Rattle.book.proofs.Laws.Sized.{isEach, isSound, sound-one, sound-each, sound-section, each-places, each-family, Sized}
+use Rattle.book.proofs.Laws.Sized.{isEach, isLate, isSound, sound-one, sound-each, sound-section, sound-late, each-places, each-family, Sized}
 use Rattle.rules.specs.Breaks.{Break, breakAt, when, atCell, atEnd}
-use Rattle.rules.specs.Rules.{keyFound, asks, isDeclared, isPresent, isFor, isAsked, isWanted, hasKey, isUnmet, endRules, ends}
-use Rattle.scan.specs.Machine.{isSlot, hasSlot, Slots, isMarked, Seen, SeenOf, isAskedIn, isForIn, firstSlot, endSlot, isLacking, wantBreaks, endBreaks}
+use Rattle.rules.specs.Rules.{keyFound, isPresent, isFor, isAsked, isWanted, hasKey, isUnmet, endRules, ends}
+use Rattle.scan.specs.Machine.{isSlot, hasSlot, Slots, idsOf, Declares, Seen, SeenOf, isAskedIn, isForIn, firstSlot, endSlot, isLacking, wantBreaks, endBreaks}
 use Rattle.scan.proofs.Laws.Rowing.{test-eq}
 use Rattle.scan.proofs.Laws.Keeping.{any-alike}
-use Rattle.scan.proofs.Laws.Demanding.{listed, cells-listed}
+use Rattle.scan.proofs.Laws.Demanding.{any-up, up-any, listed, cells-listed, cells-demanded}
 
 -- A RANGE
 
@@ -41,25 +42,6 @@ all-up p (suc n) k i h a b = go (p k) refl h (λ m q. all-up p n (suc k) i m q (
     go : (t : Bool) → p k ≡ t → (t && all p (upFrom n (suc k))) ≡ true → (all p (upFrom n (suc k)) ≡ true → k < i → p i ≡ true) → p i ≡ true
     go true e m ih = ⊎-elim (λ (q : k ≡ i). subst (λ (j : ℕ). p j ≡ true) q e) (λ (q : k < i). ih m q) (eq-or-lt-of-le a)
     go false e m ih = absurd-bool m
-
-any-up : (p : ℕ → Bool) (n k i : ℕ) → k ≤ i → i < k + n → p i ≡ true → any p (upFrom n k) ≡ true
-unfolding any upFrom
-any-up p zero k i a b h = absurd (omega arith)
-any-up p (suc n) k i a b h = go (p k) refl (λ q. any-up p n (suc k) i q (omega arith) h)
-  where
-    go : (t : Bool) → p k ≡ t → (k < i → any p (upFrom n (suc k)) ≡ true) → (t || any p (upFrom n (suc k))) ≡ true
-    go true e ih = refl
-    go false e ih = ⊎-elim (λ (q : k ≡ i). absurd-bool (sym e ∙ subst (λ (j : ℕ). p j ≡ true) (sym q) h)) (λ (q : k < i). ih q) (eq-or-lt-of-le a)
-
-up-any : (p : ℕ → Bool) (n k : ℕ) → any p (upFrom n k) ≡ true → (i : ℕ) × ((k ≤ i) × ((i < k + n) × (p i ≡ true)))
-unfolding any upFrom
-up-any p zero k h = absurd-bool h
-up-any p (suc n) k h = go (p k) refl h (λ m. up-any p n (suc k) m)
-  where
-    go : (t : Bool) → p k ≡ t → (t || any p (upFrom n (suc k))) ≡ true
-        → (any p (upFrom n (suc k)) ≡ true → (i : ℕ) × ((suc k ≤ i) × ((i < suc k + n) × (p i ≡ true)))) → (i : ℕ) × ((k ≤ i) × ((i < k + suc n) × (p i ≡ true)))
-    go true e m ih = (k, (omega arith, (omega arith, e)))
-    go false e m ih = let r = ih m in (r .0, (omega (arith, r .1 .0), (omega (arith, r .1 .1 .0), r .1 .1 .1)))
 
 -- two tests that agree on a range
 any-within : (f g : ℕ → Bool) (n k : ℕ) → ((i : ℕ) → k ≤ i → i < k + n → f i ≡ g i) → any f (upFrom n k) ≡ any g (upFrom n k)
@@ -328,17 +310,17 @@ module _ (b : Book) (sized : Sized b) (w : Want) (sound : isSound (b .keys) (w .
         ∙ any-swap (λ s m. hasSlot b s m) (upFrom span begin) F
         ∙ any-alike (λ m. any (λ s. hasSlot b s m) (upFrom span begin)) (hasKey b w) line-slot F
 
--- WHAT IS PUT AT THE END is what rule 21 gives
-module _ (b : Book) (sized : Sized b) (F : List Bytes) (x : Seen) (h : SeenOf b F x) where
-  assays-are : isMarked (getD (x .flags) ASSAYS []) 0 MOST ≡ isDeclared b F ASSAYS
-  unfolding isMarked
-  assays-are =
-      any-shift (λ s. getD (getD (x .flags) ASSAYS []) s false) (λ i. any (declares b ASSAYS i) F) MOST 0
-      (λ i a l. let z : i ≡ suc i - 1 = omega arith in ap (λ (k : ℕ). getD (getD (x .flags) ASSAYS []) k false) z ∙ h .ids ASSAYS (suc i) (omega arith) (omega arith) (omega arith))
+-- WHAT IS PUT AT THE END is what rules 21 and 22 give
+pub assays-are : (b : Book) (F : List Bytes) (flags : List (List Bool)) → Declares b F (idsOf flags) → isMarked (getD flags ASSAYS []) 0 MOST ≡ isDeclared b F ASSAYS
+unfolding isMarked
+assays-are b F flags h =
+    any-shift (λ s. getD (getD flags ASSAYS []) s false) (λ i. any (declares b ASSAYS i) F) MOST 0
+    (λ i a l. let z : i ≡ suc i - 1 = omega arith in ap (λ (k : ℕ). getD (getD flags ASSAYS []) k false) z ∙ h ASSAYS (suc i) (omega arith) (omega arith) (omega arith))
 
-  asked-is : (w : Want) → w .demand .section < SECTIONS → isAskedIn x (w .demand) ≡ (asks (w .demand .asked) (modeOf F) (typeOf F) (isDeclared b F ASSAYS) && isPresent b F (w .demand .section))
+module _ (b : Book) (sized : Sized b) (F : List Bytes) (x : Seen) (h : SeenOf b F x) where
+  asked-is : (w : Want) → w .demand .section < SECTIONS → isAskedIn x (w .demand) ≡ (askedOf b F (w .demand .asked) && isPresent b F (w .demand .section))
   unfolding isAskedIn
-  asked-is w l = rw (assays-are, h .mode, h .typed, h .present (w .demand .section) l)
+  asked-is w l = rw (assays-are b F (x .flags) (h .ids), h .mode, h .typed, h .present (w .demand .section) l)
 
   for-is : (w : Want) → (w .index ≡ 0) ⊎ ((isEach (w .demand) ≡ true) × (1 ≤ w .index) × (w .index ≤ MOST)) → isForIn x w ≡ isFor b F w
   for-is w ways =
@@ -371,19 +353,27 @@ module _ (b : Book) (sized : Sized b) (F : List Bytes) (x : Seen) (h : SeenOf b 
       let ways = fit-ways w f in
       rw (asked-is w (sound-section (b .keys) (w .demand) s), for-is w ways, marked-means b sized w s ways F (x .slots) (h .slots))
 
-  puts-listed : (n : ℕ) (ws : List Want) → all (isFit (b .keys)) ws ≡ true → (rest : List Break) → wantBreaks b x n ws rest ≡ listed (isUnmet b F) n 21 ws ++ rest
+  puts-listed : (n : ℕ) (ws : List Want) → all (isFit (b .keys)) ws ≡ true → (rest : List Break) → wantBreaks b x n ws rest ≡ listed (isUnmet b F) n ws ++ rest
   unfolding wantBreaks listed all
   puts-listed n [] o rest = refl
   puts-listed n (w ∷ ws) o rest =
       let q = and-both (isFit (b .keys) w) (all (isFit (b .keys)) ws) o in
-      rw (lacking-is w (q .0), puts-listed n ws (q .1) rest) (front (isUnmet b F w) (breakAt n (cellOf w) 21) (listed (isUnmet b F) n 21 ws) rest)
+      rw (lacking-is w (q .0), puts-listed n ws (q .1) rest) (front (isUnmet b F w) (breakAt n (cellOf w) (w .demand .rule)) (listed (isUnmet b F) n ws) rest)
     where
       front : (t : Bool) (x : Break) (bs rest : List Break) → when t x (bs ++ rest) ≡ when t x bs ++ rest
       front true x bs rest = refl
       front false x bs rest = refl
 
+  fit-late : (ws : List Want) → all (isFit (b .keys)) ws ≡ true → all (λ w. isLate (w .demand)) ws ≡ true
+  unfolding all
+  fit-late [] o = refl
+  fit-late (w ∷ ws) o =
+      let q = and-both (isFit (b .keys) w) (all (isFit (b .keys)) ws) o in
+      rw (sound-late (b .keys) (w .demand) (fit-sound w (q .0))) (fit-late ws (q .1))
+
   pub end-means : (rest : List Break) → endBreaks b x (length F + 1) rest ≡ atEnd (endRules b) (ends b) F ++ rest
   unfolding atEnd endRules atCell
   end-means rest =
-      puts-listed (length F + 1) (wants b) (fit-in (b .keys) (b .demands) (sized .sound)) rest
-      ∙ ap (λ (bs : List Break). bs ++ rest) (sym (cells-listed (isUnmet b F) (length F + 1) 21 (ends b) 0 (wants b) (sized .order) (omega arith)))
+      let fit = fit-in (b .keys) (b .demands) (sized .sound) in
+      puts-listed (length F + 1) (wants b) fit rest
+      ∙ ap (λ (bs : List Break). bs ++ rest) (sym (cells-demanded (isUnmet b F) (length F + 1) (b .demands) (ends b) 1 ∙ cells-listed (isUnmet b F) (length F + 1) (ends b) 0 (wants b) (fit-late (wants b) fit) (sized .order) (omega arith)))

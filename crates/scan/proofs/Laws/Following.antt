@@ -14,9 +14,10 @@ use Rattle.text.specs.Lines.{width}
 use Rattle.rules.specs.Sorts.{sortOf, headerIn, rowIn, header, row, isHeader, isTable}
 use Rattle.rules.specs.Rules.{ofSection, ofLater, nearer, nearest, nearestIn, inSection, isPresent}
 use Rattle.scan.specs.Machine.{hasSlot, Slots}
-use Rattle.scan.specs.Carried.{initial, afterHeader, Stands, Follows}
+use Rattle.scan.specs.Carried.{initial, afterHeader, sortState, Stands, Follows}
 use Rattle.scan.specs.declared.state.State.{State}
 use Rattle.rules.specs.declared.sorts.Sort.{Sort}
+use Rattle.book_facts.specs.declared.Asking.{Asking}
 use Rattle.rules.specs.declared.sorts.Sort.the-variants.{Silent, Unknown, Meta, Header, Row}
 use Rattle.rules.proofs.Laws.Sorting.{header-section, row-section}
 use Rattle.scan.proofs.Laws.Celling.{any-append}
@@ -29,9 +30,9 @@ nearest-append book [] x found = refl
 nearest-append book (y ∷ ys) x found = nearest-append book ys x (nearer book y found)
 
 -- BEFORE THE FIRST LINE
-pub stands-start : (book : Book) (kinds : List ℕ) (slots : List Bool) → ((i : ℕ) → getD slots i false ≡ false) → Stands book [] initial kinds slots
+pub stands-start : (book : Book) (a : Asking) (kinds : List ℕ) (slots : List Bool) → ((i : ℕ) → getD slots i false ≡ false) → Stands book [] (initial a) kinds slots
 unfolding any nearestIn sortOf isEmpty splitOn isPresent
-stands-start book kinds slots empty = record {
+stands-start book a kinds slots empty = record {
   seen = λ i p h. none i;
   sections = refl;
   present = λ i h. only-zero i;
@@ -212,7 +213,7 @@ module _ {book : Book} (sized : Sized book) {above : List Bytes} {s : State} {ki
       more x = rw (e, lt-ltb 0 r low) (or-true x)
 
       go : (t : Bool) → getD (s .present) r false ≡ t
-          → next ≡ cond t s (record { seen = s .seen; present = set (s .present) r true; highest = s .highest; section = s .section; width = s .width; table = true })
+          → next ≡ cond t s (record { seen = s .seen; present = set (s .present) r true; highest = s .highest; section = s .section; asking = s .asking; width = s .width; table = true })
           → Stands book (above ++ (l ∷ [])) next kinds' slots'
       go true p q =
           kept (rw e) (ap (λ (x : State). x .seen) q) (ap (λ (x : State). x .highest) q) (ap (λ (x : State). x .section) q) (ap (λ (x : State). x .width) q)
@@ -234,3 +235,19 @@ module _ {book : Book} (sized : Sized book) {above : List Bytes} {s : State} {ki
       go Meta e = same-state e (af .state ∙ rw e) refl refl
       go (Header h) e = headed h e
       go (Row r) e = rowed r e
+
+-- what is asked of the file stays
+pub asking-kept : {book : Book} {s : State} {kinds : List ℕ} {slots : List Bool} {l : Bytes} {next : State} {kinds' : List ℕ} {slots' : List Bool} → Follows book s kinds slots l next kinds' slots'
+    → next .asking ≡ s .asking
+asking-kept {book} {s} {l = l} af = ap (λ (t : State). t .asking) (af .state) ∙ by (sortOf book l)
+  where
+    row-keeps : (r : ℕ) (t : Bool) → (cond t s (record { seen = s .seen; present = set (s .present) r true; highest = s .highest; section = s .section; asking = s .asking; width = s .width; table = true })) .asking ≡ s .asking
+    row-keeps r true = refl
+    row-keeps r false = refl
+
+    by : (σ : Sort) → (sortState σ s (width l)) .asking ≡ s .asking
+    by Silent = refl
+    by Unknown = refl
+    by Meta = refl
+    by (Header h) = refl
+    by (Row r) = row-keeps r (getD (s .present) r false)

@@ -13,10 +13,11 @@ use Rattle.text.specs.Lines.{cells, cell, width, isThree}
 use Rattle.text_bytes.proofs.Laws.Tests.{and-both}
 use Rattle.book.specs.Keys.{isColunit}
 use Rattle.book_names.specs.Names.{isKnown}
+use Rattle.book_facts.specs.Asked.{askedOf}
 use Rattle.rules.specs.Sorts.{sortOf, header, isTable, controlCell}
 use Rattle.rules.specs.Breaks.{Break, breakAt, when, Spot, spot, Rule, atCell, atLine}
 use Rattle.rules.specs.Rules.{keyFound, sameKey, namesUndeclared, ofSection, ofLater, isWide, names, columnUndeclared, lacksColumn, nearest, kindIn, rules}
-use Rattle.scan.specs.Machine.{controlAt, Ids, againIn, undeclaredIn, metaCell, metaBreaks, columnIn, headCell, headBreaks, Kinds, rowCell, rowBreaks, unknownBreaks}
+use Rattle.scan.specs.Machine.{controlAt, Ids, Asked, againIn, undeclaredIn, metaCell, metaBreaks, columnIn, headCell, headBreaks, Kinds, rowCell, rowBreaks, unknownBreaks}
 use Rattle.rules.specs.declared.sorts.Sort.the-variants.{Silent, Unknown, Meta, Header, Row}
 use Rattle.rules.proofs.Laws.Sorting.{silent-sort, meta-sort, header-section, row-section}
 use Rattle.scan.proofs.Laws.Rowing.{Says, line-cells, plainCell, plain-rest}
@@ -108,11 +109,11 @@ module _ (book : Book) (sized : Sized book) where
 
     -- a header
     module _ (h : ℕ) (e : sortOf book l ≡ Header h) where
-      header-first : (again after : Bool) → again ≡ any (ofSection book h) above → after ≡ any (ofLater book h) above
+      header-first : (asked : Asked) (again after : Bool) → lacksColumn book asked h (names l) ≡ lacksColumn book (askedOf book file) h (names l) → again ≡ any (ofSection book h) above → after ≡ any (ofLater book h) above
           → (rest : List Break) → atCell (rules book) p n 1 ++ rest
-          ≡ controlAt cc n 1 (when again (breakAt n 1 9) (when after (breakAt n 1 10) (when (isWide l) (breakAt n 1 11) (when (not (isWide l) && lacksColumn book h (names l)) (breakAt n 1 16) rest))))
+          ≡ controlAt cc n 1 (when again (breakAt n 1 9) (when after (breakAt n 1 10) (when (isWide l) (breakAt n 1 11) (when (not (isWide l) && lacksColumn book asked h (names l)) (breakAt n 1 16) rest))))
       unfolding rules atRest
-      header-first again after a b rest = at-rest (rules book) p n 1 rest ∙ rw (meta-sort book l, e, lt-ltb 0 h (header-section book sized l h e .0), a, b)
+      header-first asked again after q a b rest = at-rest (rules book) p n 1 rest ∙ rw (meta-sort book l, e, lt-ltb 0 h (header-section book sized l h e .0), a, b, q)
 
       header-wide : isWide l ≡ true → Says (atCell (rules book) p n) (plainCell cc n) (cells l) 1
       unfolding rules atRest plainCell
@@ -199,20 +200,21 @@ module _ (book : Book) (sized : Sized book) where
         go false w = rw (w, ← plain-rest n l rest, silent-sort book l, e)
             (rw w at (sym (line-cells (atCell (rules book) (spot above l file) n) first (plainCell (controlCell l) n) l (meta-first above file l n e table ta) (meta-plain above file l n e w) rest)))
 
-    pub means-header : (h : ℕ) → sortOf book l ≡ Header h → (again later : Bool) (ids : Ids) → again ≡ any (ofSection book h) above → later ≡ any (ofLater book h) above
+    pub means-header : (h : ℕ) → sortOf book l ≡ Header h → (asked : Asked) (again later : Bool) (ids : Ids)
+        → lacksColumn book asked h (names l) ≡ lacksColumn book (askedOf book file) h (names l) → again ≡ any (ofSection book h) above → later ≡ any (ofLater book h) above
         → ((x : Bytes) → columnUndeclared book file (columnOf book h x) ≡ columnIn ids (columnOf book h x))
-        → headBreaks book h again later ids (controlCell l) n (cells l) rest ≡ atLine (rules book) (spot above l file) n ++ rest
+        → headBreaks book asked h again later ids (controlCell l) n (cells l) rest ≡ atLine (rules book) (spot above l file) n ++ rest
     unfolding atLine headBreaks
-    means-header h e again later ids a b d = go (isWide l) refl
+    means-header h e asked again later ids q a b d = go (isWide l) refl
       where
         first : List Break → List Break
-        first bs = controlAt (controlCell l) n 1 (when again (breakAt n 1 9) (when later (breakAt n 1 10) (when (isWide l) (breakAt n 1 11) (when (not (isWide l) && lacksColumn book h (names l)) (breakAt n 1 16) bs))))
+        first bs = controlAt (controlCell l) n 1 (when again (breakAt n 1 9) (when later (breakAt n 1 10) (when (isWide l) (breakAt n 1 11) (when (not (isWide l) && lacksColumn book asked h (names l)) (breakAt n 1 16) bs))))
 
-        go : (t : Bool) → isWide l ≡ t → headBreaks book h again later ids (controlCell l) n (cells l) rest ≡ atLine (rules book) (spot above l file) n ++ rest
+        go : (t : Bool) → isWide l ≡ t → headBreaks book asked h again later ids (controlCell l) n (cells l) rest ≡ atLine (rules book) (spot above l file) n ++ rest
         go true w = rw (w, ← plain-rest n l rest, silent-sort book l, e)
-            (rw w at (sym (line-cells (atCell (rules book) (spot above l file) n) first (plainCell (controlCell l) n) l (header-first above file l n h e again later a b) (header-wide above file l n h e w) rest)))
+            (rw w at (sym (line-cells (atCell (rules book) (spot above l file) n) first (plainCell (controlCell l) n) l (header-first above file l n h e asked again later q a b) (header-wide above file l n h e w) rest)))
         go false w = rw (w, silent-sort book l, e)
-            (rw w at (sym (line-cells (atCell (rules book) (spot above l file) n) first (headCell book h (drop 1 (cells l)) ids (controlCell l) n) l (header-first above file l n h e again later a b) (header-later above file l n h e ids d w) rest)))
+            (rw w at (sym (line-cells (atCell (rules book) (spot above l file) n) first (headCell book h (drop 1 (cells l)) ids (controlCell l) n) l (header-first above file l n h e asked again later q a b) (header-later above file l n h e ids d w) rest)))
 
     pub means-row : (r : ℕ) → sortOf book l ≡ Row r → (hs w : ℕ) (kinds : List ℕ) → hs ≡ header book (nearest book above) → w ≡ width (nearest book above) → Kinds book (nearest book above) kinds
         → rowBreaks hs w kinds r (controlCell l) n (cells l) rest ≡ atLine (rules book) (spot above l file) n ++ rest

@@ -15,6 +15,7 @@ use Rattle.text.specs.Lines.{LIMIT, lines, startsLf, width}
 use Rattle.text.specs.Places.{LineAt}
 use Rattle.text_bytes.proofs.Laws.Pieces.{onFirst-length}
 use Rattle.text.proofs.Laws.Lines.{lines-done}
+use Rattle.book_facts.specs.Asked.{askedBy}
 use Rattle.rules.specs.Sorts.{isSilent}
 use Rattle.rules.specs.Breaks.{Break, breakAt, when, Spot, spot, spotAt, Rule, each, atCell, atLine, inLines, atEnd}
 use Rattle.scan.specs.Places.{FILE-MOST}
@@ -129,7 +130,7 @@ breaks-bound book sized b h =
       length-append (inLines (rules book) F) (last book F),
       from-bound book F F 0 refl,
       widths-bound b,
-      each-bound 1 (ends book) 1 (atCell (endRules book) (spotAt F (length F + 1)) (length F + 1)) (at-bound (endRules book) (spotAt F (length F + 1)) (length F + 1)),
+      each-bound 2 (ends book) 1 (atCell (endRules book) (spotAt F (length F + 1)) (length F + 1)) (at-bound (endRules book) (spotAt F (length F + 1)) (length F + 1)),
       sized .ends,
       ap (λ (k : ℕ). length (each k 1 (λ i. atLine (rules book) (spotAt F i) i))) z,
     )
@@ -161,7 +162,7 @@ module _ {book : Book} (sized : Sized book) {file : Bytes} {at n : ℕ} {s : Sta
         }
 
     -- the breaks of the line, in front of those of the lines after it and those at the end
-    pub scan-left : {ids : Ids} → Knows book (lines file) ids
+    pub scan-left : {ids : Ids} → Knows book (lines file) (askedBy (s .asking)) ids
         → from book (lines file) n ++ last book (lines file) ≡ lineBreaks book ids s kinds slots (n + 1) (part at end file) [] ++ (from book (lines file) (n + 1) ++ last book (lines file))
     scan-left k =
         let F = lines file in

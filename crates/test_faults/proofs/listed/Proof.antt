@@ -47,12 +47,12 @@ use denote.Triple.Table.{entered, cited}
 use denote.Triple.Walked.{Stays, stay-none-slice, stay-ref, walkOf, goes-none-slice, goes-ref, Walks, ends-at, walked, walk-meets}
 use denote.Exit.{yes}
 use borrow.Table.OneValue.{part-out}
-use Rattle.faults.specs.declared.Fault.{Fault}
+use Rattle.fault_steps.specs.declared.Fault.{Fault}
 use Rattle.faults.specs.Records.{Outcome, outcome, judged}
-use Rattle.faults.specs.Steps.{fault}
+use Rattle.fault_steps.specs.Steps.{fault}
 use Rattle.walks.proofs.Lent.{facts2, says-all, big-lit, init-times, times-in, lends-mut, mut-back}
-use Rattle.faults.proofs.Fault as T
-use Rattle.faults.proofs.Fault.Laws as T′
+use Rattle.fault_steps.proofs.Fault as T
+use Rattle.fault_steps.proofs.Fault.Laws as T′
 use Rattle.faults.proofs.judge as judge
 use Rattle.faults.proofs.judge.Symbol as judge-def
 use Rattle.faults.proofs.judge.Symbol.{name as #faults·judge}

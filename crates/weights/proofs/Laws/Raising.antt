@@ -16,7 +16,7 @@ use Rattle.text_bytes.specs.Places.{part, Ends}
 use Rattle.text.specs.Places.{LineAt}
 use Rattle.text_bytes.proofs.Laws.Pieces.{piece-cut, piece-last}
 use Rattle.text.proofs.Laws.Lines.{lines-done}
-use Rattle.fee.specs.Sums.{bit}
+use Rattle.fee_shares.specs.Sums.{bit}
 use Rattle.weights.specs.Weights.{PROTEIN}
 use Rattle.weights.specs.Marks.{IsMarks, withCell, adds, marks, lineAdds, linesAdd, Room, Raises}
 

@@ -14,8 +14,8 @@ use Rattle.text.specs.Lines.{LIMIT, lines}
 use Rattle.rows.specs.Rows.{headerOf}
 use Rattle.rules.specs.Rules.{breaks, isAccepted}
 use Rattle.rules.proofs.Laws.Accepted.{accepted-none}
-use Rattle.mztab.specs.Judged.{outcome as judgedAs, judged}
-use Rattle.mztab.proofs.Laws.Counting.{judged-count}
+use Rattle.judged.specs.Judged.{outcome as judgedAs, judged}
+use Rattle.judged.proofs.Laws.Judging.{judged-count}
 use Rattle.fee.proofs.Laws.Theorems.{list-length, list-at}
 use Rattle.weights.specs.Weights.{PROTEIN, VARIABLES, weightOf, weightsOf, refusal, outcome, weighed}
 use Rattle.weights.specs.Marks.{Marked, linesAdd, Room, Raises}

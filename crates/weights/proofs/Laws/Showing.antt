@@ -15,8 +15,8 @@ use Rattle.book.specs.Book.{rowCode, mzTab, bookOf, isSection}
 use Rattle.rows.specs.Rows.{Line, lineOf, numbered, having, rowOf, rowCount, headerOf, columnNamed, cellAt}
 use Rattle.rows.proofs.Laws.Finding.{row-coded, rows-long}
 use Rattle.mztab.specs.Shown.{Sought, soughtCell, soughtRow, cellStart, sought}
-use Rattle.fee.specs.Sums.{sumTo, bit}
-use Rattle.fee.proofs.Laws.Sums.{sum-same}
+use Rattle.fee_shares.specs.Sums.{sumTo, bit}
+use Rattle.fee_shares.proofs.Laws.Sums.{sum-same}
 use Rattle.weights.specs.Weights.{PROTEIN, abundance, isGiven, hasIn, weightOf}
 
 -- a cell call shows a cell that is not `null`

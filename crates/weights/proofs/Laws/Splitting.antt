@@ -10,9 +10,8 @@ use borrow.Author.Tests.{le-leb, lt-leb}
 use Rattle.numbers.specs.Numbers.{ALL-ZERO}
 use Rattle.text_bytes.specs.Bytes.{Bytes}
 use Rattle.text.specs.Lines.{LIMIT}
-use Rattle.fee.specs.Amounts.{LIMIT as FEE-LIMIT}
-use Rattle.fee.specs.Shares.{total}
-use Rattle.fee.specs.Split.{WEIGHT-END, anyLarge, refusal}
+use Rattle.fee_shares.specs.Shares.{total}
+use Rattle.fee_shares.specs.Refusals.{LIMIT as FEE-LIMIT, WEIGHT-END, anyLarge, refusal}
 use Rattle.fee.proofs.Laws.Theorems.{list-length, list-at}
 use Rattle.weights.specs.Weights.{VARIABLES, weightOf, weightsOf}
 use Rattle.weights.proofs.Laws.Weighing.{weight-small}

@@ -21,7 +21,7 @@ use Rattle.rows.proofs.Laws.Finding.{header-line}
 use Rattle.rules.specs.Sorts.{isHeader}
 use Rattle.rules.specs.Rules.{breaks}
 use Rattle.rules.proofs.Laws.Accepted.{accepted-width, accepted-apart, header-coded}
-use Rattle.fee.specs.Sums.{bit}
+use Rattle.fee_shares.specs.Sums.{bit}
 use Rattle.weights.specs.Weights.{PROTEIN, WORD, abundance, isGiven, hasIn, weightOf}
 use Rattle.weights.specs.Marks.{variableOf, Marked, adds, marks, linesAdd}
 use Rattle.weights.specs.declared.Marks.{Marks}

@@ -1,4 +1,4 @@
--- `book::demands::nth_demand` meets its contract: the demands stand behind the directory, six bytes each. Assumes nothing.
+-- `book::demands::nth_demand` meets its contract: the demands stand behind the directory, seven bytes each. Assumes nothing.
 use borrow.Author.Needs.{needs}
 use native.Mathlib.Omega.{arith}
 use mathlib.Core.Path.{_≡_, ap, _∙_}
@@ -13,16 +13,16 @@ start w = w .before .before .before
 
 -- where the demand begins, and that it lies in the text
 place : tie.After-wide → ℕ
-place w = 14 + 12 * (w .wide .result + 1) + 6 * start w .args .k
+place w = 14 + 12 * (w .wide .result + 1) + 7 * start w .args .k
 
 place-is : (w : tie.After-wide) → place w ≡ demandAt (start w .args .book .now) (start w .args .k)
 unfolding place
 place-is w = omega (arith, w .wide .ensures)
 
-room : (w : tie.After-wide) → 14 + 12 * (w .wide .result + 1) + 6 * start w .args .k + 6 ≤ length (start w .args .book .now)
+room : (w : tie.After-wide) → 14 + 12 * (w .wide .result + 1) + 7 * start w .args .k + 7 ≤ length (start w .args .book .now)
 room w = omega (arith, w .wide .ensures, start w .pre .0 .demands .within, start w .pre .1)
 
--- behind the cell's bytes, the entry's, the section's and the family's
+-- behind the cell's bytes, the entry's, the section's, the family's and the rule's
 abbrev after-cell : tie.After-narrow2 → tie.After-wide
 after-cell c = c .before .before .before .before
 
@@ -34,6 +34,9 @@ after-section c = after-entry (c .before .before)
 
 abbrev after-each : tie.After-wide4 → tie.After-wide
 after-each c = after-section (c .before .before)
+
+abbrev after-rule : tie.After-narrow3 → tie.After-wide
+after-rule c = after-each (c .before .before)
 
 mul-cell : tie.Need-mul-cell
 unfolding place
@@ -49,12 +52,13 @@ add-cell c =
 returns : tie.Need-returns
 unfolding place
 returns c =
-    let f = c .before in
+    let r = c .before in
+    let f = r .before .before in
     let s = f .before .before in
     let e = s .before .before in
     let h = e .before .before in
     let n = h .before .before in
-    let w = after-each f in
+    let w = after-rule r in
     let t = start w .args .book .now in
     let k = start w .args .k in
     let l = start w .pre .1 in
@@ -66,6 +70,7 @@ returns c =
       asked = at 3 ∙ d .asked k l;
       section = s .wide3 .ensures ∙ at 4 ∙ d .sections k l;
       each = f .wide4 .ensures ∙ at 5 ∙ d .families k l;
+      rule = r .narrow3 .ensures ∙ at 6 ∙ d .rules k l;
       fits = omega (arith, n .narrow .ensures, n .before .shared-slice-known3 .given (place w), h .narrow2 .ensures, h .before .shared-slice-known4 .given (place w + 1));
     }
 
@@ -98,4 +103,7 @@ nth-demand-spec =
     (λ c κs. search needs)
     (λ c. omega (arith, room (after-each c)))
     (λ c. omega (arith, room (after-each (c .before))))
+    (λ c κs. search needs)
+    (λ c. omega (arith, room (after-rule c)))
+    (λ c. omega (arith, room (after-rule (c .before))))
     returns)

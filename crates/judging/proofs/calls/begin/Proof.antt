@@ -8,13 +8,14 @@ use Rattle.book.specs.Book.{SLOTS}
 use Rattle.judging.specs.Parts.{beginning}
 use Rattle.judging.specs.declared.parts.Stand.{Stand}
 use Rattle.judging.proofs.Laws.Parting.{midway-start, same-everywhere}
+use Rattle.judging.proofs.Laws.Knowing.{asking-means}
 use Rattle.judging.proofs.Laws.Calling.{number-none, number-one, four}
 use Rattle.judging.proofs.calls.begin.Statement.{statement}
 use Rattle.judging.proofs.calls.begin.Tie as tie
 
--- where it begins, its facts are those that were given
-begins : {s : Stand} {x : _} → s ≡ beginning x → s ≡ beginning (s .facts)
-begins e = e ∙ ap beginning (sym (ap (λ (t : Stand). t .facts) e))
+-- where it begins, what is asked is what was given
+begins : {s : Stand} {x : _} → s ≡ beginning x → s ≡ beginning (s .state .asking)
+begins e = e ∙ ap beginning (sym (ap (λ (t : Stand). t .state .asking) e))
 
 returns : tie.Need-returns
 returns c =
@@ -25,7 +26,8 @@ returns c =
 returns-2 : tie.Need-returns-2
 returns-2 c =
     let first = c .before .before .before .before in
-    let at-survey = first .before in
+    let at-asking = first .before in
+    let at-survey = at-asking .before .before in
     let else = at-survey .before .before in
     let file = else .before .before .before .args .file .now in
     let limit = else .if1 .left in
@@ -35,7 +37,7 @@ returns-2 c =
       stand = begins (first .beginning2 .ensures);
       going = λ q. record {
         limit = limit;
-        midway = midway-start _ (first .beginning2 .ensures) (at-survey .survey .ensures .1) (λ i. same-everywhere SLOTS i false);
+        midway = midway-start _ (first .beginning2 .ensures) (asking-means _ (at-asking .asking-of .ensures) (at-survey .survey .ensures .1) flags) (λ i. same-everywhere SLOTS i false);
         declared = rw (four (at-survey .survey .last .0) (flags .shape .families)) flags;
         columns = refl;
         keys = length-replicate SLOTS false;
@@ -49,6 +51,7 @@ begin-spec =
     (λ c κs. search needs)
     returns
     (λ c κs. let e = c .before in (e .before .before .before .pre, (refl, e .if1 .left)))
+    (λ c κs. c .before .survey .ensures .0 .shape)
     (λ c κs. search needs)
     (λ c. search needs)
     (λ c. search needs)

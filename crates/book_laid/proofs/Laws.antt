@@ -1,0 +1,6 @@
+-- Laws of the text of the book, with no code in them.
+pub mod Apart
+pub mod Starting
+pub mod Demanded
+pub mod Heading
+pub mod Laying

@@ -1,0 +1,2 @@
+-- The laws that proofs cite on the floor above.
+pub mod Laws

@@ -1,0 +1,2 @@
+-- Laws over plain lists and positions, with no code in them.
+pub mod Judging
