@@ -19,6 +19,7 @@ static std::string drawn() {
     std::string file =
         "MTD\tmzTab-version\t1.0.0\nMTD\tmzTab-mode\tSummary\nMTD\tmzTab-type\tIdentification\nMTD\tdescription\tYeast check\n"
         "MTD\tms_run[1]-location\tfile:///a.mzML\nMTD\tprotein_search_engine_score[1]\t[MS, MS:1001171, Mascot:score, ]\n"
+        "MTD\tfixed_mod[1]\t[MS, MS:1002453, No fixed modifications searched, ]\nMTD\tvariable_mod[1]\t[MS, MS:1002454, No variable modifications searched, ]\n"
         "PRH\taccession\tdescription\ttaxid\tspecies\tdatabase\tdatabase_version\tsearch_engine\tbest_search_engine_score[1]\tsearch_engine_score[1]_ms_run[1]\t"
         "reliability\tnum_psms_ms_run[1]\tnum_peptides_distinct_ms_run[1]\tnum_peptides_unique_ms_run[1]\tambiguity_members\tmodifications\turi\tgo_terms\t"
         "protein_coverage\n";

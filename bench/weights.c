@@ -23,7 +23,9 @@ static uint32_t abundances(size_t n, unsigned variables, uint32_t weights[VARIAB
     uint32_t rows = 0;
     begin(n);
     memset(weights, 0, VARIABLES * sizeof *weights);
-    put("MTD\tmzTab-version\t1.0.0\nMTD\tmzTab-mode\tSummary\nMTD\tmzTab-type\tQuantification\nMTD\tdescription\tYeast check\nMTD\tms_run[1]-location\tfile:///a.mzML\n");
+    put("MTD\tmzTab-version\t1.0.0\nMTD\tmzTab-mode\tSummary\nMTD\tmzTab-type\tQuantification\nMTD\tdescription\tYeast check\nMTD\tms_run[1]-location\tfile:///a.mzML\n"
+        "MTD\tprotein_search_engine_score[1]\t[MS, MS:1001171, Mascot:score, ]\nMTD\tfixed_mod[1]\t[MS, MS:1002453, No fixed modifications searched, ]\n"
+        "MTD\tvariable_mod[1]\t[MS, MS:1002454, No variable modifications searched, ]\nMTD\tprotein-quantification_unit\t[PRIDE, PRIDE:0000393, Relative quantification unit, ]\n");
     for (unsigned i = 1; i <= variables; i++) sprintf(text, "MTD\tstudy_variable[%u]-description\tcondition %u\n", i, i), put(text);
     put("PRH\taccession\tdescription\ttaxid\tdatabase\tsearch_engine\tbest_search_engine_score[1]");
     for (unsigned i = 1; i <= variables; i++) sprintf(text, "\tprotein_abundance_study_variable[%u]", i), put(text);

@@ -422,7 +422,7 @@ static const char EXAMPLE[] =
     "MTD\tms_run[1]-location\tfile:///a.mzML\n\nPRH\taccession\tdescription\tdatabase\tsearch_engine\tnum_psms_ms_run[2]\n"
     "PRT\tY1\tnull\tdb\tnull\t\nPRT\tnull\tx\tdb\tnull\t4\n";
 
-static const uint32_t EXAMPLE_BREAKS[9] = {15, 7, 6, 19, 8, 6, 20, 9, 2};
+static const uint32_t EXAMPLE_BREAKS[18] = {15, 7, 6, 19, 8, 6, 20, 9, 2, 22, 10, 500, 22, 10, 900, 22, 10, 1000};
 
 static void limits(void) {
     uint32_t places[18], number = 77;
@@ -453,13 +453,13 @@ static void limits(void) {
 
 static void lists(void) {
     const uint8_t *f = (const uint8_t *)EXAMPLE;
-    for (size_t n = 0; n <= 12; n++) {
-        uint32_t places[16], number = 77;
+    for (size_t n = 0; n <= 21; n++) {
+        uint32_t places[25], number = 77;
         mark(places, COUNT(places));
         uint32_t count = mztab_judge(f, sizeof EXAMPLE - 1, places, n, &number);
-        size_t whole = n / 3 < 3 ? n / 3 : 3;
+        size_t whole = n / 3 < 6 ? n / 3 : 6;
         check(number == 0, "list: number", n);
-        check(count == 3, "list: the count is of all", n);
+        check(count == 6, "list: the count is of all", n);
         check(memcmp(places, EXAMPLE_BREAKS, whole * 3 * sizeof places[0]) == 0, "list: the first breaks", n);
         check(marked(places + whole * 3, COUNT(places) - whole * 3), "list: no place besides", n);
     }
@@ -567,7 +567,7 @@ static void edges(void) {
         check(count[0] == count[1], "edges: the same", part);
         last = count[0];
     }
-    check(last == 3, "edges: the example", last);
+    check(last == 6, "edges: the example", last);
     munmap(f - length, 3 * length);
     munmap(l - length, 3 * length);
     group("edges of a page");
@@ -981,10 +981,13 @@ static void lists_refused(const uint8_t *f, size_t n, size_t lists, uint32_t num
     }
 }
 
-/* The metadata of an accepted file, and 64 study variables. */
+/* The metadata of an accepted file of proteins, peptides and small molecules, and 64 study variables. */
 static void put_metadata(void) {
     char line[64];
-    put("MTD\tmzTab-version\t1.0\nMTD\tmzTab-mode\tSummary\nMTD\tmzTab-type\tQuantification\nMTD\tdescription\td\nMTD\tms_run[1]-location\tfile:///a.mzML\n");
+    put("MTD\tmzTab-version\t1.0\nMTD\tmzTab-mode\tSummary\nMTD\tmzTab-type\tQuantification\nMTD\tdescription\td\nMTD\tms_run[1]-location\tfile:///a.mzML\n"
+        "MTD\tprotein_search_engine_score[1]\t[, , s, ]\nMTD\tpeptide_search_engine_score[1]\t[, , s, ]\nMTD\tsmallmolecule_search_engine_score[1]\t[, , s, ]\n"
+        "MTD\tfixed_mod[1]\t[, , m, ]\nMTD\tvariable_mod[1]\t[, , m, ]\n"
+        "MTD\tprotein-quantification_unit\t[, , u, ]\nMTD\tpeptide-quantification_unit\t[, , u, ]\nMTD\tsmall_molecule-quantification_unit\t[, , u, ]\n");
     for (uint32_t i = 1; i <= 64; i++) {
         sprintf(line, "MTD\tstudy_variable[%u]-description\tv\n", i);
         put(line);
@@ -993,6 +996,8 @@ static void put_metadata(void) {
 
 #define REQUIRED_COLUMNS "PRH\taccession\tdescription\tdatabase\tsearch_engine"
 #define VARIABLE "protein_abundance_study_variable"
+#define PEPTIDE_COLUMNS "PEH\tsequence\taccession\tcharge\tmass_to_charge\tmodifications\tretention_time\tretention_time_window"
+#define PEPTIDE_ROW "PEP\ta\tb\t1\t1\tnull\tnull\tnull"
 
 static void weighing(void) {
     /* what stands after the metadata, and the weights of study variables 1, 2, 3, 10 and 64: the others have none */
@@ -1006,10 +1011,12 @@ static void weighing(void) {
          "PRT\t1\ta\tnull\tb\tc\tnull\t-1\tnull\nPRT\t2\ta\t2\tb\tc\tnull\tnull\tnull\nPRT\t3\ta\t3\tb\tc\tnull\tnull\tnull", 0, {0, 2, 0, 1, 3}},
         {REQUIRED_COLUMNS "\tprotein_abundance_stdev_study_variable[1]\t" VARIABLE "[3]\topt_" VARIABLE "[2]\nPRT\ta\tb\tc\tnull\t1\tnull\t1\nPRT\ta\tb\tc\tnull\tnull\t1\tnull\n",
          0, {0, 0, 1}},
-        {REQUIRED_COLUMNS "\t" VARIABLE "[2]\nPRT\ta\tb\tc\tnull\t1\nPEH\tsequence\taccession\tcharge\tmass_to_charge\tpeptide_abundance_study_variable[1]\n"
-         "PEP\ta\tb\t1\t1\t1\nPEP\ta\tb\t1\t1\t1\nSMH\tidentifier\tcharge\tsmallmolecule_abundance_study_variable[3]\nSML\ta\t1\t1\n", 0, {0, 1}},
-        {"PEH\tsequence\taccession\tcharge\tmass_to_charge\tpeptide_abundance_study_variable[1]\nPEP\ta\tb\t1\t1\t1\n", 0, {0}},
+        {REQUIRED_COLUMNS "\t" VARIABLE "[2]\nPRT\ta\tb\tc\tnull\t1\n" PEPTIDE_COLUMNS "\tpeptide_abundance_study_variable[1]\n"
+         PEPTIDE_ROW "\t1\n" PEPTIDE_ROW "\t1\nSMH\tidentifier\tcharge\tsmallmolecule_abundance_study_variable[3]\nSML\ta\t1\t1\n", 0, {0, 1}},
+        {PEPTIDE_COLUMNS "\tpeptide_abundance_study_variable[1]\n" PEPTIDE_ROW "\t1\n", 0, {0}},
         /* not accepted */
+        {"PEH\tsequence\taccession\tcharge\tmass_to_charge\n", 7, {0}},
+        {"MTD\tassay[1]-ms_run_ref\tms_run[1]\n", 7, {0}},
         {REQUIRED_COLUMNS "\t" VARIABLE "[1]\nPRT\ta\tb\tc\tnull\tNULL\n", 7, {0}},
         {REQUIRED_COLUMNS "\t" VARIABLE "[1]\nPRT\ta\tb\tc\tnull\t\n", 7, {0}},
         {REQUIRED_COLUMNS "\t" VARIABLE "[1]\nPRT\ta\tb\tc\tnull\tnull\r", 7, {0}},

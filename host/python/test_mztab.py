@@ -26,7 +26,7 @@ def read(text):
 
 class Judging(unittest.TestCase):
     def test_the_papers_example(self):
-        self.assertEqual(mztab.judge(YEAST), [(7, 6, 15), (8, 6, 19), (9, 2, 20)])
+        self.assertEqual(mztab.judge(YEAST), [(7, 6, 15), (8, 6, 19), (9, 2, 20), (10, 500, 22), (10, 900, 22), (10, 1000, 22)])
         self.assertEqual(mztab.judge(YEAST)[0].rule, 15)
         self.assertEqual(mztab.judge(ACCEPTED), [])
         self.assertEqual(mztab.count(ACCEPTED), 0)
@@ -35,8 +35,24 @@ class Judging(unittest.TestCase):
     def test_an_empty_file(self):
         self.assertEqual(mztab.judge(b""), [(1, cell, 21) for cell in range(1, 6)])
 
+    def test_what_mode_and_type_ask_for(self):
+        lines = [
+            b"MTD\tmzTab-version\t1.0",
+            b"MTD\tmzTab-mode\tComplete",
+            b"MTD\tmzTab-type\tQuantification",
+            b"MTD\tdescription\ta",
+            b"MTD\tms_run[1]-location\tb",
+            b"MTD\tassay[2]-ms_run_ref\tms_run[1]",
+            b"MTD\tstudy_variable[3]-description\tc",
+        ]
+        cells = [203, 400, 900, 1000, 1100, 1502]
+        self.assertEqual(mztab.judge(b"\n".join(lines)), [(8, cell, 22) for cell in cells])
+        # Where the type is not valid nothing is asked for.
+        lines[2] = b"MTD\tmzTab-type\tquantification"
+        self.assertEqual(mztab.judge(b"\n".join(lines)), [(3, 3, 7)])
+
     def test_the_first_breaks(self):
-        for most in range(6):
+        for most in range(9):
             self.assertEqual(mztab.judge(YEAST, most), mztab.judge(YEAST)[:most])
 
     def test_more_breaks_than_the_first_list(self):
@@ -65,7 +81,7 @@ class Judging(unittest.TestCase):
     def test_many_at_once(self):
         with concurrent.futures.ThreadPoolExecutor(8) as pool:
             for found in pool.map(mztab.judge, [YEAST, ACCEPTED] * 100):
-                self.assertIn(len(found), (0, 3))
+                self.assertIn(len(found), (0, 6))
 
 
 class Cells(unittest.TestCase):

@@ -5,9 +5,11 @@ mod common;
 use std::path::Path;
 
 use common::Run;
+use mztab::format::{DEMANDS, REQUIRED_KEYS};
 use mztab::RULES;
 
 const RULES_PAGE: &str = include_str!("../../../docs/rules.md");
+const MANDATORY: &str = include_str!("../../../docs/mandatory.md");
 const README: &str = include_str!("../../../README.md");
 
 /// The part of a text between two marks, without them.
@@ -36,7 +38,7 @@ fn block(text: &str) -> Vec<String> {
     between(text, "```\n", "```").lines().map(line).collect()
 }
 
-/// The five lines that every example stands below.
+/// The nine lines that every example stands below.
 fn head() -> Vec<String> {
     block(RULES_PAGE)
 }
@@ -68,18 +70,21 @@ fn example(rule: u32) -> (Vec<String>, &'static str) {
     let page = page(rule);
     let words = between(page, "**Example**", "```");
     let mut lines = head();
-    if words.contains("the five lines without `description`") {
+    if words.contains("the nine lines without `description`") {
         lines.retain(|line| !line.contains("\tdescription\t"));
         assert!(lines.ends_with(&block(page)), "rule {rule}");
     } else {
+        if words.contains("`Quantification` in place of `Identification`") {
+            lines[2] = lines[2].replace("Identification", "Quantification");
+        }
         lines.extend(block(page));
     }
     (lines, between(page, "**Printed** `", "`"))
 }
 
 #[test]
-fn the_five_lines_alone() {
-    assert_eq!(head().len(), 5);
+fn the_nine_lines_alone() {
+    assert_eq!(head().len(), 9);
     assert_eq!(printed(&head()), "OK");
 }
 
@@ -130,10 +135,10 @@ fn what_mends_an_example_does() {
             tried += 1;
         }
     }
-    assert!(tried >= 14, "{tried}");
+    assert!(tried >= 15, "{tried}");
 }
 
-/// The file in which a value stands by its kind, below the five lines, and more that it may name.
+/// The file in which a value stands by its kind, below the nine lines, and more that it may name or that its section asks for.
 fn with_value(kind: &str, value: &str) -> Vec<String> {
     let meta = |key: &str| vec![format!("MTD\t{key}\t{value}")];
     let under = |header: &str, row: &str| vec![header.to_string(), format!("{row}\t{value}")];
@@ -144,6 +149,7 @@ fn with_value(kind: &str, value: &str) -> Vec<String> {
     let molecule =
         |column: &str| under(&format!("SMH\tidentifier\tcharge\t{column}"), "SML\tC1\t1");
     let mut lines = head();
+    lines.push("MTD\tpeptide_search_engine_score[1]\t[, , a score, ]".to_string());
     lines.push("MTD\tsample[1]-description\ta sample".to_string());
     lines.push("MTD\tassay[1]-ms_run_ref\tms_run[1]".to_string());
     lines.push("MTD\tassay[2]-ms_run_ref\tms_run[1]".to_string());
@@ -204,8 +210,32 @@ fn values_that_are_fixed_or_null() {
     assert!(RULES_PAGE.contains("Missing: `null`. Not missing: `NULL`, `NA`, `-`; these are text, and break rule 20 in a column of another kind."));
     assert_eq!(printed(&with_value("Whole", "null")), "OK");
     for text in ["NULL", "NA", "-"] {
-        assert_eq!(printed(&with_value("Whole", text)), "FAULTS 1\n10 3 20");
+        assert_eq!(printed(&with_value("Whole", text)), "FAULTS 1\n15 3 20");
         assert_eq!(printed(&with_value("Text", text)), "OK");
+    }
+}
+
+/// The list of mandatory fields has the cell of each that is judged, and of no other.
+#[test]
+fn cells_of_mandatory_fields() {
+    let table = between(MANDATORY, "\n## The fields\n", "\n## ");
+    let rows = table.lines().filter(|line| line.contains(" | `"));
+    let mut listed = Vec::new();
+    for row in rows {
+        let cells: Vec<&str> = row.trim_matches('|').split('|').map(str::trim).collect();
+        assert_eq!(cells.len(), 9, "{row}");
+        listed.push((quoted(cells[1])[0], cells[7]));
+    }
+    assert_eq!(listed.len(), 63);
+    listed.retain(|(_, cell)| !cell.is_empty());
+    assert_eq!(listed.len(), REQUIRED_KEYS.len() + DEMANDS.len());
+    for (k, key) in REQUIRED_KEYS.iter().enumerate() {
+        assert!(listed.contains(&(key, &format!("21: {}", k + 1))), "{key}");
+    }
+    for demand in &DEMANDS {
+        let plus = if demand.each { " + n" } else { "" };
+        let cell = format!("22: {}{plus}", demand.cell);
+        assert!(listed.contains(&(demand.key, &cell)), "{cell}");
     }
 }
 

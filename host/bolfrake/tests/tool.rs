@@ -11,9 +11,12 @@ use std::process::{Command, Stdio};
 use common::Run;
 use samples::{Export, EXPORTS};
 
+/// Nine lines, with all that a Summary Identification file of proteins and small molecules needs.
 const HEAD: &str =
     "MTD\tmzTab-version\t1.0.0\nMTD\tmzTab-mode\tSummary\nMTD\tmzTab-type\tIdentification\n\
-    MTD\tdescription\tYeast check\nMTD\tms_run[1]-location\tfile:///a.mzML\n";
+    MTD\tdescription\tYeast check\nMTD\tms_run[1]-location\tfile:///a.mzML\n\
+    MTD\tprotein_search_engine_score[1]\t[, , a score, ]\nMTD\tsmallmolecule_search_engine_score[1]\t[, , a score, ]\n\
+    MTD\tfixed_mod[1]\t[, , none, ]\nMTD\tvariable_mod[1]\t[, , none, ]\n";
 
 /// A folder of this test alone, empty.
 struct Folder(PathBuf);
@@ -84,9 +87,9 @@ fn breaks_with_their_cells() {
     );
     let run = folder.run(&["check", "b.mztab"]);
     let expected = "\
-b.mztab:7:3: rule 20: cell not of its column's kind: `2+`, in the column `charge`
-b.mztab:8:2: rule 19: empty cell in a row, in the column `identifier`
-b.mztab:9:1: rule 18: row has another number of cells: `SML`, the row has 2 cells, its header 3 cells
+b.mztab:11:3: rule 20: cell not of its column's kind: `2+`, in the column `charge`
+b.mztab:12:2: rule 19: empty cell in a row, in the column `identifier`
+b.mztab:13:1: rule 18: row has another number of cells: `SML`, the row has 2 cells, its header 3 cells
 b.mztab: 3 breaks
 1 file: 0 accepted, 1 with breaks, 0 not judged; 3 breaks in all
 ";
@@ -106,15 +109,95 @@ fn an_empty_file_lacks_five_keys() {
     assert!(run.out.contains("e.mztab: 5 breaks\n"));
 }
 
+/// A Quantification file with an assay, a study variable, and proteins.
+const QUANTIFIED: &str = "MTD\tmzTab-version\t1.0.0\nMTD\tmzTab-mode\tComplete\nMTD\tmzTab-type\tQuantification\n\
+    MTD\tdescription\tYeast check\nMTD\tms_run[1]-location\tfile:///a.mzML\n\
+    MTD\tassay[2]-quantification_reagent\t[, , none, ]\nMTD\tstudy_variable[3]-description\tcontrol\n\
+    PRH\taccession\tdescription\tdatabase\tsearch_engine\nPRT\tP1\tnull\tnull\tnull\n";
+
+/// What rule 22 tells of that file: the cell, the key, and why it is asked for.
+const DEMANDED: [(u32, &str, &str); 8] = [
+    (102, "assay[2]-ms_run_ref", "each assay of a Quantification file names its run"),
+    (203, "study_variable[3]-assay_refs", "each study variable of a Complete Quantification file, and of a Summary one that declares an assay, names its assays"),
+    (400, "software[n]", "a Complete file names its software"),
+    (500, "protein_search_engine_score[n]", "a file with a protein section names the score of its search engine"),
+    (900, "fixed_mod[n]", "a file says which fixed modifications were searched, or that none were"),
+    (1000, "variable_mod[n]", "a file says which variable modifications were searched, or that none were"),
+    (1100, "quantification_method", "a Complete Quantification file names its method"),
+    (1200, "protein-quantification_unit", "a Quantification file with a protein section names the unit of its abundances"),
+];
+
+const TITLE_22: &str = "metadata that the mode and type ask for is absent";
+
+#[test]
+fn a_file_that_lacks_what_its_mode_and_type_ask_for() {
+    let folder = Folder::new("demands");
+    folder.write("q.mztab", QUANTIFIED);
+    let run = folder.run(&["check", "q.mztab"]);
+    let mut expected = String::new();
+    for (cell, key, reason) in DEMANDED {
+        expected += &format!("q.mztab:10:{cell}: rule 22: {TITLE_22}, no MTD line of three cells has the key `{key}`: {reason}\n");
+    }
+    expected +=
+        "q.mztab: 8 breaks\n1 file: 0 accepted, 1 with breaks, 0 not judged; 8 breaks in all\n";
+    assert_eq!((run.status, run.out), (1, expected));
+    // No row breaks a rule: these breaks stand on no line.
+    let run = folder.run(&["rows", "--format", "csv", "q.mztab"]);
+    assert!(run.out.contains("q.mztab,protein,4,1,0,1\n"), "{}", run.out);
+    // Without a valid mode nothing is asked for.
+    folder.write("q.mztab", QUANTIFIED.replace("Complete", "complete"));
+    let run = folder.run(&["check", "q.mztab"]);
+    let expected = "q.mztab:2:3: rule 7: value not of its kind: `complete`, for the key `mzTab-mode`\nq.mztab: 1 break\n";
+    assert!(run.out.starts_with(expected), "{}", run.out);
+}
+
+#[test]
+fn demands_for_programs() {
+    let folder = Folder::new("demands for programs");
+    folder.write("q.mztab", QUANTIFIED);
+    let run = folder.run(&["check", "--format", "csv", "q.mztab"]);
+    let lines: Vec<&str> = run.out.lines().skip(1).collect();
+    assert_eq!(lines.len(), DEMANDED.len());
+    for (line, (cell, key, reason)) in lines.iter().zip(DEMANDED) {
+        let detail = format!("no MTD line of three cells has the key `{key}`: {reason}");
+        let mark = if reason.contains(',') { "\"" } else { "" };
+        let expected = format!("q.mztab,10,{cell},22,{TITLE_22},,{mark}{detail}{mark}");
+        assert_eq!(*line, expected);
+    }
+    let run = folder.run(&["check", "--format", "json", "--max", "1", "q.mztab"]);
+    let (cell, key, reason) = DEMANDED[0];
+    let expected = format!(
+        "\n  {{\"line\": 10, \"cell\": {cell}, \"rule\": 22, \"words\": \"{TITLE_22}\", \"shown\": null, \
+        \"detail\": \"no MTD line of three cells has the key `{key}`: {reason}\"}}]}}"
+    );
+    assert!(run.out.contains(&expected), "{}", run.out);
+}
+
+#[test]
+fn columns_that_a_quantification_file_needs() {
+    let folder = Folder::new("columns");
+    let header = "PEH\tsequence\taccession\tcharge\tmass_to_charge\tretention_time\n";
+    folder.write("q.mztab", QUANTIFIED.to_string() + header);
+    folder.write(
+        "i.mztab",
+        QUANTIFIED.replace("Quantification", "Identification") + header,
+    );
+    let run = folder.run(&["check", "q.mztab"]);
+    let expected = "q.mztab:10:1: rule 16: required column absent: `PEH`, the header has no `modifications`, `retention_time_window`\n";
+    assert!(run.out.starts_with(expected), "{}", run.out);
+    let run = folder.run(&["check", "i.mztab"]);
+    assert!(!run.out.contains("rule 16"), "{}", run.out);
+}
+
 #[test]
 fn cells_that_are_empty() {
     let folder = Folder::new("empty cells");
     folder.write("e.mztab", headed("MTD\ttitle\t\nMTD\t\t1\n\tx\n"));
     let run = folder.run(&["check", "e.mztab"]);
     let expected = "\
-e.mztab:6:3: rule 7: value not of its kind: an empty cell, for the key `title`
-e.mztab:7:2: rule 5: unknown key: an empty cell
-e.mztab:8:1: rule 2: unknown line code: an empty cell
+e.mztab:10:3: rule 7: value not of its kind: an empty cell, for the key `title`
+e.mztab:11:2: rule 5: unknown key: an empty cell
+e.mztab:12:1: rule 2: unknown line code: an empty cell
 ";
     assert!(run.out.starts_with(expected), "{}", run.out);
 }
@@ -127,13 +210,13 @@ fn bytes_that_do_not_print() {
     let run = folder.write("x.mztab", file).run(&["check", "x.mztab"]);
     assert!(
         run.out
-            .starts_with("x.mztab:6:3: rule 1: control byte: `a\\x1B[31mb\\xFFc\\x7F`\n"),
+            .starts_with("x.mztab:10:3: rule 1: control byte: `a\\x1B[31mb\\xFFc\\x7F`\n"),
         "{}",
         run.out
     );
     assert!(
         run.out
-            .contains("x.mztab:7:2: rule 5: unknown key: `tö\\xE2\\x80\\xAE`\n"),
+            .contains("x.mztab:11:2: rule 5: unknown key: `tö\\xE2\\x80\\xAE`\n"),
         "{}",
         run.out
     );
@@ -146,7 +229,7 @@ fn long_cells_are_cut() {
         .write("l.mztab", headed(&"x".repeat(100_000)))
         .run(&["check", "l.mztab"]);
     assert!(run.out.starts_with(&format!(
-        "l.mztab:6:1: rule 2: unknown line code: `{}…`\n",
+        "l.mztab:10:1: rule 2: unknown line code: `{}…`\n",
         "x".repeat(60)
     )));
 }
@@ -157,8 +240,8 @@ fn the_first_breaks_alone() {
     folder.write("m.mztab", headed(&"x\n".repeat(10_000)));
     let run = folder.run(&["check", "--max", "2", "m.mztab"]);
     let expected = "\
-m.mztab:6:1: rule 2: unknown line code: `x`
-m.mztab:7:1: rule 2: unknown line code: `x`
+m.mztab:10:1: rule 2: unknown line code: `x`
+m.mztab:11:1: rule 2: unknown line code: `x`
 m.mztab: 10,000 breaks, of which the first 2 shown
 1 file: 0 accepted, 1 with breaks, 0 not judged; 10,000 breaks in all
 ";
@@ -355,12 +438,10 @@ fn files_as_programs_export_them() {
         .collect();
     let run = hold_to(&folder, &stored);
     assert_eq!(run.status, 1);
-    assert!(
-        run.out
-            .ends_with("4 files: 2 accepted, 2 with breaks, 0 not judged; 61 breaks in all\n"),
-        "{}",
-        run.out
-    );
+    let breaks: usize = stored.iter().map(|(_, breaks)| breaks.len()).sum();
+    let expected =
+        format!("4 files: 2 accepted, 2 with breaks, 0 not judged; {breaks} breaks in all\n");
+    assert!(run.out.ends_with(&expected), "{}", run.out);
     // Each is one that the program `judge` takes, and the accepted ones are split over.
     assert!(EXPORTS.iter().all(|export| export.file.len() < 60_000));
     let fees = EXPORTS.iter().map(|export| {
@@ -385,7 +466,7 @@ fn as_csv() {
     let run = folder.run(&["check", "--format", "csv", "a,b.mztab"]);
     let expected = "\
 file,line,cell,rule,words,shown,detail
-\"a,b.mztab\",7,3,20,cell not of its column's kind,\"`\"\"2\"\",`\",in the column `charge`
+\"a,b.mztab\",11,3,20,cell not of its column's kind,\"`\"\"2\"\",`\",in the column `charge`
 ";
     assert_eq!((run.status, run.out.as_str()), (1, expected));
     assert_eq!(
@@ -402,9 +483,9 @@ fn as_json() {
         .write("b.mztab", headed("x\\\"\n"));
     let run = folder.run(&["check", "--format=json", "a.mztab", "b.mztab", "c.mztab"]);
     let expected = r#"{"files": [
-{"file": "a.mztab", "status": "accepted", "bytes": 143, "count": 0, "shown": 0, "breaks": []},
-{"file": "b.mztab", "status": "broken", "bytes": 147, "count": 1, "shown": 1, "breaks": [
-  {"line": 6, "cell": 1, "rule": 2, "words": "unknown line code", "shown": "x\\\\\"", "detail": ""}]},
+{"file": "a.mztab", "status": "accepted", "bytes": 314, "count": 0, "shown": 0, "breaks": []},
+{"file": "b.mztab", "status": "broken", "bytes": 318, "count": 1, "shown": 1, "breaks": [
+  {"line": 10, "cell": 1, "rule": 2, "words": "unknown line code", "shown": "x\\\\\"", "detail": ""}]},
 {"file": "c.mztab", "status": "not judged", "reason": "cannot be read (No such file or directory (os error 2)): check the name, or the folder that you are in"}
 ], "accepted": 1, "broken": 1, "not_judged": 1, "breaks": 1}
 "#;
@@ -448,7 +529,7 @@ fn colour_on_a_terminal_alone() {
         None => println!("there is no `script` here: colours were not tested"),
         Some(out) => assert!(
             out.starts_with(
-                "\x1b[1mx.mztab:6:1:\x1b[0m \x1b[33mrule 2\x1b[0m: unknown line code: `x`"
+                "\x1b[1mx.mztab:10:1:\x1b[0m \x1b[33mrule 2\x1b[0m: unknown line code: `x`"
             ),
             "{out}"
         ),
@@ -588,8 +669,12 @@ fn pages() {
         .out
         .starts_with("## Rule 17: row not under its own section's header\n"));
     assert!(include_str!("../../../docs/rules.md").contains(&run.out));
-    assert_eq!(folder.run(&["explain"]).out.lines().count(), 21);
-    assert_eq!(folder.run(&["explain", "22"]).status, 2);
+    let run = folder.run(&["explain", "22"]);
+    assert!(run
+        .out
+        .starts_with("## Rule 22: metadata that the mode and type ask for is absent\n"));
+    assert_eq!(folder.run(&["explain"]).out.lines().count(), 22);
+    assert_eq!(folder.run(&["explain", "23"]).status, 2);
 }
 
 #[test]

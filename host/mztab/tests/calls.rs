@@ -17,11 +17,18 @@ fn broken(line: u32, cell: u32, rule: u32) -> Break {
 #[test]
 fn the_example_of_the_paper() {
     let judged = judge_all(YEAST).unwrap();
-    assert_eq!(judged.count, 3);
+    assert_eq!(judged.count, 6);
     let breaks: Vec<Break> = judged.breaks().collect();
     assert_eq!(
         breaks,
-        [broken(7, 6, 15), broken(8, 6, 19), broken(9, 2, 20)]
+        [
+            broken(7, 6, 15),
+            broken(8, 6, 19),
+            broken(9, 2, 20),
+            broken(10, 500, 22),
+            broken(10, 900, 22),
+            broken(10, 1000, 22)
+        ]
     );
     for accepted in [ACCEPTED, EXPONENTS, FEE] {
         assert_eq!(judge_all(accepted).unwrap().count, 0);
@@ -38,9 +45,9 @@ fn an_empty_file() {
 
 #[test]
 fn lists_shorter_than_the_count() {
-    for most in 0..6 {
+    for most in 0..9 {
         let judged = judge(YEAST, most).unwrap();
-        assert_eq!((judged.count, judged.breaks().len()), (3, most.min(3)));
+        assert_eq!((judged.count, judged.breaks().len()), (6, most.min(6)));
     }
 }
 
@@ -84,11 +91,14 @@ fn many_calls_at_once() {
 
 #[test]
 fn places_that_no_break_fills() {
-    for length in 0..14 {
+    let all = [
+        15, 7, 6, 19, 8, 6, 20, 9, 2, 22, 10, 500, 22, 10, 900, 22, 10, 1000,
+    ];
+    for length in 0..23 {
         let mut places = vec![77; length];
-        assert_eq!(raw::judge(YEAST, &mut places).count, 3);
-        let filled = (length / 3).min(3) * 3;
-        assert_eq!(places[..filled], [15, 7, 6, 19, 8, 6, 20, 9, 2][..filled]);
+        assert_eq!(raw::judge(YEAST, &mut places).count, 6);
+        let filled = (length / 3).min(6) * 3;
+        assert_eq!(places[..filled], all[..filled]);
         assert!(places[filled..].iter().all(|place| *place == 77));
     }
 }
@@ -285,7 +295,9 @@ fn weights_of_study_variables() {
 fn quantified(header: &str, rows: &[&str]) -> Vec<u8> {
     let mut file =
         "MTD\tmzTab-version\t1.0\nMTD\tmzTab-mode\tSummary\nMTD\tmzTab-type\tQuantification\n\
-        MTD\tdescription\tx\nMTD\tms_run[1]-location\tx\n"
+        MTD\tdescription\tx\nMTD\tms_run[1]-location\tx\n\
+        MTD\tprotein_search_engine_score[1]\t[, , x, ]\nMTD\tprotein-quantification_unit\t[, , x, ]\n\
+        MTD\tfixed_mod[1]\t[, , x, ]\nMTD\tvariable_mod[1]\t[, , x, ]\n"
             .to_string();
     for i in 1..=STUDY_VARIABLES {
         file += &format!("MTD\tstudy_variable[{i}]-description\tx\n");

@@ -1,10 +1,26 @@
 //! The names that the binding has of the format are those that the library judges by.
 
-use mztab::format::{headed, COMMENT, METADATA, REQUIRED_KEYS, SECTIONS};
+use mztab::format::{
+    demand_at, headed, Demand, Section, COMMENT, DEMANDS, INDICES, METADATA, MODE, MODES,
+    REQUIRED_KEYS, SECTIONS, TYPE, TYPES,
+};
 use mztab::{cell, judge_all, rows, Break};
+
+/// The index that stands for every `[n]`.
+const INDEX: u32 = 7;
 
 fn breaks(file: &str) -> Vec<Break> {
     judge_all(file.as_bytes()).unwrap().breaks().collect()
+}
+
+/// The cells at which rule 22 alone is broken, at the line after the last.
+fn lacking(file: &str) -> Vec<u32> {
+    let after = file.lines().count() as u32 + 1;
+    let at = |found: &Break| {
+        assert_eq!((found.rule, found.line), (22, after), "{file}");
+        found.cell
+    };
+    breaks(file).iter().map(at).collect()
 }
 
 /// A line of these cells, the first of which is a code.
@@ -13,37 +29,211 @@ fn line(code: &[u8], cells: &[&str]) -> String {
     format!("{code}\t{}\n", cells.join("\t"))
 }
 
-/// The required metadata, but for the k-th key.
-fn metadata(without: usize) -> String {
-    let values = ["1.0", "Summary", "Identification", "a", "file:///a.mzML"];
-    let pairs = REQUIRED_KEYS.iter().zip(values).enumerate();
-    let kept = pairs.filter(|(k, _)| *k != without);
-    kept.map(|(_, (key, value))| line(METADATA, &[&key.replace("[n]", "[7]"), value]))
+/// Every key that rules 21 and 22 ask for.
+fn all_keys() -> Vec<&'static str> {
+    let demanded = DEMANDS.iter().map(|demand| demand.key);
+    REQUIRED_KEYS.into_iter().chain(demanded).collect()
+}
+
+/// The same but for those that begin with an id of an assay or a study variable, so that none is declared.
+fn keys_of_no_id() -> Vec<&'static str> {
+    let ids = ["assay[", "study_variable["];
+    let mut keys = all_keys();
+    keys.retain(|key| !ids.iter().any(|id| key.starts_with(id)));
+    keys
+}
+
+/// A metadata line for each key of a file of this mode and type.
+fn metadata(mode: &str, kind: &str, keys: &[&str]) -> String {
+    let value = |key: &str| match key {
+        "mzTab-version" => "1.0".to_string(),
+        MODE => mode.to_string(),
+        TYPE => kind.to_string(),
+        "assay[n]-ms_run_ref" => format!("ms_run[{INDEX}]"),
+        "study_variable[n]-assay_refs" => format!("assay[{INDEX}]"),
+        // A parameter is a text too.
+        _ => "[, , a, ]".to_string(),
+    };
+    let written = |key: &str| key.replace("[n]", &format!("[{INDEX}]"));
+    keys.iter()
+        .map(|key| line(METADATA, &[&written(key), &value(key)]))
         .collect()
+}
+
+fn without(keys: &[&'static str], absent: &str) -> Vec<&'static str> {
+    let mut kept = keys.to_vec();
+    kept.retain(|key| *key != absent);
+    assert_eq!(kept.len() + 1, keys.len(), "{absent}");
+    kept
+}
+
+/// The columns that a section's header needs in every file.
+fn columns(section: &Section) -> Vec<&'static str> {
+    [section.required, section.required_quantified].concat()
+}
+
+/// A header of each section.
+fn headers() -> String {
+    let header = |section: &Section| line(section.header, &columns(section));
+    SECTIONS.iter().map(header).collect()
+}
+
+/// Each mode with each type.
+fn combinations() -> Vec<(&'static str, &'static str)> {
+    let of = |mode: &'static str| TYPES.map(|kind| (mode, kind));
+    MODES.into_iter().flat_map(of).collect()
 }
 
 #[test]
 fn required_keys() {
-    assert_eq!(breaks(&metadata(REQUIRED_KEYS.len())), []);
-    for k in 0..REQUIRED_KEYS.len() {
-        let (rule, line, cell) = (21, 5, k as u32 + 1);
-        assert_eq!(breaks(&metadata(k)), [Break { rule, line, cell }]);
+    let keys = keys_of_no_id();
+    for (mode, kind) in combinations() {
+        assert_eq!(breaks(&metadata(mode, kind, &keys)), []);
+        for (k, key) in REQUIRED_KEYS.iter().enumerate() {
+            let (rule, line, cell) = (21, keys.len() as u32, k as u32 + 1);
+            let found = breaks(&metadata(mode, kind, &without(&keys, key)));
+            assert_eq!(found, [Break { rule, line, cell }], "{key}");
+        }
     }
 }
 
 #[test]
 fn required_columns() {
-    let head = metadata(REQUIRED_KEYS.len());
-    for section in SECTIONS {
-        let header = head.clone() + &line(section.header, section.required);
-        assert_eq!(breaks(&header), [], "{}", section.name);
-        for absent in section.required {
-            let mut others = section.required.to_vec();
-            others.retain(|name| name != absent);
-            let found = breaks(&(head.clone() + &line(section.header, &others)));
-            assert_eq!((found.len(), found[0].rule), (1, 16), "{absent}");
+    for (mode, kind) in combinations() {
+        let head = metadata(mode, kind, &all_keys());
+        for section in SECTIONS {
+            let all = columns(&section);
+            let header = head.clone() + &line(section.header, &all);
+            assert_eq!(breaks(&header), [], "{}", section.name);
+            for absent in &all {
+                let of_every_file = section.required.contains(absent);
+                let asked = of_every_file || kind == "Quantification";
+                let others = without(&all, absent);
+                let found = breaks(&(head.clone() + &line(section.header, &others)));
+                let rules: Vec<u32> = found.iter().map(|at| at.rule).collect();
+                assert_eq!(rules, vec![16; usize::from(asked)], "{kind}: {absent}");
+            }
         }
     }
+}
+
+#[test]
+fn modes_and_types() {
+    let keys = keys_of_no_id();
+    // The values are those of lines 2 and 3.
+    for (mode, kind, line) in [("summary", "Quantification", 2), ("Complete", "", 3)] {
+        let found = breaks(&metadata(mode, kind, &keys));
+        let (rule, cell) = (7, 3);
+        assert_eq!(found, [Break { rule, line, cell }]);
+    }
+}
+
+/// Whether rule 22 asks for the field of a file with every section, an assay and a study variable.
+fn asked(demand: &Demand, mode: &str, kind: &str) -> bool {
+    let (complete, quantified) = (mode == "Complete", kind == "Quantification");
+    match demand.cell {
+        100 | 200 | 300 | 1200 | 1300 | 1400 | 1500 => quantified,
+        400 => complete,
+        1100 => complete && quantified,
+        _ => true,
+    }
+}
+
+#[test]
+fn each_demand_in_each_mode_and_type() {
+    let keys = all_keys();
+    for (mode, kind) in combinations() {
+        let whole = metadata(mode, kind, &keys) + &headers();
+        assert_eq!(breaks(&whole), [], "{mode} {kind}");
+        for demand in &DEMANDS {
+            let found = lacking(&(metadata(mode, kind, &without(&keys, demand.key)) + &headers()));
+            let index = if demand.each { INDEX } else { 0 };
+            let mut expected = vec![demand.cell + index];
+            expected.retain(|_| asked(demand, mode, kind));
+            assert_eq!(found, expected, "{mode} {kind}: {}", demand.key);
+        }
+    }
+}
+
+/// The reason says of which files a field is asked.
+#[test]
+fn reasons_are_true() {
+    for demand in &DEMANDS {
+        let identified = asked(demand, "Complete", "Identification");
+        assert_eq!(demand.reason.contains("Quantification"), !identified);
+        // The assays of a study variable are asked of a Summary file only where an assay is declared.
+        let summed = asked(demand, "Summary", "Quantification") && demand.cell != 200;
+        assert_eq!(demand.reason.contains("Complete"), !summed);
+        let of_a_section = OF_SECTIONS.concat().contains(&demand.cell);
+        assert_eq!(demand.reason.contains(" section "), of_a_section);
+        assert_eq!(demand.reason.starts_with("each "), demand.each);
+    }
+}
+
+/// The cells of the demands that are made of a section: those of its score and of its unit. PSMs have no unit.
+const OF_SECTIONS: [&[u32]; 4] = [&[500, 1200], &[600, 1300], &[700], &[800, 1400]];
+
+#[test]
+fn demands_of_a_section_that_is_present() {
+    let mut keys = keys_of_no_id();
+    let of_a_section = OF_SECTIONS.concat();
+    let demanded = DEMANDS
+        .iter()
+        .filter(|demand| of_a_section.contains(&demand.cell));
+    for demand in demanded {
+        keys = without(&keys, demand.key);
+    }
+    for (mode, kind) in combinations() {
+        let head = metadata(mode, kind, &keys);
+        assert_eq!(breaks(&head), [], "{mode} {kind}");
+        for (section, cells) in SECTIONS.iter().zip(OF_SECTIONS) {
+            let units = kind == "Quantification";
+            let mut expected = cells.to_vec();
+            expected.retain(|cell| units || *cell < 1_000);
+            let header = head.clone() + &line(section.header, &columns(section));
+            assert_eq!(lacking(&header), expected, "{}", section.name);
+            // A row without its header breaks rule 17 beside.
+            let row = head.clone() + &line(section.row, &["a"]);
+            let cells = breaks(&row).into_iter().filter(|at| at.rule == 22);
+            let cells: Vec<u32> = cells.map(|at| at.cell).collect();
+            assert_eq!(cells, expected, "{}", section.name);
+        }
+    }
+}
+
+#[test]
+fn demands_of_declared_ids() {
+    let head = |mode: &str| metadata(mode, "Quantification", &keys_of_no_id());
+    let described = |index: u32| format!("MTD\tstudy_variable[{index}]-description\ta\n");
+    let of_sample = "MTD\tassay[64]-sample_ref\tsample[1]\nMTD\tsample[1]-description\ta\n";
+    // Without an assay a Summary file needs no assays of its study variables.
+    assert_eq!(lacking(&(head("Summary") + &described(1))), []);
+    assert_eq!(lacking(&(head("Complete") + &described(1))), [201]);
+    let both = |mode: &str| head(mode) + &described(64) + of_sample;
+    for mode in MODES {
+        assert_eq!(lacking(&both(mode)), [164, 264, 1564], "{mode}");
+    }
+}
+
+#[test]
+fn cells_of_demands() {
+    for demand in &DEMANDS {
+        let (first, last) = if demand.each { (1, INDICES) } else { (0, 0) };
+        for index in first..=last {
+            assert_eq!(demand_at(demand.cell + index), Some((demand, index)));
+        }
+        for index in [last + 1, 99] {
+            assert_eq!(demand_at(demand.cell + index), None);
+        }
+        assert_eq!(demand_at(demand.cell).is_none(), demand.each);
+        assert_eq!(demand.key_of(0), demand.key);
+        assert!(demand.key.matches("[n]").count() <= 1);
+    }
+    for cell in [0, 5, 99, 1_600, u32::MAX] {
+        assert_eq!(demand_at(cell), None);
+    }
+    assert_eq!(DEMANDS[0].key_of(64), "assay[64]-ms_run_ref");
+    assert!(DEMANDS.windows(2).all(|two| two[0].cell < two[1].cell));
 }
 
 #[test]
@@ -66,6 +256,7 @@ fn codes_of_sections() {
 
 #[test]
 fn a_comment_is_not_judged() {
-    let file = metadata(REQUIRED_KEYS.len()) + &line(COMMENT, &["", "\u{b}"]);
+    let head = metadata("Summary", "Identification", &all_keys());
+    let file = head + &line(COMMENT, &["", "\u{b}"]);
     assert_eq!(breaks(&file), []);
 }

@@ -2,6 +2,7 @@
 
 pub mod finder;
 pub mod judged;
+pub mod mode_and_type;
 pub mod tables;
 mod unread;
 

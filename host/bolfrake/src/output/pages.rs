@@ -89,25 +89,58 @@ impl Titles {
 
 #[cfg(test)]
 mod tests {
-    use mztab::format::{REQUIRED_KEYS, SECTIONS};
+    use mztab::format::{DEMANDS, REQUIRED_KEYS, SECTIONS};
 
     use super::*;
 
-    /// The tables of rules 16 and 21 say what the binding has.
+    /// The page of a rule has this line: its table says what the binding has.
+    fn holds(rule: &str, line: &str) {
+        assert!(
+            page_of(rule).unwrap().contains(&format!("\n{line}\n")),
+            "{line}"
+        );
+    }
+
+    fn quoted(names: &[&str]) -> String {
+        let names: Vec<String> = names.iter().map(|name| format!("`{name}`")).collect();
+        names.join(", ")
+    }
+
     #[test]
-    fn what_is_required() {
-        let quoted = |name: &&str| format!("`{name}`");
+    fn columns_that_rule_16_requires() {
         for section in SECTIONS {
-            let names: Vec<String> = section.required.iter().map(quoted).collect();
             let code = String::from_utf8_lossy(section.header);
-            let line = format!("| `{code}` | {} |\n", names.join(", "));
-            assert!(page_of("16").unwrap().contains(&line), "{line}");
+            let names = quoted(section.required);
+            holds("16", &format!("| `{code}` | {names} |"));
+            if !section.required_quantified.is_empty() {
+                let more = quoted(section.required_quantified);
+                let line = format!("| `{code}` of a Quantification file | these too: {more} |");
+                holds("16", &line);
+            }
         }
+    }
+
+    #[test]
+    fn keys_that_rule_21_requires() {
         for (k, key) in REQUIRED_KEYS.iter().enumerate() {
             let any = if key.contains("[n]") { "any " } else { "" };
-            let line = format!("| {} | {any}`{key}` |\n", k + 1);
-            assert!(page_of("21").unwrap().contains(&line), "{line}");
+            holds("21", &format!("| {} | {any}`{key}` |", k + 1));
         }
+    }
+
+    #[test]
+    fn keys_that_rule_22_asks_for() {
+        for demand in &DEMANDS {
+            let plus = if demand.each { " + n" } else { "" };
+            let of_any = !demand.each && demand.key.contains("[n]");
+            let any = if of_any { "any " } else { "" };
+            let (cell, key, reason) = (demand.cell, demand.key, demand.reason);
+            holds("22", &format!("| {cell}{plus} | {any}`{key}` | {reason} |"));
+        }
+        let page = page_of("22").unwrap();
+        let lines = page.lines().filter(|line| line.starts_with("| "));
+        // No more are asked for; the head of the table is one line more.
+        assert_eq!(lines.count(), DEMANDS.len() + 1);
     }
 
     #[test]
@@ -128,7 +161,7 @@ mod tests {
     fn other_pages() {
         assert!(page_of("values").unwrap().contains("**Whole**"));
         assert!(page_of("names").unwrap().starts_with("## Known names\n"));
-        for unknown in ["0", "22", "-1", "seven", ""] {
+        for unknown in ["0", "23", "-1", "seven", ""] {
             assert!(page_of(unknown).is_err(), "{unknown}");
         }
     }
