@@ -43,10 +43,20 @@ hasBreaks bs file = sameBreaks (breaks file) bs
 abbrev allAbsent : ℕ → List Break
 allAbsent n = breakAt n 1 21 ∷ breakAt n 2 21 ∷ breakAt n 3 21 ∷ breakAt n 4 21 ∷ breakAt n 5 21 ∷ []
 
+-- a Complete Quantification file with assay 2 and a peptide header: what rules 16 and 22 of request 2026-01 ask of it
+abbrev quantified : Bytes
+quantified = bytes "MTD\tmzTab-mode\tComplete\nMTD\tmzTab-type\tQuantification\nMTD\tassay[2]-quantification_reagent\t[,,x,]\nPEH\tsequence\taccession\tcharge\tmass_to_charge\n"
+
+abbrev unmet : List Break
+unmet =
+    breakAt 4 1 16 ∷ breakAt 5 1 21 ∷ breakAt 5 4 21 ∷ breakAt 5 5 21 ∷ breakAt 5 102 22 ∷ breakAt 5 400 22 ∷ breakAt 5 600 22 ∷ breakAt 5 900 22 ∷ breakAt 5 1000 22
+    ∷ breakAt 5 1100 22 ∷ breakAt 5 1300 22 ∷ []
+
 unfoldable pub files : List Case
 files =
     isA (hasBreaks (allAbsent 1)) (bytes "")
     ∷ isA (hasBreaks (allAbsent 2)) (bytes "COM")
+    ∷ isA (hasBreaks unmet) quantified
     ∷ []
 
 pub all-hold : all agrees (cases ++ files) ≡ true

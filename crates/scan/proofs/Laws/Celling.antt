@@ -1,6 +1,6 @@
 -- The cells of a line, by positions, in loops that judge them one by one. Assumes nothing.
 use mathlib.Core.Path.{_≡_, refl, sym, ap, _∙_}
-use mathlib.Core.Bool.{Bool, true, false, cond, _||_}
+use mathlib.Core.Bool.{Bool, true, false, cond, _||_, or-assoc, or-false}
 use mathlib.Core.List.{List, [], _∷_, _++_}
 use mathlib.Core.Logic.{⊎-elim}
 use Prim.Native.Nat.{ℕ, suc, _+_, _-_, _≤_, _<_}
@@ -64,25 +64,22 @@ module _ (xs : List Bytes) {x : Bytes} {tail : List Bytes} (c : ℕ) (low : 2 �
 
 -- NAMES BEFORE
 
-pub any-append : {A : Type 0} (f : A → Bool) (xs : List A) (x : A) → any f (xs ++ (x ∷ [])) ≡ (any f xs || f x)
+pub any-append : {A : Type 0} (f : A → Bool) (xs ys : List A) → any f (xs ++ ys) ≡ (any f xs || any f ys)
 unfolding any
-any-append f [] x = go (f x)
-  where
-    go : (t : Bool) → (t || false) ≡ (false || t)
-    go true = refl
-    go false = refl
-any-append f (y ∷ ys) x = rw (any-append f ys x) (go (f y))
-  where
-    go : (t : Bool) → (t || (any f ys || f x)) ≡ ((t || any f ys) || f x)
-    go true = refl
-    go false = refl
+any-append f [] ys = refl
+any-append f (x ∷ xs) ys = rw (any-append f xs ys) (sym (or-assoc (f x) (any f xs) (any f ys)))
+
+-- and with one more
+pub any-one-more : {A : Type 0} (f : A → Bool) (xs : List A) (x : A) → any f (xs ++ (x ∷ [])) ≡ (any f xs || f x)
+unfolding any
+any-one-more f xs x = any-append f xs (x ∷ []) ∙ ap (λ (t : Bool). any f xs || t) (or-false (f x))
 
 -- one name more
 pub any-more : (f : Bytes → Bool) (xs : List Bytes) {x : Bytes} {tail : List Bytes} (c : ℕ) → 2 ≤ c → drop (c - 2) xs ≡ x ∷ tail
     → (any f (take (c - 2) xs) || f x) ≡ any f (take (c + 1 - 2) xs)
 any-more f xs {x} {tail} c low here =
     let z : c + 1 - 2 ≡ suc (c - 2) = omega arith in
-    rw (z, take-suc xs (c - 2) [] (omega (arith, length-drop (c - 2) xs, ap length here)), column-here xs c low here) (sym (any-append f (take (c - 2) xs) x))
+    rw (z, take-suc xs (c - 2) [] (omega (arith, length-drop (c - 2) xs, ap length here)), column-here xs c low here) (sym (any-one-more f (take (c - 2) xs) x))
 
 -- the first of `left` cells, by positions
 module _ {l : List ℕ} {s e : ℕ} (h : Ends 9 l s e) (f : Bytes → Bool) (left : ℕ) (some : 0 < left) where

@@ -16,6 +16,7 @@ use Rattle.book.proofs.Laws.Sized.{isLate, rising}
 use Rattle.rules.specs.Breaks.{Break, breakAt, when, each}
 use Rattle.rules.specs.Rules.{hasCell}
 use Rattle.scan.proofs.Laws.Rowing.{test-eq}
+use Rattle.scan.proofs.Laws.Celling.{any-append}
 
 -- A RANGE
 
@@ -42,15 +43,6 @@ any-map : {A B : Type 0} (p : B → Bool) (g : A → B) (xs : List A) → any p 
 unfolding any
 any-map p g [] = refl
 any-map p g (x ∷ xs) = rw (any-map p g xs)
-
-any-append : {A : Type 0} (p : A → Bool) (xs ys : List A) → any p (xs ++ ys) ≡ (any p xs || any p ys)
-unfolding any
-any-append p [] ys = refl
-any-append p (x ∷ xs) ys = rw (any-append p xs ys) (go (p x) (any p xs) (any p ys))
-  where
-    go : (a b c : Bool) → (a || (b || c)) ≡ ((a || b) || c)
-    go true b c = refl
-    go false b c = refl
 
 -- RISING CELLS
 

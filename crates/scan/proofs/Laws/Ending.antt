@@ -34,15 +34,6 @@ use Rattle.scan.proofs.Laws.Demanding.{any-up, up-any, listed, cells-li
 
 -- A RANGE
 
-all-up : (p : ℕ → Bool) (n k i : ℕ) → all p (upFrom n k) ≡ true → k ≤ i → i < k + n → p i ≡ true
-unfolding all upFrom
-all-up p zero k i h a b = absurd (omega arith)
-all-up p (suc n) k i h a b = go (p k) refl h (λ m q. all-up p n (suc k) i m q (omega arith))
-  where
-    go : (t : Bool) → p k ≡ t → (t && all p (upFrom n (suc k))) ≡ true → (all p (upFrom n (suc k)) ≡ true → k < i → p i ≡ true) → p i ≡ true
-    go true e m ih = ⊎-elim (λ (q : k ≡ i). subst (λ (j : ℕ). p j ≡ true) q e) (λ (q : k < i). ih m q) (eq-or-lt-of-le a)
-    go false e m ih = absurd-bool m
-
 -- two tests that agree on a range
 any-within : (f g : ℕ → Bool) (n k : ℕ) → ((i : ℕ) → k ≤ i → i < k + n → f i ≡ g i) → any f (upFrom n k) ≡ any g (upFrom n k)
 unfolding any upFrom

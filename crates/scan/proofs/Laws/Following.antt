@@ -20,7 +20,7 @@ use Rattle.rules.specs.declared.sorts.Sort.{Sort}
 use Rattle.book_facts.specs.declared.Asking.{Asking}
 use Rattle.rules.specs.declared.sorts.Sort.the-variants.{Silent, Unknown, Meta, Header, Row}
 use Rattle.rules.proofs.Laws.Sorting.{header-section, row-section}
-use Rattle.scan.proofs.Laws.Celling.{any-append}
+use Rattle.scan.proofs.Laws.Celling.{any-one-more}
 use Rattle.book.specs.Book.{SECTIONS, Book}
 use Rattle.book.proofs.Laws.Sized.{Sized}
 
@@ -67,7 +67,7 @@ stands-start book a kinds slots empty = record {
 -- SECTIONS PRESENT, with one line more
 present-append : (book : Book) (above : List Bytes) (l : Bytes) (i : ℕ) → isPresent book (above ++ (l ∷ [])) i ≡ (isPresent book above i || inSection book i l)
 unfolding isPresent
-present-append book above l i = rw (any-append (inSection book i) above l) (sym (or-assoc (eqb i 0) (any (inSection book i) above) (inSection book i l)))
+present-append book above l i = rw (any-one-more (inSection book i) above l) (sym (or-assoc (eqb i 0) (any (inSection book i) above) (inSection book i l)))
 
 zero-present : (book : Book) (above : List Bytes) (i : ℕ) → i ≡ 0 → isPresent book above i ≡ true
 unfolding isPresent
@@ -133,7 +133,7 @@ was-table book r low above h = present-table book r low above (sym (rw (ne-eqb r
 module _ {book : Book} (sized : Sized book) {above : List Bytes} {s : State} {kinds : List ℕ} {slots : List Bool} {l : Bytes} {next : State} {kinds' : List ℕ} {slots' : List Bool}
     (st : Stands book above s kinds slots) (af : Follows book s kinds slots l next kinds' slots') where
   keys-next : Slots book (above ++ (l ∷ [])) slots'
-  keys-next i h = af .keys i h ∙ rw (st .keys i h) (sym (any-append (hasSlot book i) above l))
+  keys-next i h = af .keys i h ∙ rw (st .keys i h) (sym (any-one-more (hasSlot book i) above l))
 
   -- a line that is no header
   kept : headerIn (sortOf book l) ≡ 0 → next .seen ≡ s .seen → next .highest ≡ s .highest → next .section ≡ s .section → next .width ≡ s .width → next .table ≡ (s .table || isTable book l)
@@ -141,12 +141,12 @@ module _ {book : Book} (sized : Sized book) {above : List Bytes} {s : State} {ki
   kept z a m f c d p q = record {
     present = p;
     presents = q;
-    seen = λ i q h. rw a (st .seen i q h ∙ sym (any-append (ofSection book i) above l ∙ rw (z, ne-eqb 0 i (λ e. omega arith)) (or-false (any (ofSection book i) above))));
+    seen = λ i q h. rw a (st .seen i q h ∙ sym (any-one-more (ofSection book i) above l ∙ rw (z, ne-eqb 0 i (λ e. omega arith)) (or-false (any (ofSection book i) above))));
     sections = rw a (st .sections);
-    highest = λ h. rw m (st .highest h ∙ sym (any-append (ofLater book h) above l ∙ rw (z, le-ltb h 0 (omega arith)) (or-false (any (ofLater book h) above))));
+    highest = λ h. rw m (st .highest h ∙ sym (any-one-more (ofLater book h) above l ∙ rw (z, le-ltb h 0 (omega arith)) (or-false (any (ofLater book h) above))));
     section = f ∙ rw (nearest-append book above l [], z) (st .section);
     width = c ∙ rw (nearest-append book above l [], z) (st .width);
-    table = d ∙ rw (st .table) (sym (any-append (isTable book) above l));
+    table = d ∙ rw (st .table) (sym (any-one-more (isTable book) above l));
     columns = rw (nearest-append book above l []) (af .columns (nearest book above) (st .columns));
     keys = keys-next;
   }
@@ -161,10 +161,10 @@ module _ {book : Book} (sized : Sized book) {above : List Bytes} {s : State} {ki
         sections = length-set (s .seen) h true ∙ st .sections;
         present = present-set book above l (s .present) h pos (omega (arith, bound, st .presents)) (st .present) (λ i p. rw (e, ne-eqb 0 i (λ z. omega arith)) (or-false (eqb h i)));
         presents = length-set (s .present) h true ∙ st .presents;
-        highest = λ k. rw (any-append (ofLater book k) above l, ← st .highest k, e) (highest-set k (ltb (s .highest) h) refl);
+        highest = λ k. rw (any-one-more (ofLater book k) above l, ← st .highest k, e) (highest-set k (ltb (s .highest) h) refl);
         section = rw (nearest-append book above l [], e, lt-ltb 0 h pos, e);
         width = rw (nearest-append book above l [], e, lt-ltb 0 h pos);
-        table = rw (any-append (isTable book) above l, e, lt-ltb 0 h pos) (sym (or-true (any (isTable book) above)));
+        table = rw (any-one-more (isTable book) above l, e, lt-ltb 0 h pos) (sym (or-true (any (isTable book) above)));
         columns = rw (nearest-append book above l []) (af .columns (nearest book above) (st .columns));
         keys = keys-next;
       })
@@ -186,9 +186,9 @@ module _ {book : Book} (sized : Sized book) {above : List Bytes} {s : State} {ki
         where
           go : (t : Bool) → eqb h i ≡ t → getD (set (s .seen) h true) i false ≡ any (ofSection book i) (above ++ (l ∷ []))
           go true t = let g : h ≡ i = eqb-true h i t in
-              rw (any-append (ofSection book i) above l, e, t, or-true (any (ofSection book i) above), g) (getD-set-same (s .seen) i true false (omega (arith, st .sections)))
+              rw (any-one-more (ofSection book i) above l, e, t, or-true (any (ofSection book i) above), g) (getD-set-same (s .seen) i true false (omega (arith, st .sections)))
           go false t =
-              rw (any-append (ofSection book i) above l, e, t, or-false (any (ofSection book i) above)) (getD-set-other (s .seen) h i true false (λ g. eqb-false h i t (sym g)) ∙ st .seen i p k)
+              rw (any-one-more (ofSection book i) above l, e, t, or-false (any (ofSection book i) above)) (getD-set-other (s .seen) h i true false (λ g. eqb-false h i t (sym g)) ∙ st .seen i p k)
 
   same-state : {σ : Sort} → sortOf book l ≡ σ → next ≡ s → (headerIn σ ≡ 0) → (rowIn σ ≡ 0) → Stands book (above ++ (l ∷ [])) next kinds' slots'
   same-state e q z w = kept (rw e z) (ap (λ (x : State). x .seen) q) (ap (λ (x : State). x .highest) q) (ap (λ (x : State). x .section) q) (ap (λ (x : State). x .width) q)
