@@ -54,11 +54,11 @@ size_t mztab_cell_or(const uint8_t *file, size_t file_length, uint32_t section, 
 uint32_t mztab_reading(const uint8_t *file, size_t file_length, uint32_t section, uint32_t row, uint32_t column, uint32_t *number, uint32_t *line,
                        uint32_t *cell, int64_t *whole, int32_t *power, double *decimal);
 
-/* Judges a file by the 22 rules. The answer is the count of all breaks, 0 for an accepted file. The first of them that fit are written to places, three
+/* Judges a file by the 24 rules. The answer is the count of all breaks, 0 for an accepted file. The first of them that fit are written to places, three
  * numbers each: rule, line, cell; in order of line, then cell, then rule. Rules 21 and 22 are reported at the line after the last, and their cell stands
- * for the key that is absent: 1 to 5 of rule 21, 101 to 1564 of rule 22 (docs/rules.md). places is a pointer to places_length numbers, not null also where
- * that is 0. A place that no whole break fills is left as it was. Of a file that is too long the count is 0, *number is 1 and no place is written. The
- * call needs some 200 KB of stack. */
+ * for the key that is absent: 1 to 5 of rule 21, 101 to 1564 of rule 22 (docs/rules.md); all others, 23 and 24 too, at a cell of their line. places is a
+ * pointer to places_length numbers, not null also where that is 0. A place that no whole break fills is left as it was. Of a file that is too long the
+ * count is 0, *number is 1 and no place is written. The call needs some 200 KB of stack. */
 uint32_t mztab_judge(const uint8_t *file, size_t file_length, uint32_t *places, size_t places_length, uint32_t *number);
 
 /* A break: its rule, and its line and cell in the file. */

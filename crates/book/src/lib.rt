@@ -5,8 +5,8 @@ pub mod slots;
 
 use crate::directory::links_at;
 use crate::directory::rows_at;
+use book_lookup::lookup;
 use book_names::Found;
-use book_names::lookup;
 use text_bytes::begins_with;
 use text_bytes::wide;
 use value_references::index::Flaw;

@@ -7,10 +7,8 @@ use lib.Dec.{eqb}
 use lib.ListN.{length, getD, drop, set}
 use Rattle.text_bytes.specs.Bytes.{Bytes, bytes, begins, any}
 use Rattle.text.specs.Lines.{lines, isField, keyCell}
-use Rattle.value_references.specs.Index.{written, indexAt}
+use Rattle.value_references.specs.Index.{written, indexAt, indexIn}
 use Rattle.value_references.specs.References.{families, family}
-use Rattle.value_references.specs.declared.index.Index.{Index}
-use Rattle.value_references.specs.declared.index.Index.the-variants.{Not, Bad, Is}
 use Rattle.book_names.specs.Names.{isKnown}
 use Rattle.book.specs.Book.{Book, upFrom, keyOf}
 use Rattle.book_ids.specs.declared.Id.{Id}
@@ -45,11 +43,6 @@ unfoldable pub isMarked : List Bool → ℕ → ℕ → Bool
 isMarked flags from to = any (λ s. getD flags s false) (upFrom (to - from) from)
 
 -- WHAT THE CODE FINDS
-
-abbrev pub indexIn : Index → ℕ
-indexIn Not = 0
-indexIn (Bad z w) = 0
-indexIn (Is v w) = v
 
 -- the index that stands after a word at the front of a name, 0 for none
 unfoldable pub indexAfter : Bytes → Bytes → ℕ

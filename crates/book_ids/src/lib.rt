@@ -8,7 +8,7 @@ use text::cells::nth_cell;
 use text_bytes::begins_with;
 use value_references::FAMILIES;
 use value_references::INDICES;
-use value_references::index::Index;
+use value_references::index::index_in;
 use value_references::index::read_index;
 use value_references::words::word;
 use value_references::words::words;
@@ -30,11 +30,7 @@ fn index_after(word: &[u8], name: &[u8]) -> usize
 {
     if begins_with(word, name) {
         let a = word.len();
-        return match read_index(&name[a..]) {
-            Index::Not => 0,
-            Index::Bad(_, _) => 0,
-            Index::Is(v, _) => v,
-        };
+        return index_in(read_index(&name[a..]));
     }
     0
 }

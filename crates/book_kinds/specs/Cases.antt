@@ -6,7 +6,7 @@ use Rattle.text_bytes.specs.Bytes.{Bytes, bytes, same, begins, isEmpty, all, on
 use Rattle.value_references.specs.Index.{digits, number, bracketed, indexAt}
 use Rattle.values.specs.Values.{areDigits, unsigned, unmarked, dotted, isE, mantissa, exponent, isExponent, isUnsigned, isNumeral, isText, isWhole, isDecimal, isDecimals, isWindow, isNull}
 use Rattle.value_parameters.specs.Parameters.{quotedAfter, cutOutside, hasFields, isParameter}
-use Rattle.value_references.specs.References.{family, refTo, isIndex}
+use Rattle.value_references.specs.References.{family, refIn, refTo, isIndex}
 use Rattle.book_kinds.specs.Kinds.{familyNumber, isKept, isFixed, ofKind, cellOfKind}
 
 -- a test, the bytes that it is put to, and the answer
@@ -53,11 +53,11 @@ cases =
     ∷ []
 
 pub all-hold : all agrees cases ≡ true
-unfolding cases all bytes same begins isEmpty onFirst splitOn digits number bracketed indexAt areDigits unsigned unmarked dotted isE mantissa exponent isExponent isUnsigned isNumeral isWhole isDecimal isDecimals isWindow quotedAfter cutOutside isSpace hasFields isParameter refTo
+unfolding cases all bytes same begins isEmpty onFirst splitOn digits number bracketed indexAt areDigits unsigned unmarked dotted isE mantissa exponent isExponent isUnsigned isNumeral isWhole isDecimal isDecimals isWindow quotedAfter cutOutside isSpace hasFields isParameter refTo refIn
 all-hold = refl
 
 -- values: a reference to a sample, a version, and `null`, which stands for missing save in a column that is never null
 values-kind : (ofKind 114 83 (bytes "sample[3]") ≡ true) × (ofKind 114 83 (bytes "assay[3]") ≡ false) × (ofKind 118 45 (bytes "1.0.0") ≡ true) × (ofKind 118 45 (bytes "1.1") ≡ false)
     × (cellOfKind 87 (bytes "null") ≡ true) × (cellOfKind 75 (bytes "null") ≡ false) × (cellOfKind 82 (bytes "4") ≡ false)
-unfolding ofKind cellOfKind familyNumber isKept isFixed refTo same begins bytes indexAt bracketed digits number isNull isText isEmpty
+unfolding ofKind cellOfKind familyNumber isKept isFixed refTo refIn same begins bytes indexAt bracketed digits number isNull isText isEmpty
 values-kind = (refl, refl, refl, refl, refl, refl, refl)

@@ -5,7 +5,9 @@ use lib.Dec.{eqb}
 use Rattle.text_bytes.specs.Bytes.{Bytes, is}
 use Rattle.values.specs.Values.{isText, isWhole, isDecimal, isDecimals, isWindow, isNull}
 use Rattle.value_parameters.specs.Parameters.{isParameter, isParameters}
-use Rattle.value_references.specs.References.{family, refTo, isIndex, isReferences}
+use Rattle.value_references.specs.References.{family, refTo, refFlaw, isIndex, isReferences, refsFlaw}
+use Rattle.value_references.specs.declared.index.Flaw.{Flaw}
+use Rattle.value_references.specs.declared.index.Flaw.the-variants.{Form}
 use Rattle.book.specs.Letters.{KEPT, WHOLE, DECIMAL, DECIMALS, WINDOW, PARAMETER, PARAMETERS, RELIABILITY, UNIQUE, VERSION, MODE, TYPE, REFERENCE, REFERENCES, SAMPLE, ASSAY, VARIABLE, RUN, NONE}
 
 -- the number of the family that a letter stands for, 4 for none
@@ -43,6 +45,10 @@ ofKind k f b =
     (cond (eqb k KEPT) (isKept b)
     (cond (eqb k RELIABILITY || eqb k UNIQUE || eqb k VERSION || eqb k MODE || eqb k TYPE) (isFixed k b)
     (isText b))))))))))
+
+-- the flaw for which a value is not of its kind: only references have indices
+unfoldable pub kindFlaw : ℕ → ℕ → Bytes → Flaw
+kindFlaw k f b = cond (eqb k REFERENCE) (refFlaw (wordOf f) b) (cond (eqb k REFERENCES) (refsFlaw (wordOf f) b) Form)
 
 -- whether a table's cell is of its column's kind: `null` stands for missing, save where it may not stand
 unfoldable pub cellOfKind : ℕ → Bytes → Bool

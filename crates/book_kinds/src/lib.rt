@@ -3,7 +3,9 @@ use text_bytes::same_bytes;
 use value_parameters::is_parameter;
 use value_parameters::is_parameters;
 use value_references::Named;
-use value_references::reference;
+use value_references::index::Index;
+use value_references::index::index_in;
+use value_references::read_reference;
 use value_references::references;
 use value_references::words::word;
 use value_references::words::words;
@@ -16,7 +18,7 @@ use values::is_window;
 ghost use mathlib.Core.Path.{_≡_};
 ghost use mathlib.Core.Bool.{_||_};
 ghost use Rattle.text_bytes.specs.Bytes.{same};
-ghost use Rattle.value_references.specs.References.{refTo, Tells};
+ghost use Rattle.value_references.specs.References.{refIn, Tells};
 ghost use Rattle.book_kinds.specs.Kinds.{familyNumber, wordOf, isKept, isFixed, ofKind, cellOfKind};
 
 // The number of the family that a letter stands for: 0 sample, 1 assay, 2 study variable, 3 run; 4 for none.
@@ -32,12 +34,12 @@ pub fn family_number(family: u8) -> usize
     }
 }
 
-// The index that the value refers to in the family, 0 where it is no reference.
-pub fn reference_to(family: u8, s: &[u8]) -> usize
-    ensures { λ r. ⌜ r ≡ refTo (wordOf family) (now (s .entry)) ⌝ }
+// The index, good or bad, that the value has as a reference to the family.
+pub fn reference_to(family: u8, s: &[u8]) -> Index
+    ensures { λ r. ⌜ r ≡ refIn (wordOf family) (now (s .entry)) ⌝ }
 {
     let all = words();
-    reference(word(&all, family_number(family)), s)
+    read_reference(word(&all, family_number(family)), s)
 }
 
 // What the value says as a list of references to the family.
@@ -89,7 +91,7 @@ pub fn of_kind(kind: u8, family: u8, s: &[u8]) -> bool
         b'N' => is_window(s),
         b'P' => is_parameter(s),
         b'Q' => is_parameters(s),
-        b'r' => reference_to(family, s) != 0,
+        b'r' => index_in(reference_to(family, s)) != 0,
         b'l' => references_to(family, s).good,
         b'K' => is_kept(s),
         b'R' => is_reliability(s),

@@ -5,11 +5,11 @@ use mathlib.Core.List.{List, [], _∷_, _++_}
 use lib.Dec.{eqb}
 use lib.ListN.{getD, drop}
 use Rattle.text_bytes.specs.Bytes.{Bytes, SPACE}
-use Rattle.value_references.specs.Index.{MOST, written, indexAt}
+use Rattle.value_references.specs.Index.{MOST, written, indexAt, isForm, sooner}
 use Rattle.value_references.specs.declared.index.Index.{Index}
 use Rattle.value_references.specs.declared.index.Index.the-variants.{Not, Bad, Is}
 use Rattle.value_references.specs.declared.index.Flaw.{Flaw}
-use Rattle.value_references.specs.declared.index.Flaw.the-variants.{Form, Zero, Over}
+use Rattle.value_references.specs.declared.index.Flaw.the-variants.{Form}
 use Rattle.book_names.specs.declared.Match.{Match}
 use Rattle.book_names.specs.declared.Match.the-variants.{Differs, Misses, Fits}
 use Rattle.book_names.specs.declared.Found.{Found}
@@ -92,11 +92,15 @@ abbrev pub isKnown : Found → Bool
 isKnown (Unknown w) = false
 isKnown (Known e k f i j) = true
 
--- the first of two flaws, Form for none
-abbrev pub sooner : Flaw → Flaw → Flaw
-sooner Form w = w
-sooner Zero w = Zero
-sooner Over w = Over
+-- whether it has none like it: neither the name, nor one that is the same but for its indices
+abbrev pub isStrange : Found → Bool
+isStrange (Unknown w) = isForm w
+isStrange (Known e k f i j) = false
+
+-- the flaw for which a name is known but for its indices, Form for none
+abbrev pub whyNot : Found → Flaw
+whyNot (Unknown w) = w
+whyNot (Known e k f i j) = Form
 
 -- what is said of a name that misses an entry with the flaw z, where those after it say d: known stays known
 abbrev pub misses : Flaw → Found → Found

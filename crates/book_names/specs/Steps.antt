@@ -6,7 +6,7 @@ use mathlib.Core.List.{[], _∷_}
 use lib.Dec.{eqb}
 use lib.ListN.{getD}
 use Rattle.text_bytes.specs.Bytes.{Bytes, SPACE}
-use Rattle.value_references.specs.Index.{isDigit, indexAt}
+use Rattle.value_references.specs.Index.{isDigit, indexAt, flawIn}
 use Rattle.value_references.specs.declared.index.Index.{Index}
 use Rattle.value_references.specs.declared.index.Index.the-variants.{Not, Bad, Is}
 use Rattle.value_references.specs.declared.index.Flaw.{Flaw}
@@ -15,7 +15,7 @@ use Rattle.book_names.specs.Names.{OPEN, CLOSE, missing}
 use Rattle.book_names.specs.declared.Match.{Match}
 use Rattle.book_names.specs.declared.Match.the-variants.{Differs, Misses, Fits}
 
--- WHERE A PATTERN HAS A PLACE: the bytes that are passed over, 0 where no index stands there; the index that is taken, 1 for a bad one; and its flaw, Form for none
+-- WHERE A PATTERN HAS A PLACE: the bytes that are passed over, 0 where no index stands there; and the index that is taken, 1 for a bad one
 abbrev pub widthIn : Index → ℕ
 widthIn Not = 0
 widthIn (Bad z w) = w
@@ -25,11 +25,6 @@ abbrev pub takenIn : Index → ℕ
 takenIn Not = 0
 takenIn (Bad z w) = 1
 takenIn (Is v w) = v
-
-abbrev pub flawIn : Index → Flaw
-flawIn Not = Form
-flawIn (Bad z w) = z
-flawIn (Is v w) = Form
 
 -- this was read at the front of s: the index v is taken, w bytes are passed over, and z is its flaw
 pub record Place (s : Bytes) (v w : ℕ) (z : Flaw) : Type 0 where

@@ -1,7 +1,7 @@
 // The book laid out in one text: a directory, the rows of all tables, the required columns, where the slots of the keys begin, and the links of each table.
 use book::directory::links_at;
 use book::directory::rows_at;
-use book_names::links::link;
+use book_links::link;
 ghost use mathlib.Core.Path.{_≡_};
 ghost use mathlib.Core.List.{_++_};
 ghost use Prim.Native.Nat.{_+_, _≤_};

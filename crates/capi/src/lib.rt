@@ -1,10 +1,4 @@
 // The public calls for hosts in C, Rust and Python: numbers, pointers to them, and byte slices. capi/mztab.h says in words what each does.
-mod cases;
-
-use cases::double_of;
-use cases::number_of;
-use cases::power_of;
-use cases::whole_of;
 use fault_steps::Fault;
 use faults::judge;
 use fee::Cents;
@@ -14,6 +8,10 @@ use mztab::cells::locate;
 use mztab::cells::reading;
 use rows::rows;
 use text_bytes::same_bytes;
+use value_cases::double_of;
+use value_cases::number_of;
+use value_cases::power_of;
+use value_cases::whole_of;
 ghost use mathlib.Core.Path.{_≡_};
 ghost use Rattle.mztab.specs.Shown.{sought};
 ghost use Rattle.judged.specs.Judged.{outcome, judged};

@@ -2,11 +2,14 @@
 use book::column;
 use book::is_opt;
 use book_facts::Asking;
-use book_kinds::family_number;
 use book_names::Found;
+use line_head_found::is_strange;
+use line_head_found::kind_in;
+use line_head_found::name_rule;
 use line_head_stamps::came_before;
 use scan::places::Tag;
 use scan::places::put_if;
+use scan::places::put_rule;
 use scan::state::MOST_CELLS;
 use text::cells::cell_end;
 use text_bytes::both;
@@ -18,15 +21,11 @@ ghost use Prim.Native.Nat.{_+_, _-_, _≤_, _<_};
 ghost use lib.ListN.{length, drop, set};
 ghost use Rattle.text.specs.Lines.{LIMIT, cells};
 ghost use Rattle.book.specs.Text.{bookIn, IsBook};
-ghost use Rattle.book_names.specs.Names.{isKnown};
 ghost use Rattle.book.specs.Book.{columnOf};
 ghost use Rattle.scan.specs.Places.{CEILING, NAME-MOST, NAMES-MOST, lent, Puts};
-ghost use Rattle.rules.specs.Rules.{lastIndex, kindIn};
-ghost use Rattle.scan.specs.Machine.{idsOf, columnIn, eachCell, nameCell, headCell, KindsOf, Within, knownBreaks};
+ghost use Rattle.rules.specs.Rules.{kindIn};
+ghost use Rattle.scan.specs.Machine.{idsOf, eachCell, nameCell, headCell, KindsOf, Within, knownBreaks};
 ghost use Rattle.line_head_stamps.specs.Stamps.{ROOM as room};
-
-// The letter of a column that names no id.
-const NO_FAMILY: u8 = b'-';
 
 // The names of a header: its line, its section, what decides which of them are asked, and where the first begins.
 pub struct Names {
@@ -44,85 +43,19 @@ struct Naming {
     opt: bool,
 }
 
-// Whether the book has the name (12).
-fn is_known(found: Found) -> bool
-    ensures { λ r. ⌜ r ≡ isKnown found ⌝ }
-{
-    match found {
-        Found::Unknown(_) => false,
-        Found::Known {
-            entry: _,
-            kind: _,
-            family: _,
-            i: _,
-            j: _,
-        } => true,
-    }
-}
-
-// The kind of a column's cells: those under an unknown column are text.
-fn kind_in(found: Found) -> u8
-    ensures { λ r. ⌜ r ≡ kindIn found ⌝ }
-{
-    match found {
-        Found::Unknown(_) => b'T',
-        Found::Known {
-            entry: _,
-            kind,
-            family: _,
-            i: _,
-            j: _,
-        } => kind,
-    }
-}
-
-// The last of a name's indices, where 0 stands for none.
-fn last_index(i: usize, j: usize) -> usize
-    ensures { λ r. ⌜ r ≡ lastIndex i j ⌝ }
-{
-    if j == 0 {
-        return i;
-    }
-    j
-}
-
-// Whether a known column names an assay, study variable or run that the file does not declare (15).
-fn undeclared(flags: &[[bool; INDICES]; FAMILIES], found: Found) -> bool
-    requires { ⌜ Within found ⌝ }
-    ensures { λ r. ⌜ r ≡ columnIn (idsOf (now (flags .entry))) found ⌝ }
-{
-    match found {
-        Found::Unknown(_) => false,
-        Found::Known {
-            entry: _,
-            kind: _,
-            family,
-            i,
-            j,
-        } => {
-            if family == NO_FAMILY {
-                return false;
-            }
-            let f = family_number(family);
-            let last = last_index(i, j);
-            !flags[f][last - 1]
-        }
-    }
-}
-
-// A name: it is unknown (12), or came before (13).
+// A name: the book has none like it (12), or it came before (13).
 fn name_known(places: &mut [u32], count: u32, found: Found, at: Naming) -> u32
     requires { ⌜ count + 3 ≤ CEILING ⌝ }
     ensures { λ r. ⌜ Puts (knownBreaks (at .again) found (at .tag .control) (at .tag .line) (at .cell)) 3 (lent (now (places .entry)) count) (lent (now (places .exit)) r) ⌝ }
 {
-    let known = is_known(found);
+    let strange = is_strange(found);
     let c = at.cell;
     let k1 = put_if(places, count, at.tag.control == c, 1, at.tag.line, c);
-    let k2 = put_if(places, k1, !known, 12, at.tag.line, c);
+    let k2 = put_if(places, k1, strange, 12, at.tag.line, c);
     put_if(places, k2, at.again, 13, at.tag.line, c)
 }
 
-// The same, or it is no `opt_` name after one (14), or names an undeclared id (15).
+// The same, or it is no `opt_` name after one (14), or names an undeclared id (15), or has a bad index (23, 24).
 fn name_cell(
     places: &mut [u32],
     count: u32,
@@ -136,10 +69,10 @@ fn name_cell(
     ensures { λ r. ⌜ Puts (nameCell (at .again) (at .opt) (idsOf (now (flags .entry))) found (at .tag .control) (at .tag .line) (at .cell) (now (name .entry))) NAME-MOST (lent (now (places .entry)) count) (lent (now (places .exit)) r) ⌝ }
 {
     let late = both(!is_opt(name), at.opt);
-    let named = undeclared(flags, found);
+    let rule = name_rule(flags, found);
     let k1 = name_known(places, count, found, at);
     let k2 = put_if(places, k1, late, 14, at.tag.line, at.cell);
-    put_if(places, k2, named, 15, at.tag.line, at.cell)
+    put_rule(places, k2, rule, at.tag.line, at.cell)
 }
 
 // A name of the section, looked up once: its breaks are put, and its kind is kept at the place before its cell's number.

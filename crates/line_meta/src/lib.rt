@@ -1,15 +1,16 @@
-// Judging a metadata line: rules 1 and 3 to 8, put into the lent places.
+// Judging a metadata line: rules 1, 3 to 8, 23 and 24, put into the lent places.
 use book::key;
 use line_meta_keys::judge_key;
 use line_meta_keys::mark;
 use scan::places::Tag;
 use scan::places::put_if;
+use scan::places::put_rule;
 use text::cells::cell_end;
 use text::cells::count_cells;
 use value_references::FAMILIES;
 use value_references::INDICES;
 ghost use mathlib.Core.Path.{_≡_};
-ghost use mathlib.Core.Bool.{true, not};
+ghost use mathlib.Core.Bool.{true};
 ghost use mathlib.Core.List.{[]};
 ghost use Prim.Native.Nat.{_+_, _≤_};
 ghost use lib.ListN.{length, getD, drop};
@@ -17,33 +18,25 @@ ghost use Rattle.text.specs.Lines.{cells, isMeta};
 ghost use Rattle.book.specs.Book.{SLOTS, keyOf};
 ghost use Rattle.book_ids.specs.Ids.{Flags};
 ghost use Rattle.book.specs.Text.{bookIn, IsBook};
-ghost use Rattle.rules.specs.Breaks.{breakAt, when};
 ghost use Rattle.scan.specs.Places.{CEILING, LINE-MOST, lent, Puts};
-ghost use Rattle.scan.specs.Machine.{controlAt, eachCell, metaCell, metaBreaks, idsOf};
+ghost use Rattle.scan.specs.Machine.{controlAt, some, eachCell, metaCell, metaBreaks, idsOf};
 ghost use Rattle.line_meta_keys.specs.Keys.{slotted};
 ghost use Rattle.line_meta.specs.Metas.{KeepsKeys};
 
-// The cells of a metadata line whose key and value are judged.
+// The cells of a metadata line whose key and value are judged, and which they are.
 const CELLS: usize = 3;
 
-// The key, cell 2: unknown (5), or it came before (6).
-fn put_key(places: &mut [u32], count: u32, tag: Tag, known: bool, again: bool) -> u32
-    requires { ⌜ count + 3 ≤ CEILING ⌝ }
-    ensures { λ r. ⌜ Puts (λ rest. controlAt (tag .control) (tag .line) 2 (when (not known) (breakAt (tag .line) 2 5) (when again (breakAt (tag .line) 2 6) rest))) 3 (lent (now (places .entry)) count) (lent (now (places .exit)) r) ⌝ }
-{
-    let k1 = put_if(places, count, tag.control == 2, 1, tag.line, 2);
-    let k2 = put_if(places, k1, !known, 5, tag.line, 2);
-    put_if(places, k2, again, 6, tag.line, 2)
-}
+const KEY: u32 = 2;
 
-// The value, cell 3: not of its kind (7), or it names an undeclared id (8).
-fn put_value(places: &mut [u32], count: u32, tag: Tag, wrong: bool, undeclared: bool) -> u32
-    requires { ⌜ count + 3 ≤ CEILING ⌝ }
-    ensures { λ r. ⌜ Puts (λ rest. controlAt (tag .control) (tag .line) 3 (when wrong (breakAt (tag .line) 3 7) (when undeclared (breakAt (tag .line) 3 8) rest))) 3 (lent (now (places .entry)) count) (lent (now (places .exit)) r) ⌝ }
+const VALUE: u32 = 3;
+
+// A key or its value: the cell has the line's first control byte (1), and it breaks a rule, 0 for none.
+fn put_field(places: &mut [u32], count: u32, tag: Tag, cell: u32, rule: u32) -> u32
+    requires { ⌜ count + 2 ≤ CEILING ⌝ }
+    ensures { λ r. ⌜ Puts (λ rest. controlAt (tag .control) (tag .line) cell (some rule (tag .line) cell rest)) 2 (lent (now (places .entry)) count) (lent (now (places .exit)) r) ⌝ }
 {
-    let k1 = put_if(places, count, tag.control == 3, 1, tag.line, 3);
-    let k2 = put_if(places, k1, wrong, 7, tag.line, 3);
-    put_if(places, k2, undeclared, 8, tag.line, 3)
+    let k = put_if(places, count, tag.control == cell, 1, tag.line, cell);
+    put_rule(places, k, rule, tag.line, cell)
 }
 
 // The key and the value of a metadata line of three cells.
@@ -60,8 +53,8 @@ fn judge_three(
     requires { ⌜ Flags (now flags) ⌝ }
     requires { ⌜ length (now slots) ≡ SLOTS ⌝ }
     requires { ⌜ length (cells (now line)) ≡ 3 ⌝ }
-    requires { ⌜ count + 6 ≤ CEILING ⌝ }
-    ensures { λ r. ⌜ Puts (eachCell (metaCell (bookIn (now (book .entry))) (now (slots .entry)) (idsOf (now (flags .entry))) (getD (cells (now (line .entry))) 1 []) (getD (cells (now (line .entry))) 2 []) (tag .control) (tag .line)) 2 (drop 1 (cells (now (line .entry))))) 6 (lent (now (places .entry)) count) (lent (now (places .exit)) r) ⌝ }
+    requires { ⌜ count + 4 ≤ CEILING ⌝ }
+    ensures { λ r. ⌜ Puts (eachCell (metaCell (bookIn (now (book .entry))) (now (slots .entry)) (idsOf (now (flags .entry))) (getD (cells (now (line .entry))) 1 []) (getD (cells (now (line .entry))) 2 []) (tag .control) (tag .line)) 2 (drop 1 (cells (now (line .entry))))) 4 (lent (now (places .entry)) count) (lent (now (places .exit)) r) ⌝ }
     ensures { λ r. ⌜ now (slots .exit) ≡ slotted (bookIn (now (book .entry))) (now (slots .entry)) (keyOf (bookIn (now (book .entry))) (getD (cells (now (line .entry))) 1 [])) ⌝ }
 {
     let e = cell_end(line, 0);
@@ -71,8 +64,8 @@ fn judge_three(
     let found = key(book, &line[a..f]);
     let judged = judge_key(book, found, &line[a..f], &line[b..], flags, slots);
     mark(slots, book, found);
-    let k1 = put_key(places, count, tag, judged.known, judged.again);
-    put_value(places, k1, tag, judged.wrong, judged.undeclared)
+    let k = put_field(places, count, tag, KEY, judged.key);
+    put_field(places, k, tag, VALUE, judged.value)
 }
 
 // The breaks of a metadata line, put after the first `count`; the answer is how many there are then. `table` says whether a header or row stands above;

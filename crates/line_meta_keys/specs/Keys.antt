@@ -5,20 +5,17 @@ use mathlib.Core.Bool.{Bool, true}
 use mathlib.Core.List.{List}
 use lib.ListN.{length, set}
 use Rattle.text_bytes.specs.Bytes.{Bytes}
-use Rattle.book_names.specs.Names.{slotOf, isKnown}
+use Rattle.book_names.specs.Names.{slotOf}
 use Rattle.book_names.specs.declared.Found.{Found}
 use Rattle.book_names.specs.declared.Found.the-variants.{Unknown, Known}
 use Rattle.book.specs.Book.{SLOTS, Book, keyEntries}
-use Rattle.rules.specs.Rules.{isWrong}
-use Rattle.scan.specs.Machine.{Ids, againIn, undeclaredIn}
+use Rattle.scan.specs.Machine.{Ids, againIn, keyRule, valueRule}
 use Rattle.line_meta_keys.specs.declared.Judgement.{Judgement}
 
--- of a key and its value: rules 5 to 8
+-- of a key and its value: the rules that they break
 pub record Judged (b : Book) (slots : List Bool) (ids : Ids) (found : Found) (key value : Bytes) (r : Judgement) : Type 0 where
-  pub known : r .known ≡ isKnown found
-  pub again : r .again ≡ againIn b slots key found
-  pub wrong : r .wrong ≡ isWrong found value
-  pub undeclared : r .undeclared ≡ undeclaredIn ids found value
+  pub of-key : r .key ≡ keyRule (againIn b slots key found) found
+  pub of-value : r .value ≡ valueRule ids found value
 
 -- a known key has an entry of the book and one of the slots
 abbrev pub InSlots : Book → Found → Type 0

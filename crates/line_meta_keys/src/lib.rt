@@ -3,6 +3,8 @@ use book::is_colunit;
 use book::slots::start_of;
 use book_names::Found;
 use line_meta_values::judge_value;
+use scan::broken::flaw_rule;
+use scan::broken::rule_if;
 use text_bytes::both;
 use value_references::FAMILIES;
 use value_references::INDICES;
@@ -16,13 +18,15 @@ ghost use Rattle.book.specs.Text.{bookIn, IsBook};
 ghost use Rattle.scan.specs.Machine.{idsOf};
 ghost use Rattle.line_meta_keys.specs.Keys.{Judged, InSlots, slotted};
 
-// Of a key: whether the book has it, and whether it came before where it may not. Of a known key's value: whether it is not of its kind, and whether it names
-// an undeclared id.
+// A key that the book has none like; one that came before where it may not.
+const UNKNOWN: u32 = 5;
+
+const AGAIN: u32 = 6;
+
+// The rule that a key breaks, and the one that its value breaks, 0 for none.
 pub struct Judgement {
-    pub known: bool,
-    pub again: bool,
-    pub wrong: bool,
-    pub undeclared: bool,
+    pub key: u32,
+    pub value: u32,
 }
 
 // An index counted from 0; 0 for none too.
@@ -71,11 +75,9 @@ pub fn judge_key(
     ensures { λ r. ⌜ Judged (bookIn (now (book .entry))) (now (slots .entry)) (idsOf (now (flags .entry))) found (now (key .entry)) (now (value .entry)) r ⌝ }
 {
     match found {
-        Found::Unknown(_) => Judgement {
-            known: false,
-            again: false,
-            wrong: false,
-            undeclared: false,
+        Found::Unknown(flaw) => Judgement {
+            key: flaw_rule(flaw, UNKNOWN),
+            value: 0,
         },
         Found::Known {
             entry,
@@ -89,10 +91,8 @@ pub fn judge_key(
             let again = both(!colunit, slots[slot]);
             let judged = judge_value(flags, kind, family, value);
             Judgement {
-                known: true,
-                again,
-                wrong: !judged.good,
-                undeclared: judged.undeclared,
+                key: rule_if(again, AGAIN),
+                value: judged,
             }
         }
     }

@@ -17,15 +17,15 @@ use Rattle.book.specs.Book.{mzTab, upFrom, wantsOf, wantsIn, lastCell, hasForm,
 use Rattle.book_ids.specs.Ids.{declares}
 use Rattle.book_facts.specs.Facts.{earliest, modeOf, typeOf}
 use Rattle.book_facts.specs.Asked.{asks}
-use Rattle.value_references.specs.References.{refTo, trimmed, refsTo, isReferences}
-use Rattle.book_kinds.specs.Kinds.{familyNumber, isKept, isFixed, ofKind, cellOfKind}
+use Rattle.value_references.specs.References.{refIn, refTo, refFlaw, trimmed, refsTo, isReferences, flawAmong, refsFlaw}
+use Rattle.book_kinds.specs.Kinds.{familyNumber, isKept, isFixed, ofKind, kindFlaw, cellOfKind}
 use Rattle.rules.specs.Sorts.{codeSort, sortOf, isSilent}
 use Rattle.rules.specs.Breaks.{Break, breakAt, each, atCell, atLine, inLines, atEnd}
-use Rattle.rules.specs.Rules.{sameKey, namedIn, isUndeclared, lacksColumn, nearestIn, rules, isPresent, isAsked, hasKey, isUnmet, endRules, breaksBy, breaks}
+use Rattle.rules.specs.Rules.{sameKey, namedIn, isUndeclared, lacksColumn, nearestIn, flawAt, rules, isPresent, isAsked, hasKey, isUnmet, endRules, breaksBy, breaks}
 
 pub example : breaks (bytes "MTD\tmzTab-version\t1.0.0\nMTD\tmzTab-mode\tSummary\nMTD\tmzTab-type\tIdentification\nMTD\tdescription\tYeast check\nMTD\tms_run[1]-location\tfile:///a.mzML\n\nPRH\taccession\tdescription\tdatabase\tsearch_engine\tnum_psms_ms_run[2]\nPRT\tY1\tnull\tdb\tnull\t\nPRT\tnull\tx\tdb\tnull\t4\n")
     ≡ breakAt 7 6 15 ∷ breakAt 8 6 19 ∷ breakAt 9 2 20 ∷ breakAt 10 500 22 ∷ breakAt 10 900 22 ∷ breakAt 10 1000 22 ∷ []
-unfolding bytes same begins isEmpty any all onFirst splitOn lines startsLf coded cell isField control firstControl written digits number bracketed indexAt areDigits unsigned unmarked dotted isE mantissa exponent isExponent isUnsigned isText isWhole isNumeral isDecimal isDecimals isWindow isNull quotedAfter cutOutside isSpace hasFields isParameter isParameters piecesFrom entryOf fits firstOf keys isColunit proteinColumns peptideColumns psmColumns moleculeColumns proteinRequired peptideRequired psmRequired moleculeRequired mzTab demands bookOf isSection sectionOf codedFrom keyOf isOpt optOf columnOf declares refTo trimmed refsTo isReferences familyNumber isKept isFixed namedIn ofKind cellOfKind codeSort sortOf isSilent each atCell atLine inLines atEnd sameKey isUndeclared lacksColumn nearestIn rules hasForm hasKey asks modeOf typeOf earliest isPresent isAsked upFrom wantsOf wantsIn isUnmet lastCell endRules breaksBy breaks
+unfolding bytes same begins isEmpty any all onFirst splitOn lines startsLf coded cell isField control firstControl written digits number bracketed indexAt areDigits unsigned unmarked dotted isE mantissa exponent isExponent isUnsigned isText isWhole isNumeral isDecimal isDecimals isWindow isNull quotedAfter cutOutside isSpace hasFields isParameter isParameters piecesFrom entryOf fits firstOf keys isColunit proteinColumns peptideColumns psmColumns moleculeColumns proteinRequired peptideRequired psmRequired moleculeRequired mzTab demands bookOf isSection sectionOf codedFrom keyOf isOpt optOf columnOf declares refIn refTo refFlaw trimmed refsTo isReferences flawAmong refsFlaw familyNumber isKept isFixed namedIn ofKind kindFlaw cellOfKind codeSort sortOf isSilent each atCell atLine inLines atEnd sameKey isUndeclared lacksColumn nearestIn flawAt rules hasForm hasKey asks modeOf typeOf earliest isPresent isAsked upFrom wantsOf wantsIn isUnmet lastCell endRules breaksBy breaks
 example = refl
 
 -- the same breaks, one by one
@@ -52,13 +52,22 @@ unmet =
     breakAt 4 1 16 ∷ breakAt 5 1 21 ∷ breakAt 5 4 21 ∷ breakAt 5 5 21 ∷ breakAt 5 102 22 ∷ breakAt 5 400 22 ∷ breakAt 5 600 22 ∷ breakAt 5 900 22 ∷ breakAt 5 1000 22
     ∷ breakAt 5 1100 22 ∷ breakAt 5 1300 22 ∷ []
 
+-- keys, values and a column name that are known but for their indices, of request 2026-05, beside a key that is not; the cell under that column is text
+abbrev misnumbered : Bytes
+misnumbered = bytes "MTD\tsample[01]-description\tx\nMTD\tsample[65]-description\tx\nMTD\tassay[0]-ms_run_ref\tx\nMTD\tsoftware[65]-setting[01]\tx\nMTD\tsoftware[01]-setting[65]\tx\nMTD\tassay[1]-ms_run_ref\tms_run[077]\nMTD\tsample[0]-nothing\tx\nMTD\tstudy_variable[1]-assay_refs\tassay[2], assay[65],assay[0]\nPRH\taccession\tdescription\tdatabase\tsearch_engine\tnum_psms_ms_run[065]\nPRT\tY1\tx\tdb\tnull\tmany\n"
+
+abbrev misnumbers : List Break
+misnumbers =
+    breakAt 1 2 23 ∷ breakAt 2 2 24 ∷ breakAt 3 2 23 ∷ breakAt 4 2 24 ∷ breakAt 5 2 23 ∷ breakAt 6 3 23 ∷ breakAt 7 2 5 ∷ breakAt 8 3 24 ∷ breakAt 9 6 23 ∷ []
+
 unfoldable pub files : List Case
 files =
     isA (hasBreaks (allAbsent 1)) (bytes "")
     ∷ isA (hasBreaks (allAbsent 2)) (bytes "COM")
     ∷ isA (hasBreaks unmet) quantified
+    ∷ isA (hasBreaks (misnumbers ++ allAbsent 11)) misnumbered
     ∷ []
 
 pub all-hold : all agrees (cases ++ files) ≡ true
-unfolding cases files sameBreaks bytes same begins isEmpty any all onFirst splitOn lines startsLf coded cell isField control firstControl written digits number bracketed indexAt areDigits unsigned unmarked dotted isE mantissa exponent isExponent isUnsigned isText isWhole isNumeral isDecimal isDecimals isWindow isNull quotedAfter cutOutside isSpace hasFields isParameter isParameters piecesFrom entryOf fits firstOf keys isColunit proteinColumns peptideColumns psmColumns moleculeColumns proteinRequired peptideRequired psmRequired moleculeRequired mzTab demands bookOf isSection sectionOf codedFrom keyOf isOpt optOf columnOf declares refTo trimmed refsTo isReferences familyNumber isKept isFixed namedIn ofKind cellOfKind codeSort sortOf isSilent each atCell atLine inLines atEnd sameKey isUndeclared lacksColumn nearestIn rules hasForm hasKey asks modeOf typeOf earliest isPresent isAsked upFrom wantsOf wantsIn isUnmet lastCell endRules breaksBy breaks
+unfolding cases files sameBreaks bytes same begins isEmpty any all onFirst splitOn lines startsLf coded cell isField control firstControl written digits number bracketed indexAt areDigits unsigned unmarked dotted isE mantissa exponent isExponent isUnsigned isText isWhole isNumeral isDecimal isDecimals isWindow isNull quotedAfter cutOutside isSpace hasFields isParameter isParameters piecesFrom entryOf fits firstOf keys isColunit proteinColumns peptideColumns psmColumns moleculeColumns proteinRequired peptideRequired psmRequired moleculeRequired mzTab demands bookOf isSection sectionOf codedFrom keyOf isOpt optOf columnOf declares refIn refTo refFlaw trimmed refsTo isReferences flawAmong refsFlaw familyNumber isKept isFixed namedIn ofKind kindFlaw cellOfKind codeSort sortOf isSilent each atCell atLine inLines atEnd sameKey isUndeclared lacksColumn nearestIn flawAt rules hasForm hasKey asks modeOf typeOf earliest isPresent isAsked upFrom wantsOf wantsIn isUnmet lastCell endRules breaksBy breaks
 all-hold = refl

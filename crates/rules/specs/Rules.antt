@@ -1,5 +1,5 @@
--- When a line breaks each of the 22 rules: paper 01, 'The 21 rules', one line each, in its words and order, with what stops it; and rule 22 of request
--- 2026-01. Assumes nothing.
+-- When a line breaks each of the 24 rules: paper 01, 'The 21 rules', one line each, in its words and order, with what stops it; rule 22 of request 2026-01;
+-- and rules 23 and 24 of request 2026-05. Assumes nothing.
 use Prim.Native.Nat.{ℕ, _+_, _-_}
 use mathlib.Core.Bool.{Bool, true, false, cond, not, _&&_, _||_}
 use mathlib.Core.List.{List, [], _∷_, _++_, map}
@@ -10,12 +10,14 @@ use Rattle.text.specs.Lines.{lines, cells, cell, width, isMeta, isThree, isFiel
 use Rattle.book.specs.Keys.{isColunit}
 use Rattle.book.specs.Book.{Demand, ONCE, Want, want, wants, lastCell, Book, hasForm, sectionOf, keyOf, isOpt, columnOf, bookOf}
 use Rattle.book.specs.Letters.{TEXT, REFERENCE, REFERENCES, NONE}
-use Rattle.book_names.specs.Names.{isKnown}
+use Rattle.book_names.specs.Names.{isKnown, isStrange, whyNot}
 use Rattle.book_ids.specs.Ids.{declares}
 use Rattle.book_facts.specs.Asked.{askedOf}
-use Rattle.value_references.specs.Index.{MOST}
+use Rattle.value_references.specs.Index.{MOST, isForm, isZero, isOver}
 use Rattle.value_references.specs.References.{refTo, refsTo}
-use Rattle.book_kinds.specs.Kinds.{ofKind, cellOfKind, familyNumber, wordOf}
+use Rattle.value_references.specs.declared.index.Flaw.{Flaw}
+use Rattle.value_references.specs.declared.index.Flaw.the-variants.{Form}
+use Rattle.book_kinds.specs.Kinds.{ofKind, kindFlaw, cellOfKind, familyNumber, wordOf}
 use Rattle.book_names.specs.declared.Found.{Found}
 use Rattle.book_names.specs.declared.Found.the-variants.{Unknown, Known}
 use Rattle.rules.specs.Sorts.{header, row, isHeader, isRow, isTable, isUnknown, controlCell}
@@ -31,10 +33,15 @@ keyFound b l = keyOf b (cell 2 l)
 unfoldable pub sameKey : Bytes → Bytes → Bool
 sameKey l m = isField m && same (cell 2 l) (cell 2 m)
 
--- the value is not of its key's kind
+-- the flaw for which the value is no reference to ids, or list of them
+abbrev pub valueFlaw : Found → Bytes → Flaw
+valueFlaw (Unknown w) v = Form
+valueFlaw (Known e k f i j) v = kindFlaw k f v
+
+-- the value is not of its key's kind, and would not be with other indices
 abbrev pub isWrong : Found → Bytes → Bool
 isWrong (Unknown w) v = false
-isWrong (Known e k f i j) v = not (ofKind k f v)
+isWrong (Known e k f i j) v = not (ofKind k f v) && isForm (kindFlaw k f v)
 
 -- the indices of the ids that a value names: only references name any
 unfoldable pub namedIn : ℕ → ℕ → Bytes → List ℕ
@@ -121,6 +128,16 @@ kindIn (Known e k f i j) = k
 abbrev pub columnKind : Book → Spot → ℕ → ℕ
 columnKind b p c = kindIn (columnFound b (row b (p .here)) (nearest b (p .above)) c)
 
+-- BAD INDICES
+
+-- the flaw that a bad index gives to what stands in cell c: a key, a value, a column name
+unfoldable pub flawAt : Book → Spot → ℕ → Flaw
+flawAt b p c =
+    cond (isField (p .here) && eqb c 2) (whyNot (keyFound b (p .here)))
+    (cond (isField (p .here) && eqb c 3) (valueFlaw (keyFound b (p .here)) (cell 3 (p .here)))
+    (cond (leb 2 c && isJudged b p) (whyNot (columnFound b (header b (p .here)) (p .here) c))
+    Form))
+
 -- THE RULES of a line, by a book
 unfoldable pub rules : Book → List Rule
 rules b =
@@ -128,14 +145,14 @@ rules b =
     ∷ rule 2 (λ p c. eqb c 1 && isUnknown b (p .here))
     ∷ rule 3 (λ p c. eqb c 1 && (isMeta (p .here) && not (isThree (p .here))))
     ∷ rule 4 (λ p c. eqb c 1 && (isMeta (p .here) && any (isTable b) (p .above)))
-    ∷ rule 5 (λ p c. isMeta (p .here) && (eqb c 2 && (isThree (p .here) && not (isKnown (keyFound b (p .here))))))
+    ∷ rule 5 (λ p c. isMeta (p .here) && (eqb c 2 && (isThree (p .here) && isStrange (keyFound b (p .here)))))
     ∷ rule 6 (λ p c. isMeta (p .here) && (eqb c 2 && (isThree (p .here) && (isKnown (keyFound b (p .here)) && (not (isColunit (cell 2 (p .here))) && any (sameKey (p .here)) (p .above))))))
     ∷ rule 7 (λ p c. isMeta (p .here) && (eqb c 3 && (isThree (p .here) && isWrong (keyFound b (p .here)) (cell 3 (p .here)))))
     ∷ rule 8 (λ p c. isMeta (p .here) && (eqb c 3 && (isThree (p .here) && namesUndeclared b (p .file) (keyFound b (p .here)) (cell 3 (p .here)))))
     ∷ rule 9 (λ p c. eqb c 1 && (isHeader b (p .here) && any (ofSection b (header b (p .here))) (p .above)))
     ∷ rule 10 (λ p c. eqb c 1 && (isHeader b (p .here) && any (ofLater b (header b (p .here))) (p .above)))
     ∷ rule 11 (λ p c. eqb c 1 && (isHeader b (p .here) && isWide (p .here)))
-    ∷ rule 12 (λ p c. leb 2 c && (isJudged b p && not (isKnown (columnFound b (header b (p .here)) (p .here) c))))
+    ∷ rule 12 (λ p c. leb 2 c && (isJudged b p && isStrange (columnFound b (header b (p .here)) (p .here) c)))
     ∷ rule 13 (λ p c. leb 2 c && (isJudged b p && any (same (cell c (p .here))) (namesBefore (p .here) c)))
     ∷ rule 14 (λ p c. leb 2 c && (isJudged b p && (not (isOpt (cell c (p .here))) && any isOpt (namesBefore (p .here) c))))
     ∷ rule 15 (λ p c. leb 2 c && (isJudged b p && columnUndeclared b (p .file) (columnFound b (header b (p .here)) (p .here) c)))
@@ -144,6 +161,8 @@ rules b =
     ∷ rule 18 (λ p c. eqb c 1 && (isUnder b p && not (isAsWide b p)))
     ∷ rule 19 (λ p c. leb 2 c && ((isUnder b p && isAsWide b p) && isEmpty (cell c (p .here))))
     ∷ rule 20 (λ p c. leb 2 c && ((isUnder b p && isAsWide b p) && (not (isEmpty (cell c (p .here))) && not (cellOfKind (columnKind b p c) (cell c (p .here))))))
+    ∷ rule 23 (λ p c. isZero (flawAt b p c))
+    ∷ rule 24 (λ p c. isOver (flawAt b p c))
     ∷ []
 
 -- REQUIRED METADATA, at line N + 1, at the cells that the book's demands name

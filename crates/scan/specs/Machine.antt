@@ -11,18 +11,20 @@ use Rattle.book.specs.Letters.{NONE, ASSAYS}
 use Rattle.book.specs.Keys.{isColunit}
 use Rattle.book.specs.Book.{SECTIONS, SLOTS, Demand, Want, cellOf, wants, Book, keyOf, keyEntries, isOpt, columnOf}
 use Rattle.book.specs.Text.{entryFor}
-use Rattle.book_names.specs.Names.{startOf, slotOf, isKnown}
+use Rattle.book_names.specs.Names.{startOf, slotOf, isStrange}
 use Rattle.book_ids.specs.Ids.{declares, isMarked}
 use Rattle.book_facts.specs.Facts.{modeOf, typeOf}
 use Rattle.book_facts.specs.Asked.{asks}
 use Rattle.value_references.specs.Index.{MOST}
-use Rattle.book_kinds.specs.Kinds.{ofKind, cellOfKind, familyNumber}
+use Rattle.value_references.specs.declared.index.Flaw.{Flaw}
+use Rattle.value_references.specs.declared.index.Flaw.the-variants.{Form, Zero, Over}
+use Rattle.book_kinds.specs.Kinds.{ofKind, kindFlaw, cellOfKind, familyNumber}
 use Rattle.book_names.specs.declared.Found.{Found}
 use Rattle.book_names.specs.declared.Found.the-variants.{Unknown, Known}
 use Rattle.text.specs.Lines.{width, isField}
 use Rattle.rules.specs.Sorts.{header}
 use Rattle.rules.specs.Breaks.{Break, breakAt, when}
-use Rattle.rules.specs.Rules.{keyFound, isWrong, lastIndex, lacksColumn, names, kindIn, namedIn, isPresent}
+use Rattle.rules.specs.Rules.{keyFound, lastIndex, lacksColumn, names, kindIn, namedIn, isPresent}
 
 -- CELLS
 
@@ -38,6 +40,16 @@ controlAt cc n c rest = when (eqb cc c) (breakAt n c 1) rest
 -- the cells after the first, where only rule 1 judges them
 abbrev pub plainRest : ℕ → ℕ → List Break → List Break
 plainRest cc n rest = when (ltb 1 cc) (breakAt n cc 1) rest
+
+-- the rule r at cell c, where it is one: 0 is none
+abbrev pub some : ℕ → ℕ → ℕ → List Break → List Break
+some r n c rest = when (not (eqb r 0)) (breakAt n c r) rest
+
+-- the rule that a bad index breaks; r where none is bad
+abbrev pub flawRule : Flaw → ℕ → ℕ
+flawRule Form r = r
+flawRule Zero r = 23
+flawRule Over r = 24
 
 -- WHAT IS CARRIED
 
@@ -63,14 +75,26 @@ abbrev pub undeclaredIn : Ids → Found → Bytes → Bool
 undeclaredIn ids (Unknown w) v = false
 undeclaredIn ids (Known e k f i j) v = ofKind k f v && any (λ i. not (ids (familyNumber f) i)) (namedIn k f v)
 
+-- the one rule of 5, 6, 23 and 24 that a key breaks, and of 7, 8, 23 and 24 that its value breaks, 0 for none
+abbrev pub keyRule : Bool → Found → ℕ
+keyRule again (Unknown w) = flawRule w 5
+keyRule again (Known e k f i j) = cond again 6 0
+
+abbrev pub kindRule : Ids → ℕ → ℕ → Bytes → ℕ
+kindRule ids k f v = cond (ofKind k f v) (cond (any (λ i. not (ids (familyNumber f) i)) (namedIn k f v)) 8 0) (flawRule (kindFlaw k f v) 7)
+
+abbrev pub valueRule : Ids → Found → Bytes → ℕ
+valueRule ids (Unknown w) v = 0
+valueRule ids (Known e k f i j) v = kindRule ids k f v
+
 -- the key and the value, cells 2 and 3
+abbrev pub fieldRule : Book → List Bool → Ids → Bytes → Bytes → ℕ → ℕ
+fieldRule b slots ids key value c =
+    cond (eqb c 2) (keyRule (againIn b slots key (keyOf b key)) (keyOf b key))
+    (cond (eqb c 3) (valueRule ids (keyOf b key) value) 0)
+
 abbrev pub metaCell : Book → List Bool → Ids → Bytes → Bytes → ℕ → ℕ → ℕ → Bytes → List Break → List Break
-metaCell b slots ids key value cc n c x rest =
-    controlAt cc n c
-    (when (eqb c 2 && not (isKnown (keyOf b key))) (breakAt n c 5)
-    (when (eqb c 2 && againIn b slots key (keyOf b key)) (breakAt n c 6)
-    (when (eqb c 3 && isWrong (keyOf b key) value) (breakAt n c 7)
-    (when (eqb c 3 && undeclaredIn ids (keyOf b key) value) (breakAt n c 8) rest))))
+metaCell b slots ids key value cc n c x rest = controlAt cc n c (some (fieldRule b slots ids key value c) n c rest)
 
 -- an MTD line of the cells xs; `table` says whether a header or row stands above
 unfoldable pub metaBreaks : Book → Bool → List Bool → Ids → ℕ → ℕ → List Bytes → List Break → List Break
@@ -93,14 +117,19 @@ Within (Known e k f i j) = eqb f NONE ≡ false → (familyNumber f < 4) × (1 �
 
 -- a column name that the book answers so, by whether it came before: what its bytes and the ids do not decide
 abbrev pub knownBreaks : Bool → Found → ℕ → ℕ → ℕ → List Break → List Break
-knownBreaks again found cc n c rest = controlAt cc n c (when (not (isKnown found)) (breakAt n c 12) (when again (breakAt n c 13) rest))
+knownBreaks again found cc n c rest = controlAt cc n c (when (isStrange found) (breakAt n c 12) (when again (breakAt n c 13) rest))
+
+-- the one rule of 15, 23 and 24 that it breaks, 0 for none
+abbrev pub nameRule : Ids → Found → ℕ
+nameRule ids (Unknown w) = flawRule w 0
+nameRule ids (Known e k f i j) = cond (columnIn ids (Known e k f i j)) 15 0
 
 -- and by whether an optional one came before
 abbrev pub nameCell : Bool → Bool → Ids → Found → ℕ → ℕ → ℕ → Bytes → List Break → List Break
 nameCell again opt ids found cc n c x rest =
     knownBreaks again found cc n c
     (when (not (isOpt x) && opt) (breakAt n c 14)
-    (when (columnIn ids found) (breakAt n c 15) rest))
+    (some (nameRule ids found) n c rest))
 
 abbrev pub headCell : Book → ℕ → List Bytes → Ids → ℕ → ℕ → ℕ → Bytes → List Break → List Break
 headCell b section ns ids cc n c x rest = nameCell (any (same x) (take (c - 2) ns)) (any isOpt (take (c - 2) ns)) ids (columnOf b section x) cc n c x rest

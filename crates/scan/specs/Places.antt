@@ -62,9 +62,9 @@ LINE-MOST = 1300
 abbrev pub END-MOST : ℕ
 END-MOST = WANTS
 
--- of a file: one of each of 20 rules at a cell, at most two cells a byte, and two at each cell at the end
+-- of a file: one of each of 22 rules at a cell, at most two cells a byte, and two at each cell at the end
 abbrev pub FILE-MOST : ℕ
-FILE-MOST = 671091768
+FILE-MOST = 738200632
 
 -- what every judging function does: it puts the breaks that f sets in front of what is put after it, and at most m of them
 pub record Puts (f : List Break → List Break) (m : ℕ) (o o' : Lent) : Type 0 where

@@ -1,14 +1,15 @@
 -- An index: 1 to 64, decimal, no leading zero, in square brackets. Assumes nothing.
 use Prim.Native.Nat.{ℕ, _+_, _*_, _-_, _/_, _%_, _<_}
 use mathlib.Core.Path.{_≡_}
-use mathlib.Core.Bool.{Bool, cond, _&&_}
+use mathlib.Core.Bool.{Bool, true, false, cond, _&&_}
 use mathlib.Core.List.{[], _∷_}
 use lib.Dec.{eqb, leb, ltb}
 use lib.ListN.{length, getD, drop}
 use Rattle.text_bytes.specs.Bytes.{Bytes}
 use Rattle.value_references.specs.declared.index.Index.{Index}
 use Rattle.value_references.specs.declared.index.Index.the-variants.{Not, Bad, Is}
-use Rattle.value_references.specs.declared.index.Flaw.the-variants.{Zero, Over}
+use Rattle.value_references.specs.declared.index.Flaw.{Flaw}
+use Rattle.value_references.specs.declared.index.Flaw.the-variants.{Form, Zero, Over}
 
 -- the highest index
 abbrev pub MOST : ℕ
@@ -53,6 +54,50 @@ indexAt s =
     cond (bracketed s)
     (cond (beginsZero s) (Bad Zero w) (cond (ltb MOST (number 0 ds)) (Bad Over w) (Is (number 0 ds) w)))
     Not
+
+-- WHAT IS READ
+
+-- whether brackets with digits stand there, good or bad
+abbrev pub isRead : Index → Bool
+isRead Not = false
+isRead (Bad z w) = true
+isRead (Is v w) = true
+
+-- the index, 0 for none
+abbrev pub indexIn : Index → ℕ
+indexIn Not = 0
+indexIn (Bad z w) = 0
+indexIn (Is v w) = v
+
+-- its flaw, Form for none
+abbrev pub flawIn : Index → Flaw
+flawIn Not = Form
+flawIn (Bad z w) = z
+flawIn (Is v w) = Form
+
+-- FLAWS
+
+-- no index is bad; one is zero or begins with zero; one is over the highest
+abbrev pub isForm : Flaw → Bool
+isForm Form = true
+isForm Zero = false
+isForm Over = false
+
+abbrev pub isZero : Flaw → Bool
+isZero Form = false
+isZero Zero = true
+isZero Over = false
+
+abbrev pub isOver : Flaw → Bool
+isOver Form = false
+isOver Zero = false
+isOver Over = true
+
+-- the first of two flaws, Form for none
+abbrev pub sooner : Flaw → Flaw → Flaw
+sooner Form w = w
+sooner Zero w = Zero
+sooner Over w = Over
 
 -- the digits behind the first byte of a text end at e: there are some, and the first is not zero
 pub record Run (s : Bytes) (e : ℕ) : Type 0 where

@@ -3,7 +3,7 @@ use text_bytes::wide;
 ghost use mathlib.Core.Path.{_≡_};
 ghost use Prim.Native.Nat.{_+_, _≤_, _<_};
 ghost use lib.ListN.{length, getD, drop};
-ghost use Rattle.value_references.specs.Index.{isDigit, digits, number, indexAt, Run};
+ghost use Rattle.value_references.specs.Index.{isDigit, digits, number, indexAt, isRead, indexIn, flawIn, isForm, sooner as soonerOf, Run};
 
 // The highest index.
 const MOST: usize = 64;
@@ -95,4 +95,59 @@ pub fn read_index(s: &[u8]) -> Index
         return Index::Bad(Flaw::Over, w);
     }
     Index::Is(n, w)
+}
+
+// Whether brackets with digits stand there, good or bad.
+pub fn is_read(found: Index) -> bool
+    ensures { λ r. ⌜ r ≡ isRead found ⌝ }
+{
+    match found {
+        Index::Not => false,
+        Index::Bad(_, _) => true,
+        Index::Is(_, _) => true,
+    }
+}
+
+// The index that was read, 0 for none.
+pub fn index_in(found: Index) -> usize
+    ensures { λ r. ⌜ r ≡ indexIn found ⌝ }
+{
+    match found {
+        Index::Not => 0,
+        Index::Bad(_, _) => 0,
+        Index::Is(i, _) => i,
+    }
+}
+
+// Its flaw, `Form` for none.
+pub fn flaw_in(found: Index) -> Flaw
+    ensures { λ r. ⌜ r ≡ flawIn found ⌝ }
+{
+    match found {
+        Index::Not => Flaw::Form,
+        Index::Bad(flaw, _) => flaw,
+        Index::Is(_, _) => Flaw::Form,
+    }
+}
+
+// Whether no index is bad.
+pub fn is_form(flaw: Flaw) -> bool
+    ensures { λ r. ⌜ r ≡ isForm flaw ⌝ }
+{
+    match flaw {
+        Flaw::Form => true,
+        Flaw::Zero => false,
+        Flaw::Over => false,
+    }
+}
+
+// The first of two flaws, `Form` for none.
+pub fn sooner(first: Flaw, second: Flaw) -> Flaw
+    ensures { λ r. ⌜ r ≡ soonerOf first second ⌝ }
+{
+    match first {
+        Flaw::Form => second,
+        Flaw::Zero => Flaw::Zero,
+        Flaw::Over => Flaw::Over,
+    }
 }

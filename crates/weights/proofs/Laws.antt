@@ -1,6 +1,4 @@
 -- Laws over plain lists and positions, with no code in them: a file for each thing that they speak of.
-pub mod Columning
-pub mod Raising
 pub mod Weighing
 pub mod Refusing
 pub mod Splitting

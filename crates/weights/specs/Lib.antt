@@ -1,3 +1,2 @@
 pub mod Weights
-pub mod Marks
 pub mod Cases

@@ -2,29 +2,18 @@
 use Prim.Native.Nat.{ℕ, suc}
 use mathlib.Core.Path.{_≡_, sym, ap, _∙_}
 use mathlib.Core.Bool.{Bool, false, cond, not, _&&_}
-use mathlib.Core.List.{List, _++_}
+use mathlib.Core.List.{List}
 use mathlib.Core.Option.{Option, none, some}
 use lib.ListN.{length}
 use lib.Dec.{eqb, ltb}
 use Rattle.numbers.specs.Numbers.{TOO-LONG, NOT-ACCEPTED, NOT-AS-MANY}
-use Rattle.text_bytes.specs.Bytes.{Bytes, bytes, is, count}
+use Rattle.text_bytes.specs.Bytes.{Bytes, is, count}
 use Rattle.text.specs.Lines.{LIMIT, lines, coded}
 use Rattle.book.specs.Book.{rowCode, mzTab}
-use Rattle.value_references.specs.Index.{written}
 use Rattle.rows.specs.Rows.{headerOf, columnNamed, cellAt}
 use Rattle.rules.specs.Rules.{isAccepted}
 use Rattle.fee_shares.specs.Sums.{listTo}
-
--- protein is section 1
-abbrev pub PROTEIN : ℕ
-PROTEIN = 1
-
--- the name of the column of study variable i
-abbrev pub WORD : Bytes
-WORD = bytes "protein_abundance_study_variable"
-
-abbrev pub abundance : ℕ → Bytes
-abundance i = WORD ++ written i
+use Rattle.weight_counts.specs.Variables.{PROTEIN, abundance, VARIABLES}
 
 -- a cell that is there and is not `null`
 abbrev pub isGiven : Option Bytes → Bool
@@ -38,10 +27,6 @@ hasIn c l = coded (rowCode mzTab PROTEIN) l && isGiven (cellAt l c)
 -- THE WEIGHT of study variable i: the protein rows whose cell under its column is not `null`; none where the header has no such column
 unfoldable pub weightOf : Bytes → ℕ → ℕ
 weightOf file i = count (hasIn (columnNamed (headerOf file PROTEIN) (abundance i))) (lines file)
-
--- there are 64 study variables, of which number i has the place i - 1
-abbrev pub VARIABLES : ℕ
-VARIABLES = 64
 
 abbrev pub weightsOf : Bytes → List ℕ
 weightsOf file = listTo VARIABLES (λ (i : ℕ). weightOf file (suc i))

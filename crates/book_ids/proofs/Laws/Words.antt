@@ -9,12 +9,12 @@ use lib.ListN.{length, getD, drop}
 use borrow.Author.Tests.{eq-eqb, ne-eqb, eqb-true, eqb-false}
 use Rattle.text_bytes.specs.Bytes.{bytes, begins}
 use Rattle.text_bytes.proofs.Laws.Begins.{begins-is, begins-self}
-use Rattle.value_references.specs.Index.{indexAt, written}
+use Rattle.value_references.specs.Index.{indexAt, written, indexIn}
 use Rattle.value_references.specs.declared.index.Index.{Index}
 use Rattle.value_references.specs.declared.index.Index.the-variants.{Not, Bad, Is}
 use Rattle.value_references.specs.References.{families, family}
 use Rattle.value_references.proofs.Laws.Indices.{index-read, index-written}
-use Rattle.book_ids.specs.Ids.{indexIn, indexAfter, idIn, idOf}
+use Rattle.book_ids.specs.Ids.{indexAfter, idIn, idOf}
 use Rattle.book_ids.specs.declared.Id.{Id}
 use Rattle.book_ids.specs.declared.Id.the-variants.{Nothing, Of}
 use Rattle.text_bytes.proofs.Laws.Tests.{absurd-bool, and-both}

@@ -6,8 +6,8 @@ use mathlib.Core.List.{List}
 use Prim.Native.Nat.{ℕ, _-_, _≤_}
 use lib.ListN.{length, drop, take, length-drop}
 use lib.Seq.{take-all}
-use Rattle.value_references.specs.Index.{indexAt}
-use Rattle.book_ids.specs.Ids.{indexIn, indexAfter}
+use Rattle.value_references.specs.Index.{indexAt, indexIn}
+use Rattle.book_ids.specs.Ids.{indexAfter}
 use Rattle.text_bytes.proofs.Laws.Begins.{begins-within}
 use Rattle.book_ids.proofs.Laws.Words.{after-none, after-some}
 use Rattle.book_ids.proofs.index_after.Statement.{statement}
@@ -34,16 +34,10 @@ reading c =
     after-some (word b) s (sym (b .begins-with .ensures) ∙ t .if1 .taken) ∙ ap indexIn (sym (c .read-index .ensures ∙ ap indexAt e))
 
 returns : tie.Need-returns
-returns c = sym (reading (c .before .before) ∙ ap indexIn (c .enum-told .given .1))
+returns c = c .index-in .ensures ∙ sym (reading (c .before))
 
 returns-2 : tie.Need-returns-2
-returns-2 c = sym (reading (c .before .before) ∙ ap indexIn (c .enum-told2 .given .1))
-
-returns-3 : tie.Need-returns-3
-returns-3 c = sym (reading (c .before .before .before) ∙ ap indexIn (c .before .v .given .1))
-
-returns-4 : tie.Need-returns-4
-returns-4 c = let b = c .before in sym (after-none (word b) (name b) (sym (b .begins-with .ensures) ∙ c .if1 .left))
+returns-2 c = let b = c .before in sym (after-none (word b) (name b) (sym (b .begins-with .ensures) ∙ c .if1 .left))
 
 pub index-after-spec : {M : Type 1} → statement M
 index-after-spec =
@@ -54,10 +48,6 @@ index-after-spec =
     (λ c. omega (arith, within c))
     (λ c. search needs)
     (λ c κs. search needs)
-    (λ c. search needs)
-    (λ c. search needs)
-    (λ c. search needs)
+    (λ c κs. search needs)
     returns
-    returns-2
-    returns-3
-    returns-4)
+    returns-2)

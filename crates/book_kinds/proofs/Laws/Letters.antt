@@ -1,13 +1,17 @@
 -- What the letters of the book stand for, where a letter is none of those asked for. Assumes nothing.
 use Prim.Native.Nat.{ℕ}
 use mathlib.Core.Path.{_≡_, refl}
-use mathlib.Core.Bool.{Bool, true, false, _||_, and-false, and-true}
+use mathlib.Core.Bool.{Bool, true, false, cond, _||_, and-false, and-true}
 use mathlib.Core.List.{[], _∷_}
-use borrow.Author.Tests.{eq-eqb, ne-eqb}
+use lib.Dec.{eqb}
+use borrow.Author.Tests.{eq-eqb, ne-eqb, eqb-true}
 use Rattle.text_bytes.specs.Bytes.{Bytes, bytes, same, isEmpty}
 use Rattle.values.specs.Values.{isText, isNull, isWhole, isDecimal}
+use Rattle.value_references.specs.References.{refFlaw, refsFlaw}
+use Rattle.value_references.specs.declared.index.Flaw.the-variants.{Form}
+use Rattle.value_references.proofs.Laws.Names.{ref-good, refs-good}
 use Rattle.value_parameters.specs.Parameters.{isParameters}
-use Rattle.book_kinds.specs.Kinds.{familyNumber, isKept, ofKind, cellOfKind}
+use Rattle.book_kinds.specs.Kinds.{familyNumber, wordOf, isKept, ofKind, kindFlaw, cellOfKind}
 
 pub no-family : (f : ℕ) → (f ≡ 83 → ⊥) → (f ≡ 65 → ⊥) → (f ≡ 86 → ⊥) → (f ≡ 82 → ⊥) → familyNumber f ≡ 4
 unfolding familyNumber
@@ -83,3 +87,13 @@ module _ (b : Bytes) where
     pub value-parameters : k ≡ 81 → ofKind k 45 b ≡ isParameters b
     unfolding ofKind
     value-parameters e = rw e
+
+-- a value that is of its kind has no flaw
+pub good-none : (k f : ℕ) (b : Bytes) → ofKind k f b ≡ true → kindFlaw k f b ≡ Form
+unfolding ofKind kindFlaw
+good-none k f b h = go (eqb k 114) (eqb k 108) refl refl
+  where
+    go : (t u : Bool) → eqb k 114 ≡ t → eqb k 108 ≡ u → cond t (refFlaw (wordOf f) b) (cond u (refsFlaw (wordOf f) b) Form) ≡ Form
+    go true u d e = let q = eqb-true k 114 d in ref-good (wordOf f) b (rw q at h)
+    go false true d e = let q = eqb-true k 108 e in refs-good (wordOf f) b (rw q at h)
+    go false false d e = refl

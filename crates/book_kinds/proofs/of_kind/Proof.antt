@@ -4,7 +4,8 @@ use mathlib.Core.Path.{_≡_, sym, ap, _∙_}
 use mathlib.Core.List.{List}
 use Prim.Native.Nat.{ℕ}
 use Rattle.text_bytes.specs.Bytes.{bytes}
-use Rattle.value_references.specs.References.{isIndex}
+use Rattle.value_references.specs.Index.{indexIn}
+use Rattle.value_references.specs.References.{refTo, isIndex}
 use Rattle.book_kinds.specs.Kinds.{isFixed, ofKind}
 use Rattle.book_kinds.proofs.Laws.Letters.{other-text}
 use Rattle.book_kinds.proofs.of_kind.Statement.{statement}
@@ -57,11 +58,11 @@ returns-6 c =
     c .is-parameters .ensures ∙ case (a .kind) 81 (a .family) (a .s .now) (m .match .keys6)
 
 returns-7 : tie.Need-returns-7
-unfolding ofKind
+unfolding ofKind refTo
 returns-7 c =
-    let m = c .before in
+    let m = c .before .before in
     let a = m .before .before .args in
-    ap isIndex (c .reference-to .ensures) ∙ case (a .kind) 114 (a .family) (a .s .now) (m .match .keys7)
+    ap isIndex (c .index-in .ensures ∙ ap indexIn (c .before .reference-to .ensures)) ∙ case (a .kind) 114 (a .family) (a .s .now) (m .match .keys7)
 
 returns-8 : tie.Need-returns-8
 unfolding ofKind
@@ -124,6 +125,7 @@ pub of-kind-spec : {M : Type 1} → statement M
 of-kind-spec =
     tie.close
     (tie.spec
+    (λ c κs. search needs)
     (λ c κs. search needs)
     (λ c κs. search needs)
     (λ c κs. search needs)

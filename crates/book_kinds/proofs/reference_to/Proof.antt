@@ -6,7 +6,7 @@ use Rattle.book_kinds.proofs.reference_to.Tie as tie
 returns : tie.Need-returns
 returns c =
     let at-word = c .before in
-    rw (at-word .word .ensures, at-word .before .family-number .ensures) at (c .reference .ensures)
+    rw (at-word .word .ensures, at-word .before .family-number .ensures) at (c .read-reference .ensures)
 
 pub reference-to-spec : {M : Type 1} → statement M
 reference-to-spec =

@@ -6,14 +6,14 @@ use mathlib.Core.List.{List, [], _∷_}
 use lib.Dec.{eqb}
 use lib.ListN.{drop}
 use borrow.Author.Tests.{eqb-true}
-use Rattle.value_references.specs.Index.{indexAt}
+use Rattle.value_references.specs.Index.{indexAt, flawIn, sooner}
 use Rattle.value_references.specs.declared.index.Index.{Index}
 use Rattle.value_references.specs.declared.index.Index.the-variants.{Not, Bad, Is}
 use Rattle.value_references.specs.declared.index.Flaw.{Flaw}
 use Rattle.value_references.specs.declared.index.Flaw.the-variants.{Form, Zero, Over}
 use Rattle.value_references.proofs.Laws.Indices.{Bracket, Holds, index-holds}
-use Rattle.book_names.specs.Names.{Piece, byte, place, missing, onIndex, sooner, fits}
-use Rattle.book_names.specs.Steps.{flawIn, flawOf}
+use Rattle.book_names.specs.Names.{Piece, byte, place, missing, onIndex, fits}
+use Rattle.book_names.specs.Steps.{flawOf}
 use Rattle.book_names.specs.declared.Match.{Match}
 use Rattle.book_names.specs.declared.Match.the-variants.{Differs, Misses, Fits}
 use Rattle.book_names.proofs.Laws.Turns.{onPlace, place-fits}

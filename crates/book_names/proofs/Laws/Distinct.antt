@@ -11,10 +11,10 @@ use borrow.Author.Tests.{eq-eqb, ne-eqb}
 use Rattle.text_bytes.proofs.Laws.Tests.{absurd-bool, and-both}
 use Rattle.value_references.specs.declared.index.Flaw.{Flaw}
 use Rattle.value_references.specs.declared.index.Flaw.the-variants.{Form, Zero, Over}
-use Rattle.value_references.specs.Index.{digits, indexAt}
+use Rattle.value_references.specs.Index.{digits, indexAt, flawIn, sooner}
 use Rattle.value_references.proofs.Laws.Indices.{Bracket, index-unopened}
-use Rattle.book_names.specs.Names.{Piece, byte, place, Entry, kindOf, familyOf, formOf, filled, fits, sooner, onMatch, firstOf, lookupIn}
-use Rattle.book_names.specs.Steps.{flawIn, flawed}
+use Rattle.book_names.specs.Names.{Piece, byte, place, Entry, kindOf, familyOf, formOf, filled, fits, onMatch, firstOf, lookupIn}
+use Rattle.book_names.specs.Steps.{flawed}
 use Rattle.book_names.specs.declared.Match.the-variants.{Differs, Fits}
 use Rattle.book_names.specs.declared.Found.the-variants.{Unknown, Known}
 use Rattle.book_names.proofs.Laws.Flaws.{marked-differs, on-some}

@@ -4,23 +4,19 @@ use mathlib.Core.Path.{_≡_, refl, ap, sym, _∙_}
 use mathlib.Core.List.{List}
 use native.Mathlib.Omega.{arith}
 use lib.ListN.{length}
-use Rattle.value_references.specs.Index.{indexAt}
+use Rattle.value_references.specs.Index.{indexAt, flawIn, sooner}
 use Rattle.value_references.specs.declared.index.Index.{Index}
 use Rattle.value_references.specs.declared.index.Index.the-variants.{Not, Bad, Is}
 use Rattle.value_references.specs.declared.index.Flaw.{Flaw}
 use Rattle.value_references.specs.declared.index.Flaw.the-variants.{Form, Zero, Over}
 use Rattle.value_references.proofs.Laws.Indices.{Holds, index-holds}
-use Rattle.book_names.specs.Names.{missing, onIndex, sooner, misses, onMatch}
-use Rattle.book_names.specs.Steps.{widthIn, takenIn, flawIn, Place, flawed, flawOf}
+use Rattle.value_references.proofs.Laws.Firsts.{sooner-again}
+use Rattle.book_names.specs.Names.{missing, onIndex, misses, onMatch}
+use Rattle.book_names.specs.Steps.{widthIn, takenIn, Place, flawed, flawOf}
 use Rattle.book_names.specs.declared.Match.{Match}
 use Rattle.book_names.specs.declared.Match.the-variants.{Differs, Misses, Fits}
 use Rattle.book_names.specs.declared.Found.{Found}
 use Rattle.book_names.specs.declared.Found.the-variants.{Unknown, Known}
-
-pub sooner-none : (z : Flaw) → sooner z Form ≡ z
-sooner-none Form = refl
-sooner-none Zero = refl
-sooner-none Over = refl
 
 -- A NAME with a flaw in front of its rest
 pub marked-differs : (z : Flaw) → flawed z Differs ≡ Differs
@@ -89,11 +85,6 @@ place-within s v w z p = rw (p .width) (go (indexAt s) (index-holds s (indexAt s
 pub misses-none : (d : Found) → misses Form d ≡ d
 misses-none (Unknown w) = refl
 misses-none (Known e k f i j) = refl
-
-sooner-again : (f z w : Flaw) → sooner f (sooner z w) ≡ sooner (sooner f z) w
-sooner-again Form z w = refl
-sooner-again Zero z w = refl
-sooner-again Over z w = refl
 
 pub misses-again : (f z : Flaw) (d : Found) → misses f (misses z d) ≡ misses (sooner f z) d
 misses-again f z (Unknown w) = ap Unknown (sooner-again f z w)

@@ -10,14 +10,16 @@ use lib.Seq.{drop-drop, getD-take, getD-drop, getD-set-same, getD-set-other, dro
 use borrow.Author.Tests.{eqb-true, eqb-false}
 use Rattle.value_references.specs.declared.index.Flaw.{Flaw}
 use Rattle.value_references.specs.declared.index.Flaw.the-variants.{Form}
-use Rattle.book_names.specs.Names.{Entry, pieces, formOf, entryOf, fits, sooner, misses, firstOf, lookupIn}
+use Rattle.value_references.specs.Index.{sooner}
+use Rattle.book_names.specs.Names.{Entry, pieces, formOf, entryOf, fits, misses, firstOf, lookupIn}
 use Rattle.book_names.specs.Steps.{flawOf}
 use Rattle.book_names.specs.Table.{cut, rows, entries}
 use Rattle.book_names.specs.Links.{headOf, nextHead, Linked}
 use Rattle.book_names.specs.declared.Match.{Match}
 use Rattle.book_names.specs.declared.Match.the-variants.{Fits}
 use Rattle.book_names.specs.declared.Found.the-variants.{Unknown, Known}
-use Rattle.book_names.proofs.Laws.Flaws.{sooner-none, misses-none, misses-again, on-miss}
+use Rattle.value_references.proofs.Laws.Firsts.{sooner-none}
+use Rattle.book_names.proofs.Laws.Flaws.{misses-none, misses-again, on-miss}
 use Rattle.book_names.proofs.Laws.Turns.{head-at, head-other}
 
 -- THE ROWS of a table: row e stands at 54 e, and is entry e

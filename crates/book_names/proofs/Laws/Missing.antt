@@ -12,14 +12,14 @@ use borrow.Author.Tests.{eq-eqb, ne-eqb, eqb-true, eqb-false, ltb-true, ltb-fals
 use Rattle.text_bytes.specs.Bytes.{all}
 use Rattle.text_bytes.proofs.Laws.Tests.{and-both}
 use Rattle.text_bytes.proofs.Laws.Pieces.{drop-step}
-use Rattle.value_references.specs.Index.{isDigit, digits, number, indexAt}
+use Rattle.value_references.specs.Index.{isDigit, digits, number, indexAt, flawIn, sooner}
 use Rattle.value_references.specs.declared.index.Index.{Index}
 use Rattle.value_references.specs.declared.index.Index.the-variants.{Bad, Is}
 use Rattle.value_references.specs.declared.index.Flaw.{Flaw}
 use Rattle.value_references.specs.declared.index.Flaw.the-variants.{Form, Zero, Over}
 use Rattle.value_references.proofs.Laws.Indices.{Bracket, index-read, index-zero, index-over, index-is}
-use Rattle.book_names.specs.Names.{Piece, byte, place, Entry, kindOf, familyOf, formOf, sooner, misses, onMatch, fits, firstOf}
-use Rattle.book_names.specs.Steps.{widthIn, takenIn, flawIn, Place, flawed, flawOf}
+use Rattle.book_names.specs.Names.{Piece, byte, place, Entry, kindOf, familyOf, formOf, misses, onMatch, fits, firstOf}
+use Rattle.book_names.specs.Steps.{widthIn, takenIn, Place, flawed, flawOf}
 use Rattle.book_names.specs.declared.Match.{Match}
 use Rattle.book_names.specs.declared.Match.the-variants.{Differs, Misses, Fits}
 use Rattle.book_names.specs.declared.Found.{Found}

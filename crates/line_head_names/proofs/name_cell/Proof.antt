@@ -11,7 +11,7 @@ returns c =
     let p1 = p2 .before .before .before .before in
     let at-named = p1 .before .before in
     let at-both = at-named .before in
-    rw (at-both .both .ensures, at-both .before .is-opt .ensures, at-named .undeclared .ensures) at (puts3 (p1 .name-known .ensures) (p2 .put-if .ensures) (p3 .put-if2 .ensures))
+    rw (at-both .both .ensures, at-both .before .is-opt .ensures, at-named .name-rule .ensures) at (puts3 (p1 .name-known .ensures) (p2 .put-if .ensures) (p3 .put-rule .ensures))
 
 pub name-cell-spec : {M : Type 1} → statement M
 name-cell-spec =

@@ -15,7 +15,7 @@ use Rattle.text.specs.Lines.{cells}
 use Rattle.book.specs.Book.{Book, keyOf}
 use Rattle.rules.specs.Breaks.{breakAt, when}
 use Rattle.scan.specs.Places.{LINE-MOST, Lent, Puts}
-use Rattle.scan.specs.Machine.{Ids, eachCell, controlAt, plainRest, metaCell, metaBreaks}
+use Rattle.scan.specs.Machine.{Ids, eachCell, controlAt, plainRest, some, metaCell, metaBreaks}
 use Rattle.scan.proofs.Laws.Putting.{puts2, puts3}
 use Rattle.scan.proofs.Laws.Celling.{cell-here, cells-last}
 use Rattle.line_meta_keys.specs.Keys.{Judged}
@@ -28,17 +28,17 @@ first-tab {l} {e} h n =
 
 -- THE KEY AND THE VALUE
 module _ (b : Book) (cc n : ℕ) {slots : List Bool} {ids : Ids} {key value : Bytes} {r : Judgement} {o o₁ o₂ : Lent} (j : Judged b slots ids (keyOf b key) key value r)
-    (h₁ : Puts (λ rest. controlAt cc n 2 (when (not (r .known)) (breakAt n 2 5) (when (r .again) (breakAt n 2 6) rest))) 3 o o₁)
-    (h₂ : Puts (λ rest. controlAt cc n 3 (when (r .wrong) (breakAt n 3 7) (when (r .undeclared) (breakAt n 3 8) rest))) 3 o₁ o₂) where
-  pub three-puts : (xs : List Bytes) → drop 1 xs ≡ key ∷ value ∷ [] → Puts (eachCell (metaCell b slots ids (getD xs 1 []) (getD xs 2 []) cc n) 2 (drop 1 xs)) 6 o o₂
+    (h₁ : Puts (λ rest. controlAt cc n 2 (some (r .key) n 2 rest)) 2 o o₁)
+    (h₂ : Puts (λ rest. controlAt cc n 3 (some (r .value) n 3 rest)) 2 o₁ o₂) where
+  pub three-puts : (xs : List Bytes) → drop 1 xs ≡ key ∷ value ∷ [] → Puts (eachCell (metaCell b slots ids (getD xs 1 []) (getD xs 2 []) cc n) 2 (drop 1 xs)) 4 o o₂
   unfolding eachCell
   three-puts [] e = absurd (omega (arith, ap length e))
-  three-puts (x ∷ xs) e = rw e (rw (j .known, j .again, j .wrong, j .undeclared) at (puts2 h₁ h₂))
+  three-puts (x ∷ xs) e = rw e (rw (j .of-key, j .of-value) at (puts2 h₁ h₂))
 
 -- THE WHOLE LINE
 module _ (b : Book) (table : Bool) (slots : List Bool) (ids : Ids) (cc n : ℕ) (xs : List Bytes) {o o₁ o₂ o₃ o₄ : Lent}
     (h₁ : Puts (controlAt cc n 1) 1 o o₁) (h₂ : Puts (when (not (eqb (length xs) 3)) (breakAt n 1 3)) 1 o₁ o₂) (h₃ : Puts (when table (breakAt n 1 4)) 1 o₂ o₃) where
-  pub meta-three : length xs ≡ 3 → Puts (eachCell (metaCell b slots ids (getD xs 1 []) (getD xs 2 []) cc n) 2 (drop 1 xs)) 6 o₃ o₄ → Puts (metaBreaks b table slots ids cc n xs) LINE-MOST o o₄
+  pub meta-three : length xs ≡ 3 → Puts (eachCell (metaCell b slots ids (getD xs 1 []) (getD xs 2 []) cc n) 2 (drop 1 xs)) 4 o₃ o₄ → Puts (metaBreaks b table slots ids cc n xs) LINE-MOST o o₄
   unfolding metaBreaks
   meta-three t h = record { does = λ rest. rw (eq-eqb (length xs) 3 t) (puts2 (puts3 h₁ (rw (eq-eqb (length xs) 3 t) at h₂) h₃) h .does rest); most = omega arith }
 

@@ -13,7 +13,7 @@ use Rattle.line_meta.proofs.judge_meta.Statement.{statement}
 use Rattle.line_meta.proofs.judge_meta.Tie as tie
 
 -- cell 1's puts leave room for what comes after it
-most : (p3 : tie.After-put-if3) → p3 .put-if3 .result + 6 ≤ CEILING
+most : (p3 : tie.After-put-if3) → p3 .put-if3 .result + 4 ≤ CEILING
 most p3 =
     let p2 = p3 .before .before .before .before in
     let p1 = p2 .before .before .before .before in

@@ -38,16 +38,16 @@ mark-requires c κs =
     let start = at-key .before .before .before .before .before .before .before .before in
     (start .pre .0, (rw (at-key .key .ensures) (in-slots _ _), start .pre .1 .1 .0))
 
-put-key-requires : tie.Need-put-key-requires
-put-key-requires c κs =
+put-field-requires : tie.Need-put-field-requires
+put-field-requires c κs =
     let start = c .before .before .before .before .before .before .before .before .before .before .before .before .before .before .before .before .before in
     omega (arith, start .pre .1 .1 .1 .1)
 
-put-value-requires : tie.Need-put-value-requires
-put-value-requires c κs =
+put-field-requires-2 : tie.Need-put-field-requires-2
+put-field-requires-2 c κs =
     let at-key = c .before .before .before in
     let start = at-key .before .before .before .before .before .before .before .before .before .before .before .before .before .before .before .before .before .before in
-    omega (arith, at-key .put-key .ensures .most, start .pre .1 .1 .1 .1)
+    omega (arith, at-key .put-field .ensures .most, start .pre .1 .1 .1 .1)
 
 returns : tie.Need-returns
 returns c =
@@ -65,7 +65,7 @@ returns c =
     let judged = rw found at (at-judge .judge-key .ensures) in
     let cut = three-cells (at-end .cell-end .ensures) (at-end2 .cell-end2 .ensures) n in
     let key = three-key (at-end .cell-end .ensures) (at-end2 .cell-end2 .ensures) n in (
-      three-puts _ (a .tag .control) (a .tag .line) judged (p1 .put-key .ensures) (p2 .put-value .ensures) (cells (a .line .now)) cut,
+      three-puts _ (a .tag .control) (a .tag .line) judged (p1 .put-field .ensures) (p2 .put-field2 .ensures) (cells (a .line .now)) cut,
       at-mark .mark .ensures ∙ rw (found, key),
     )
 
@@ -89,8 +89,8 @@ judge-three-spec =
     (λ c. search needs)
     judge-key-requires
     mark-requires
-    put-key-requires
-    put-value-requires
+    put-field-requires
+    put-field-requires-2
     (λ c. search needs)
     (λ c. search needs)
     returns)

@@ -1,6 +1,6 @@
 -- `line_meta_keys::judge_key` meets its contract: each field is the definition at what was found. Assumes nothing.
 use mathlib.Core.Path.{ap, _∙_}
-use mathlib.Core.Bool.{not}
+use mathlib.Core.Bool.{Bool, cond}
 use native.Mathlib.Omega.{arith}
 use borrow.Author.Needs.{needs}
 use Rattle.line_meta_keys.proofs.Laws.Slotting.{inside}
@@ -11,7 +11,7 @@ slot-of-requires : tie.Need-slot-of-requires
 slot-of-requires c κs =
     let f = c .before in
     let start = f .before .before .before .before .before .before in
-    let in-slots = inside _ (f .found .given .1) (start .pre .1 .0) in
+    let in-slots = inside _ (f .found2 .given .1) (start .pre .1 .0) in
     (start .pre .0, (in-slots .0, in-slots .1))
 
 shared-slice-read-both : tie.Need-shared-slice-read-both
@@ -19,10 +19,10 @@ shared-slice-read-both c =
     let at-slot = c .before .before in
     let f = at-slot .before .before in
     let start = f .before .before .before .before .before .before in
-    omega (arith, at-slot .slot-of .ensures, inside _ (f .found .given .1) (start .pre .1 .0) .1, start .pre .1 .1 .1)
+    omega (arith, at-slot .slot-of .ensures, inside _ (f .found2 .given .1) (start .pre .1 .0) .1, start .pre .1 .1 .1)
 
 returns : tie.Need-returns
-returns c = let f = c .enum-told .given .1 in record { known = rw f; again = rw f; wrong = rw f; undeclared = rw f }
+returns c = let f = c .before .before .found .given .1 in record { of-key = rw f (c .flaw-rule .ensures); of-value = rw f }
 
 returns-2 : tie.Need-returns-2
 returns-2 c =
@@ -30,23 +30,21 @@ returns-2 c =
     let at-both = at-value .before in
     let at-colunit = at-both .before .before in
     let at-slot = at-colunit .before in
-    let f = at-slot .before .before .found .given .1 in
-    record {
-      known = rw f;
-      again = rw f (at-both .both .ensures ∙ rw (at-colunit .is-colunit .ensures, at-slot .slot-of .ensures));
-      wrong = rw f (ap not (at-value .judge-value .ensures .good));
-      undeclared = rw f (at-value .judge-value .ensures .undeclared);
-    }
+    let f = at-slot .before .before .found2 .given .1 in
+    let again = rw (at-colunit .is-colunit .ensures, at-slot .slot-of .ensures) at (at-both .both .ensures) in
+    record { of-key = rw f (c .rule-if .ensures ∙ ap (λ (t : Bool). cond t 6 0) again); of-value = rw f (at-value .judge-value .ensures) }
 
 pub judge-key-spec : {M : Type 1} → statement M
 judge-key-spec =
     tie.close
     (tie.spec
     (λ c. search needs)
+    (λ c κs. search needs)
     (λ c. search needs)
     slot-of-requires
     (λ c κs. search needs)
     shared-slice-read-both
+    (λ c κs. search needs)
     (λ c κs. search needs)
     (λ c κs. search needs)
     returns

@@ -6,11 +6,12 @@ use mathlib.Core.List.{List, [], _∷_, map}
 use native.Mathlib.Omega.{arith}
 use lib.Dec.{leb}
 use borrow.Author.Tests.{le-leb, leb-true, ne-eqb}
-use Rattle.text_bytes.specs.Bytes.{Bytes, any, all, splitOn, COMMA}
-use Rattle.value_references.specs.References.{refTo, spaced, refsTo, isIndex, isReferences}
+use Rattle.text_bytes.specs.Bytes.{Bytes, any, all}
+use Rattle.value_references.specs.References.{refTo, refFlaw, refParts, refsTo, isIndex, isReferences, refsFlaw}
+use Rattle.value_references.specs.declared.index.Flaw.the-variants.{Form}
 use Rattle.value_references.proofs.Laws.Names.{ref-le}
 use Rattle.book.specs.Letters.{REFERENCE, REFERENCES}
-use Rattle.book_kinds.specs.Kinds.{wordOf, ofKind}
+use Rattle.book_kinds.specs.Kinds.{wordOf, ofKind, kindFlaw}
 use Rattle.text_bytes.proofs.Laws.Tests.{absurd-bool, and-left, and-right}
 use Rattle.rules.specs.Rules.{namedIn}
 
@@ -35,6 +36,18 @@ module _ (k f : ℕ) (v : Bytes) where
   pub none-named : (k ≡ REFERENCE → ⊥) → (k ≡ REFERENCES → ⊥) → namedIn k f v ≡ []
   unfolding namedIn
   none-named r s = rw (ne-eqb k 114 r, ne-eqb k 108 s)
+
+  pub one-flawed : k ≡ REFERENCE → kindFlaw k f v ≡ refFlaw (wordOf f) v
+  unfolding kindFlaw
+  one-flawed e = rw e
+
+  pub list-flawed : k ≡ REFERENCES → kindFlaw k f v ≡ refsFlaw (wordOf f) v
+  unfolding kindFlaw
+  list-flawed e = rw e
+
+  pub none-flawed : (k ≡ REFERENCE → ⊥) → (k ≡ REFERENCES → ⊥) → kindFlaw k f v ≡ Form
+  unfolding kindFlaw
+  none-flawed r s = rw (ne-eqb k 114 r, ne-eqb k 108 s)
 
 -- INDICES
 
@@ -63,7 +76,7 @@ each-high w (p ∷ ps) h = rw (ref-high w p (and-left (isIndex (refTo w p)) _ h)
 -- those of a list of references
 pub refs-high : (w b : Bytes) → isReferences w b ≡ true → all isHigh (refsTo w b) ≡ true
 unfolding isReferences refsTo
-refs-high w b h = each-high w (spaced (splitOn COMMA b)) h
+refs-high w b h = each-high w (refParts b) h
 
 -- two tests that agree on every index
 pub any-high : (p q : ℕ → Bool) → ((i : ℕ) → 1 ≤ i → i ≤ 64 → p i ≡ q i) → (is : List ℕ) → all isHigh is ≡ true → any p is ≡ any q is

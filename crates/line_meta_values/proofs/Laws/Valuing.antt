@@ -1,7 +1,7 @@
 -- What is found of a value: by its kind, and for a list of references by the indices that it names, one after the other. Assumes nothing.
 use Prim.Native.Nat.{ℕ, _+_, _<_}
 use mathlib.Core.Path.{_≡_, refl, sym, ap, _∙_}
-use mathlib.Core.Bool.{Bool, true, false, not, _&&_, _||_, and-false, or-false, or-true}
+use mathlib.Core.Bool.{Bool, true, false, cond, not, _&&_, _||_, and-false, or-false, or-true}
 use mathlib.Core.List.{List, [], _∷_}
 use native.Mathlib.Omega.{arith}
 use lib.Dec.{eqb, leb}
@@ -10,26 +10,28 @@ use Rattle.text_bytes.specs.Bytes.{Bytes, any, all}
 use Rattle.value_references.specs.References.{refTo}
 use Rattle.text_bytes.proofs.Laws.Tests.{and-left, and-right}
 use Rattle.book.specs.Letters.{REFERENCE, REFERENCES}
-use Rattle.book_kinds.specs.Kinds.{familyNumber, wordOf, ofKind}
+use Rattle.book_kinds.specs.Kinds.{familyNumber, wordOf, ofKind, kindFlaw}
 use Rattle.rules.specs.Rules.{namedIn}
-use Rattle.scan.specs.Machine.{Ids}
+use Rattle.scan.specs.Machine.{flawRule, Ids, kindRule}
 use Rattle.scan.proofs.Laws.Rowing.{test-eq}
-use Rattle.line_meta_values.specs.Values.{Valued}
-use Rattle.line_meta_values.proofs.Laws.Referring.{one-named, none-named, isHigh, high-most, any-high}
+use Rattle.line_meta_values.proofs.Laws.Referring.{one-named, none-named, none-flawed, isHigh, high-most, any-high}
 
 -- BY KIND
 module _ (ids : Ids) (k f : ℕ) (v : Bytes) where
-  pub valued-wrong : ofKind k f v ≡ false → Valued ids k f v (record { good = false; undeclared = false })
-  valued-wrong h = record { good = sym h; undeclared = rw h }
+  pub rule-wrong : ofKind k f v ≡ false → kindRule ids k f v ≡ flawRule (kindFlaw k f v) 7
+  rule-wrong h = rw h
 
-  pub valued-good : (b : Bool) → ofKind k f v ≡ true → b ≡ any (λ i. not (ids (familyNumber f) i)) (namedIn k f v)
-      → Valued ids k f v (record { good = true; undeclared = b })
-  valued-good b h e = record { good = sym h; undeclared = rw h e }
+  pub rule-good : (b : Bool) → ofKind k f v ≡ true → b ≡ any (λ i. not (ids (familyNumber f) i)) (namedIn k f v) → kindRule ids k f v ≡ cond b 8 0
+  rule-good b h e = rw (h, ← e)
 
   -- a value that names no id
-  pub valued-plain : (b : Bool) → (k ≡ REFERENCE → ⊥) → (k ≡ REFERENCES → ⊥) → b ≡ ofKind k f v → Valued ids k f v (record { good = b; undeclared = false })
+  pub rule-plain : (b : Bool) → (k ≡ REFERENCE → ⊥) → (k ≡ REFERENCES → ⊥) → b ≡ ofKind k f v → _≡_ {A = ℕ} (cond (not b) 7 0) (kindRule ids k f v)
   unfolding any
-  valued-plain b r s h = record { good = h; undeclared = rw (none-named k f v r s) (sym (and-false (ofKind k f v))) }
+  rule-plain b r s h = rw (← h, none-named k f v r s, none-flawed k f v r s) (go b)
+    where
+      go : (t : Bool) → _≡_ {A = ℕ} (cond (not t) 7 0) (cond t 0 7)
+      go true = refl
+      go false = refl
 
   -- one that names one
   pub one-any : (p : ℕ → Bool) → k ≡ REFERENCE → any p (namedIn k f v) ≡ p (refTo (wordOf f) v)

@@ -10,9 +10,10 @@ use lib.Dec.{eqb}
 use Rattle.text_bytes.specs.Bytes.{any, all}
 use Rattle.value_references.specs.References.{refsTo, isReferences}
 use Rattle.book_kinds.specs.Kinds.{familyNumber, wordOf}
-use Rattle.scan.specs.Machine.{idsOf}
-use Rattle.line_meta_values.proofs.Laws.Referring.{list-good, list-named, isHigh, refs-high}
-use Rattle.line_meta_values.proofs.Laws.Valuing.{valued-wrong, valued-good, Left, left-start, left-next, left-hit, left-end}
+use Rattle.scan.specs.Machine.{flawRule, idsOf}
+use Rattle.value_references.specs.declared.index.Flaw.{Flaw}
+use Rattle.line_meta_values.proofs.Laws.Referring.{list-good, list-named, list-flawed, isHigh, refs-high}
+use Rattle.line_meta_values.proofs.Laws.Valuing.{rule-wrong, rule-good, Left, left-start, left-next, left-hit, left-end}
 use Rattle.line_meta_values.proofs.judge_references.Statement.{statement}
 use Rattle.line_meta_values.proofs.judge_references.Tie as tie
 
@@ -25,9 +26,12 @@ abbrev μ-loop : tie.MeasureT-loop
 
 returns : tie.Need-returns Inv-loop μ-loop
 returns c =
-    let at-refs = c .before .before in
+    let at-refs = c .before .before .before in
     let a = at-refs .before .before .args in
-    valued-wrong (idsOf (a .flags .now)) 108 (a .family) (a .value .now) (list-good 108 (a .family) (a .value .now) refl ∙ sym (at-refs .references-to .ensures .good) ∙ not-true _ (c .if1 .taken))
+    let told = at-refs .references-to .ensures in
+    let bad = list-good 108 (a .family) (a .value .now) refl ∙ sym (told .good) ∙ not-true _ (c .before .if1 .taken) in
+    let why = told .flaw ∙ sym (list-flawed 108 (a .family) (a .value .now) refl) in
+    c .flaw-rule .ensures ∙ ap (λ (z : Flaw). flawRule z 7) why ∙ sym (rule-wrong (idsOf (a .flags .now)) 108 (a .family) (a .value .now) bad)
 
 -- before the loop: the indices that the list names, and that it is a list of references
 abbrev refs : tie.After-named Inv-loop μ-loop → List ℕ
@@ -68,9 +72,9 @@ returns-2 c =
     let l = c .before .before .before .before in
     let n = l .before in
     let a = n .before .before .before .before .before .before .args in
-    valued-good (idsOf (a .flags .now)) 108 (a .family) (a .value .now) true
+    sym (rule-good (idsOf (a .flags .now)) 108 (a .family) (a .value .now) true
     (list-good 108 (a .family) (a .value .now) refl ∙ good n)
-    (left-hit (lacks n) (l .loop .i) (refs n) (sym (tested (c .before)) ∙ c .if2 .taken) (l .loop .inv .2) ∙ ap (any (lacks n)) (sym (list-named 108 (a .family) (a .value .now) refl)))
+    (left-hit (lacks n) (l .loop .i) (refs n) (sym (tested (c .before)) ∙ c .if2 .taken) (l .loop .inv .2) ∙ ap (any (lacks n)) (sym (list-named 108 (a .family) (a .value .now) refl))))
 
 loop-again : tie.Need-loop-again Inv-loop μ-loop
 loop-again c =
@@ -83,9 +87,9 @@ returns-3 c =
     let l = c .before in
     let n = l .before in
     let a = n .before .before .before .before .before .before .args in
-    valued-good (idsOf (a .flags .now)) 108 (a .family) (a .value .now) false
+    sym (rule-good (idsOf (a .flags .now)) 108 (a .family) (a .value .now) false
     (list-good 108 (a .family) (a .value .now) refl ∙ good n)
-    (left-end (lacks n) (l .loop .i) (refs n) (c .loop-test .left) (high n) (l .loop .inv .2) ∙ ap (any (lacks n)) (sym (list-named 108 (a .family) (a .value .now) refl)))
+    (left-end (lacks n) (l .loop .i) (refs n) (c .loop-test .left) (high n) (l .loop .inv .2) ∙ ap (any (lacks n)) (sym (list-named 108 (a .family) (a .value .now) refl))))
 
 pub judge-references-spec : {M : Type 1} → statement M
 judge-references-spec =
@@ -93,6 +97,7 @@ judge-references-spec =
     (tie.spec
     Inv-loop
     μ-loop
+    (λ c κs. search needs)
     (λ c κs. search needs)
     returns
     (λ c κs. search needs)

@@ -1,6 +1,6 @@
 -- What a scan carries along means: the breaks that it puts of a line are those that the rules give. Assumes nothing.
 use mathlib.Core.Path.{_≡_, refl, sym, ap, _∙_}
-use mathlib.Core.Bool.{Bool, true, false, not, _&&_}
+use mathlib.Core.Bool.{Bool, true, false, cond, not, _&&_, and-false}
 use mathlib.Core.List.{List, [], _∷_, _++_}
 use Prim.Native.Nat.{ℕ, suc, _+_, _-_, _≤_, _<_}
 use native.Mathlib.Omega.{arith}
@@ -9,19 +9,26 @@ use lib.Seq.{getD-drop}
 use lib.ListN.{length, drop, getD, length-drop}
 use borrow.Author.Tests.{ne-eqb, le-leb, lt-ltb, le-ltb, leb-true, leb-false, eqb-true}
 use Rattle.text_bytes.specs.Bytes.{Bytes, any}
-use Rattle.text.specs.Lines.{cells, cell, width, isThree}
+use Rattle.text.specs.Lines.{cells, cell, width, isThree, isField}
 use Rattle.text_bytes.proofs.Laws.Tests.{and-both}
 use Rattle.book.specs.Keys.{isColunit}
-use Rattle.book_names.specs.Names.{isKnown}
+use Rattle.value_references.specs.Index.{isForm, isZero, isOver}
+use Rattle.value_references.specs.declared.index.Flaw.{Flaw}
+use Rattle.value_references.specs.declared.index.Flaw.the-variants.{Form, Zero, Over}
+use Rattle.book_names.specs.Names.{isKnown, isStrange, whyNot}
+use Rattle.book_names.specs.declared.Found.{Found}
+use Rattle.book_names.specs.declared.Found.the-variants.{Unknown, Known}
+use Rattle.book_kinds.specs.Kinds.{familyNumber, ofKind, kindFlaw}
+use Rattle.book_kinds.proofs.Laws.Letters.{good-none}
 use Rattle.book_facts.specs.Asked.{askedOf}
 use Rattle.rules.specs.Sorts.{sortOf, header, isTable, controlCell}
 use Rattle.rules.specs.Breaks.{Break, breakAt, when, Spot, spot, Rule, atCell, atLine}
-use Rattle.rules.specs.Rules.{keyFound, sameKey, namesUndeclared, ofSection, ofLater, isWide, names, columnUndeclared, lacksColumn, nearest, kindIn, rules}
-use Rattle.scan.specs.Machine.{controlAt, Ids, Asked, againIn, undeclaredIn, metaCell, metaBreaks, columnIn, headCell, headBreaks, Kinds, rowCell, rowBreaks, unknownBreaks}
+use Rattle.rules.specs.Rules.{keyFound, sameKey, valueFlaw, isWrong, namedIn, namesUndeclared, ofSection, ofLater, isWide, names, columnUndeclared, lacksColumn, nearest, kindIn, flawAt, rules}
+use Rattle.scan.specs.Machine.{controlAt, some, flawRule, Ids, Asked, againIn, undeclaredIn, keyRule, valueRule, fieldRule, metaCell, metaBreaks, columnIn, nameRule, headCell, headBreaks, Kinds, rowCell, rowBreaks, unknownBreaks}
 use Rattle.rules.specs.declared.sorts.Sort.the-variants.{Silent, Unknown, Meta, Header, Row}
 use Rattle.rules.proofs.Laws.Sorting.{silent-sort, meta-sort, header-section, row-section}
 use Rattle.scan.proofs.Laws.Rowing.{Says, line-cells, plainCell, plain-rest}
-use Rattle.book.specs.Book.{Book, columnOf}
+use Rattle.book.specs.Book.{Book, keyOf, columnOf}
 use Rattle.book.proofs.Laws.Sized.{Sized}
 
 module _ (book : Book) (sized : Sized book) where
@@ -62,6 +69,75 @@ module _ (book : Book) (sized : Sized book) where
       let got = k w (j - 1) (omega (arith, length-drop 1 (cells l₀))) in
       ap (λ (x : Bytes). kindIn (columnOf book (header book l₀) x)) (ap (λ (i : ℕ). getD (cells l₀) i []) (sym q) ∙ sym (getD-drop 1 (cells l₀) (j - 1) [])) ∙ sym got ∙ ap (λ (i : ℕ). getD kinds i 0) p
 
+  -- ONE RULE AT MOST of those that stop each other
+
+  -- of a key and its value: 5 to 8, 23 and 24
+  module _ (slots : List Bool) (ids : Ids) (key value : Bytes) (n c : ℕ) (rest : List Break) where
+    abbrev bad : Flaw → List Break
+    bad z = when (isZero z) (breakAt n c 23) (when (isOver z) (breakAt n c 24) rest)
+
+    -- the value, by whether it is of its kind, names an undeclared id, and has a flaw
+    of-value : (good undeclared : Bool) (z : Flaw) → (good ≡ true → z ≡ Form)
+        → when (not good && isForm z) (breakAt n c 7) (when (good && undeclared) (breakAt n c 8) (bad z)) ≡ some (cond good (cond undeclared 8 0) (flawRule z 7)) n c rest
+    of-value true undeclared z h = rw (h refl) (go undeclared)
+      where
+        go : (t : Bool) → when t (breakAt n c 8) rest ≡ some (cond t 8 0) n c rest
+        go true = refl
+        go false = refl
+    of-value false undeclared Form h = refl
+    of-value false undeclared Zero h = refl
+    of-value false undeclared Over h = refl
+
+    of-key : (found : Found) → when (isStrange found) (breakAt n c 5) (when (againIn book slots key found) (breakAt n c 6) (bad (whyNot found))) ≡ some (keyRule (againIn book slots key found) found) n c rest
+    of-key (Unknown Form) = refl
+    of-key (Unknown Zero) = refl
+    of-key (Unknown Over) = refl
+    of-key (Known e k f i j) = go (againIn book slots key (Known e k f i j))
+      where
+        go : (t : Bool) → when t (breakAt n c 6) rest ≡ some (cond t 6 0) n c rest
+        go true = refl
+        go false = refl
+
+    at-value : (found : Found) → when (isWrong found value) (breakAt n c 7) (when (undeclaredIn ids found value) (breakAt n c 8) (bad (valueFlaw found value))) ≡ some (valueRule ids found value) n c rest
+    at-value (Unknown w) = refl
+    at-value (Known e k f i j) = of-value (ofKind k f value) (any (λ i. not (ids (familyNumber f) i)) (namedIn k f value)) (kindFlaw k f value) (good-none k f value)
+
+    abbrev found : Found
+    found = keyOf book key
+
+    field-rules :
+        when (eqb c 2 && isStrange found) (breakAt n c 5)
+        (when (eqb c 2 && againIn book slots key found) (breakAt n c 6)
+        (when (eqb c 3 && isWrong found value) (breakAt n c 7)
+        (when (eqb c 3 && undeclaredIn ids found value) (breakAt n c 8)
+        (bad (cond (eqb c 2) (whyNot found) (cond (eqb c 3) (valueFlaw found value) Form))))))
+        ≡ some (fieldRule book slots ids key value c) n c rest
+    field-rules = go (eqb c 2) (eqb c 3) refl refl
+      where
+        go : (u v : Bool) → eqb c 2 ≡ u → eqb c 3 ≡ v →
+            when (u && isStrange found) (breakAt n c 5)
+            (when (u && againIn book slots key found) (breakAt n c 6)
+            (when (v && isWrong found value) (breakAt n c 7)
+            (when (v && undeclaredIn ids found value) (breakAt n c 8)
+            (bad (cond u (whyNot found) (cond v (valueFlaw found value) Form))))))
+            ≡ some (cond u (keyRule (againIn book slots key found) found) (cond v (valueRule ids found value) 0)) n c rest
+        go true true a b = absurd (omega (arith, eqb-true c 2 a, eqb-true c 3 b))
+        go true false a b = of-key found
+        go false true a b = at-value found
+        go false false a b = refl
+
+  -- of a column name: 15, 23 and 24
+  name-rules : (ids : Ids) (found : Found) (n c : ℕ) (rest : List Break)
+      → when (columnIn ids found) (breakAt n c 15) (when (isZero (whyNot found)) (breakAt n c 23) (when (isOver (whyNot found)) (breakAt n c 24) rest)) ≡ some (nameRule ids found) n c rest
+  name-rules ids (Unknown Form) n c rest = refl
+  name-rules ids (Unknown Zero) n c rest = refl
+  name-rules ids (Unknown Over) n c rest = refl
+  name-rules ids (Known e k f i j) n c rest = go (columnIn ids (Known e k f i j))
+    where
+      go : (t : Bool) → when t (breakAt n c 15) rest ≡ some (cond t 15 0) n c rest
+      go true = refl
+      go false = refl
+
   -- THE CELLS OF A LINE, BY ITS SORT
 
   module _ (above file : List Bytes) (l : Bytes) (n : ℕ) where
@@ -77,21 +153,21 @@ module _ (book : Book) (sized : Sized book) where
 
     -- an unknown code: rule 1, and at cell 1 rule 2
     unknown-first : sortOf book l ≡ Unknown → (rest : List Break) → atCell (rules book) p n 1 ++ rest ≡ controlAt cc n 1 (when true (breakAt n 1 2) rest)
-    unfolding rules atRest
+    unfolding rules atRest flawAt isField
     unknown-first e rest = at-rest (rules book) p n 1 rest ∙ rw (meta-sort book l, e)
 
     unknown-later : sortOf book l ≡ Unknown → Says (atCell (rules book) p n) (plainCell cc n) (cells l) 1
-    unfolding rules atRest plainCell
+    unfolding rules atRest flawAt isField plainCell
     unknown-later e j a b rest = at-rest (rules book) p n (suc j) rest ∙ rw (meta-sort book l, e, later j a .0, later j a .1)
 
     -- a metadata line
     module _ (e : sortOf book l ≡ Meta) where
       meta-first : (table : Bool) → table ≡ any (isTable book) above → (rest : List Break) → atCell (rules book) p n 1 ++ rest ≡ controlAt cc n 1 (when (not (eqb (width l) 3)) (breakAt n 1 3) (when table (breakAt n 1 4) rest))
-      unfolding rules atRest
-      meta-first table ta rest = at-rest (rules book) p n 1 rest ∙ rw (meta-sort book l, e, ta)
+      unfolding rules atRest flawAt isField
+      meta-first table ta rest = at-rest (rules book) p n 1 rest ∙ rw (meta-sort book l, e, ta, and-false (isThree l))
 
       meta-plain : isThree l ≡ false → Says (atCell (rules book) p n) (plainCell cc n) (cells l) 1
-      unfolding rules atRest plainCell
+      unfolding rules atRest flawAt isField plainCell
       meta-plain t j a b rest = at-rest (rules book) p n (suc j) rest ∙ rw (meta-sort book l, e, later j a .0, later j a .1, t) (go (eqb (suc j) 2) (eqb (suc j) 3))
         where
           go : (u v : Bool) → controlAt cc n (suc j) (when (u && false) (breakAt n (suc j) 5) (when (u && false) (breakAt n (suc j) 6) (when (v && false) (breakAt n (suc j) 7) (when (v && false) (breakAt n (suc j) 8) rest)))) ≡ controlAt cc n (suc j) rest
@@ -104,36 +180,39 @@ module _ (book : Book) (sized : Sized book) where
           → (isKnown (keyFound book l) && (not (isColunit (cell 2 l)) && any (sameKey l) above)) ≡ againIn book slots (cell 2 l) (keyFound book l)
           → namesUndeclared book file (keyFound book l) (cell 3 l) ≡ undeclaredIn ids (keyFound book l) (cell 3 l)
           → Says (atCell (rules book) p n) (metaCell book slots ids (getD (cells l) 1 []) (getD (cells l) 2 []) cc n) (cells l) 1
-      unfolding rules atRest
-      meta-cells t slots ids ag un j a b rest = at-rest (rules book) p n (suc j) rest ∙ rw (meta-sort book l, e, later j a .0, later j a .1, t, ag, un, cell-suc 1 l, cell-suc 2 l)
+      unfolding rules atRest flawAt isField
+      meta-cells t slots ids ag un j a b rest =
+          at-rest (rules book) p n (suc j) rest
+          ∙ rw (meta-sort book l, e, later j a .0, later j a .1, t, ag, un, cell-suc 1 l, cell-suc 2 l) (ap (controlAt cc n (suc j)) (field-rules slots ids (getD (cells l) 1 []) (getD (cells l) 2 []) n (suc j) rest))
 
     -- a header
     module _ (h : ℕ) (e : sortOf book l ≡ Header h) where
       header-first : (asked : Asked) (again after : Bool) → lacksColumn book asked h (names l) ≡ lacksColumn book (askedOf book file) h (names l) → again ≡ any (ofSection book h) above → after ≡ any (ofLater book h) above
           → (rest : List Break) → atCell (rules book) p n 1 ++ rest
           ≡ controlAt cc n 1 (when again (breakAt n 1 9) (when after (breakAt n 1 10) (when (isWide l) (breakAt n 1 11) (when (not (isWide l) && lacksColumn book asked h (names l)) (breakAt n 1 16) rest))))
-      unfolding rules atRest
+      unfolding rules atRest flawAt isField
       header-first asked again after q a b rest = at-rest (rules book) p n 1 rest ∙ rw (meta-sort book l, e, lt-ltb 0 h (header-section book sized l h e .0), a, b, q)
 
       header-wide : isWide l ≡ true → Says (atCell (rules book) p n) (plainCell cc n) (cells l) 1
-      unfolding rules atRest plainCell
+      unfolding rules atRest flawAt isField plainCell
       header-wide w j a b rest = at-rest (rules book) p n (suc j) rest ∙ rw (meta-sort book l, e, later j a .0, later j a .1, lt-ltb 0 h (header-section book sized l h e .0), w)
 
       header-later : (ids : Ids) → ((x : Bytes) → columnUndeclared book file (columnOf book h x) ≡ columnIn ids (columnOf book h x)) → isWide l ≡ false
           → Says (atCell (rules book) p n) (headCell book h (drop 1 (cells l)) ids cc n) (cells l) 1
-      unfolding rules atRest
+      unfolding rules atRest flawAt isField
       header-later ids d w j a b rest =
-          at-rest (rules book) p n (suc j) rest ∙ rw (meta-sort book l, e, later j a .0, later j a .1, lt-ltb 0 h (header-section book sized l h e .0), w, cell-suc j l, d (getD (cells l) j []))
+          at-rest (rules book) p n (suc j) rest
+          ∙ rw (meta-sort book l, e, later j a .0, later j a .1, lt-ltb 0 h (header-section book sized l h e .0), w, cell-suc j l, d (getD (cells l) j []), name-rules ids (columnOf book h (getD (cells l) j [])) n (suc j) rest)
 
     -- a row; the nearest header is of the section hs and has w cells
     module _ (r : ℕ) (e : sortOf book l ≡ Row r) (hs w : ℕ) (kinds : List ℕ) (eh : hs ≡ header book (nearest book above)) (ew : w ≡ width (nearest book above)) (ek : Kinds book (nearest book above) kinds) where
       row-first : (rest : List Break) → atCell (rules book) p n 1 ++ rest
           ≡ controlAt cc n 1 (when (not (eqb hs r)) (breakAt n 1 17) (when ((eqb hs r && leb w 256) && not (eqb (width l) w)) (breakAt n 1 18) rest))
-      unfolding rules atRest
+      unfolding rules atRest flawAt isField
       row-first rest = at-rest (rules book) p n 1 rest ∙ rw (meta-sort book l, e, lt-ltb 0 r (row-section book sized l r e .0), eh, ew, ← not-over (length (cells (nearest book above))))
 
       row-plain : ((eqb hs r && leb w 256) && eqb (width l) w) ≡ false → Says (atCell (rules book) p n) (plainCell cc n) (cells l) 1
-      unfolding rules atRest plainCell
+      unfolding rules atRest flawAt isField plainCell
       row-plain f j a b rest =
           at-rest (rules book) p n (suc j) rest
           ∙ rw (meta-sort book l, e, later j a .0, later j a .1, lt-ltb 0 r (row-section book sized l r e .0), not-over (length (cells (nearest book above))), ← eh, ← ew, f)
@@ -154,7 +233,7 @@ module _ (book : Book) (sized : Sized book) where
           ∙ kind-at (nearest book above) kinds j a (omega (arith, row-even f, ew)) (omega (arith, row-low f, ew)) ek
 
       row-under : ((eqb hs r && leb w 256) && eqb (width l) w) ≡ true → Says (atCell (rules book) p n) (rowCell kinds cc n) (cells l) 1
-      unfolding rules atRest
+      unfolding rules atRest flawAt isField
       row-under f j a b rest =
           at-rest (rules book) p n (suc j) rest
           ∙ rw (

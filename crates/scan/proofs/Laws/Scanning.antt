@@ -41,7 +41,7 @@ at-bound (r ∷ rs) p n c = go (r .broken p c) (at-bound rs p n c)
 
 -- the number of the rules of a line
 RULES : ℕ
-RULES = 20
+RULES = 22
 
 each-bound : (m left c : ℕ) (f : ℕ → List Break) → ((i : ℕ) → length (f i) ≤ m) → length (each left c f) ≤ m * left
 unfolding each
@@ -54,10 +54,10 @@ line-bound : (book : Book) (p : Spot) (n : ℕ) → length (atLine (rules book) 
 unfolding atLine rules RULES
 line-bound book p n = go (isSilent (p .here))
   where
-    all : length (each (width (p .here)) 1 (atCell (rules book) p n)) ≤ 20 * width (p .here)
-    all = each-bound 20 (width (p .here)) 1 (atCell (rules book) p n) (at-bound (rules book) p n)
+    all : length (each (width (p .here)) 1 (atCell (rules book) p n)) ≤ 22 * width (p .here)
+    all = each-bound 22 (width (p .here)) 1 (atCell (rules book) p n) (at-bound (rules book) p n)
 
-    go : (t : Bool) → length (cond t [] (each (width (p .here)) 1 (atCell (rules book) p n))) ≤ 20 * width (p .here)
+    go : (t : Bool) → length (cond t [] (each (width (p .here)) 1 (atCell (rules book) p n))) ≤ 22 * width (p .here)
     go true = omega arith
     go false = all
 
@@ -112,7 +112,7 @@ module _ (book : Book) (F : List Bytes) (n : ℕ) {l : Bytes} {ls : List Bytes} 
       let z : suc n - 1 ≡ n = omega arith in
       rw (lines-more, z, line-here)
 
-from-bound : (book : Book) (F : List Bytes) (ls : List Bytes) (n : ℕ) → drop n F ≡ ls → length (from book F n) ≤ 20 * widths ls
+from-bound : (book : Book) (F : List Bytes) (ls : List Bytes) (n : ℕ) → drop n F ≡ ls → length (from book F n) ≤ 22 * widths ls
 unfolding widths each RULES
 from-bound book F [] n e = let z : length F - n ≡ 0 = omega (arith, length-drop n F, ap length e) in rw z (omega arith)
 from-bound book F (l ∷ ls) n e =

@@ -11,85 +11,119 @@ use lib.Seq.{drop-append-seam, getD-set-same, getD-set-other}
 use Rattle.text_bytes.specs.Bytes.{begins, any, all, onFirst, splitOn, isSpace}
 use Rattle.text_bytes.specs.Places.{part, Ends}
 use Rattle.text_bytes.proofs.Laws.Begins.{begins-is, begins-self}
+use Rattle.text_bytes.proofs.Laws.Tests.{absurd-bool, and-left, and-right}
 use Rattle.text_bytes.proofs.Laws.Pieces.{drop-step, piece-cut, piece-last}
-use Rattle.value_references.specs.Index.{written, indexAt}
-use Rattle.value_references.specs.References.{alone, refTo, trimmed, spaced, refsTo, isIndex, isReferences, refersTo, Tells}
+use Rattle.value_references.specs.Index.{written, indexAt, isRead, indexIn, flawIn, sooner}
+use Rattle.value_references.specs.References.{alone, refIn, refTo, refFlaw, trimmed, spaced, refParts, refsTo, isIndex, isReferences, isLike, flawAmong, refsFlaw, refersTo, Tells}
 use Rattle.value_references.specs.declared.index.Index.{Index}
 use Rattle.value_references.specs.declared.index.Flaw.{Flaw}
+use Rattle.value_references.specs.declared.index.Flaw.the-variants.{Form}
 use Rattle.value_references.specs.declared.index.Index.the-variants.{Not, Bad, Is}
 use Rattle.text_bytes.proofs.Laws.Each.{to-end, split-some}
 use Rattle.value_references.proofs.Laws.Indices.{index-read, index-written}
+use Rattle.value_references.proofs.Laws.Firsts.{sooner-none, sooner-again}
 
 -- ONE REFERENCE
 
 module _ (w b : List ℕ) where
-  pub ref-none : begins w b ≡ false → refTo w b ≡ 0
-  unfolding refTo
+  pub ref-none : begins w b ≡ false → refIn w b ≡ Not
+  unfolding refIn
   ref-none h = rw h
 
   module _ (h : begins w b ≡ true) (o : Index) (e : o ≡ indexAt (take (length b - length w) (drop (length w) b))) where
-    rest-is : refTo w b ≡ alone o (length (take (length b - length w) (drop (length w) b)))
-    unfolding refTo
+    rest-is : refIn w b ≡ alone o (length (take (length b - length w) (drop (length w) b)))
+    unfolding refIn
     rest-is = rw (h, e, to-end b (length w))
 
-    pub ref-not : o ≡ Not → refTo w b ≡ 0
+    pub ref-not : o ≡ Not → refIn w b ≡ Not
     ref-not n = rest-is ∙ rw n
 
-    pub ref-bad : (z : Flaw) (v : ℕ) → o ≡ Bad z v → refTo w b ≡ 0
-    ref-bad z v n = rest-is ∙ rw n
+    -- an index of v bytes, good or bad: it is all that follows, or more does
+    module _ (x : Index) (v : ℕ) (width : (n : ℕ) → alone x n ≡ cond (eqb v n) x Not) (n : o ≡ x) where
+      pub ref-all : v ≡ length (take (length b - length w) (drop (length w) b)) → refIn w b ≡ x
+      ref-all q = rest-is ∙ rw (n, width _, eq-eqb v _ q)
 
-    pub ref-is : (i v : ℕ) → o ≡ Is i v → v ≡ length (take (length b - length w) (drop (length w) b)) → refTo w b ≡ i
-    ref-is i v n q = rest-is ∙ rw (n, eq-eqb v _ q)
+      pub ref-more : (v ≡ length (take (length b - length w) (drop (length w) b)) → ⊥) → refIn w b ≡ Not
+      ref-more q = rest-is ∙ rw (n, width _, ne-eqb v _ q)
 
-    pub ref-more : (i v : ℕ) → o ≡ Is i v → (v ≡ length (take (length b - length w) (drop (length w) b)) → ⊥) → refTo w b ≡ 0
-    ref-more i v n q = rest-is ∙ rw (n, ne-eqb v _ q)
-
-alone-le : (s : List ℕ) (n : ℕ) (o : Index) → indexAt s ≡ o → alone o n ≤ 64
+alone-le : (s : List ℕ) (n : ℕ) (o : Index) → indexAt s ≡ o → indexIn (alone o n) ≤ 64
 alone-le s n Not e = omega arith
-alone-le s n (Bad z w) e = omega arith
+alone-le s n (Bad z w) e = go (eqb w n)
+  where
+    go : (t : Bool) → indexIn (cond t (Bad z w) Not) ≤ 64
+    go true = omega arith
+    go false = omega arith
 alone-le s n (Is i v) e = go (eqb v n)
   where
-    go : (t : Bool) → cond t i 0 ≤ 64
+    go : (t : Bool) → indexIn (cond t (Is i v) Not) ≤ 64
     go true = index-read s i v e .high
     go false = omega arith
 
 pub ref-le : (w b : List ℕ) → refTo w b ≤ 64
-unfolding refTo
+unfolding refTo refIn
 ref-le w b = go (begins w b)
   where
-    go : (t : Bool) → cond t (alone (indexAt (drop (length w) b)) (length (drop (length w) b))) 0 ≤ 64
+    go : (t : Bool) → indexIn (cond t (alone (indexAt (drop (length w) b)) (length (drop (length w) b))) Not) ≤ 64
     go true = alone-le (drop (length w) b) (length (drop (length w) b)) (indexAt (drop (length w) b)) refl
     go false = omega arith
 
 -- A REFERENCE IS THE WORD AND THE INDEX AS IT IS WRITTEN, and the other way round
 
-alone-read : (r : List ℕ) (i : ℕ) (o : Index) → indexAt r ≡ o → alone o (length r) ≡ i → 1 ≤ i → r ≡ written i
+alone-read : (r : List ℕ) (i : ℕ) (o : Index) → indexAt r ≡ o → indexIn (alone o (length r)) ≡ i → 1 ≤ i → r ≡ written i
 alone-read r i Not e a h = absurd (omega arith)
-alone-read r i (Bad z w) e a h = absurd (omega arith)
+alone-read r i (Bad z w) e a h = go (eqb w (length r)) a
+  where
+    go : (t : Bool) → indexIn (cond t (Bad z w) Not) ≡ i → r ≡ written i
+    go true q = absurd (omega arith)
+    go false q = absurd (omega arith)
 alone-read r i (Is v u) e a h = go (eqb u (length r)) refl a
   where
-    go : (t : Bool) → eqb u (length r) ≡ t → cond t v 0 ≡ i → r ≡ written i
+    go : (t : Bool) → eqb u (length r) ≡ t → indexIn (cond t (Is v u) Not) ≡ i → r ≡ written i
     go true q z =
         let n : drop u r ≡ [] = drop-of-length-le r {i = u} (omega (arith, eqb-true u (length r) q)) in
         index-read r v u e .text ∙ rw (n, z) (append-nil (written i))
     go false q z = absurd (omega arith)
 
 pub ref-read : (w b : List ℕ) (i : ℕ) → refTo w b ≡ i → 1 ≤ i → b ≡ w ++ written i
-unfolding refTo
+unfolding refTo refIn
 ref-read w b i e h = go (begins w b) refl e
   where
     rest : List ℕ
     rest = drop (length w) b
 
-    go : (t : Bool) → begins w b ≡ t → cond t (alone (indexAt rest) (length rest)) 0 ≡ i → b ≡ w ++ written i
+    go : (t : Bool) → begins w b ≡ t → indexIn (cond t (alone (indexAt rest) (length rest)) Not) ≡ i → b ≡ w ++ written i
     go true q z = begins-is w b q ∙ ap (λ (x : List ℕ). w ++ x) (alone-read rest i (indexAt rest) refl z h)
     go false q z = absurd (omega arith)
 
 pub ref-written : (w : List ℕ) (i : ℕ) → 1 ≤ i → i ≤ 64 → refTo w (w ++ written i) ≡ i
-unfolding refTo
+unfolding refTo refIn
 ref-written w i lo hi =
     let n : indexAt (written i) ≡ Is i (length (written i)) = ap indexAt (sym (append-nil (written i))) ∙ index-written i [] lo hi in
     rw (begins-self w (written i), drop-append-seam w (written i), n, eq-eqb (length (written i)) (length (written i)) refl)
+
+-- A GOOD ONE HAS NO FLAW
+
+good-flaw : (x : Index) → isIndex (indexIn x) ≡ true → flawIn x ≡ Form
+good-flaw Not h = absurd-bool h
+good-flaw (Bad z w) h = absurd-bool h
+good-flaw (Is i w) h = refl
+
+pub ref-good : (w b : List ℕ) → isIndex (refTo w b) ≡ true → refFlaw w b ≡ Form
+unfolding refTo refFlaw
+ref-good w b h = good-flaw (refIn w b) h
+
+each-good : (w : List ℕ) (ps : List (List ℕ)) → all isIndex (map (refTo w) ps) ≡ true → flawAmong w ps ≡ Form
+unfolding all flawAmong
+each-good w [] h = refl
+each-good w (p ∷ ps) h = rw (ref-good w p (and-left (isIndex (refTo w p)) _ h), each-good w ps (and-right (isIndex (refTo w p)) _ h))
+
+pub refs-good : (w b : List ℕ) → isReferences w b ≡ true → refsFlaw w b ≡ Form
+unfolding isReferences refsTo refsFlaw
+refs-good w b h = go (all (isLike w) (refParts b))
+  where
+    go : (t : Bool) → cond t (flawAmong w (refParts b)) Form ≡ Form
+    go true = each-good w (refParts b) h
+    go false = refl
 
 -- SPACES IN FRONT
 
@@ -137,14 +171,12 @@ trim-split (x ∷ xs) = go (eqb x 32) refl (trim-split xs)
     go true e ih = ih ∙ rw (ne-eqb x 44 (λ z. omega (arith, eqb-true x 32 e))) (front-space x ps e (split-some 44 xs))
     go false e ih = other (eqb x 44) e
 
-module _ (w : List ℕ) {s : List ℕ} {at e : ℕ} (h : Ends 44 s at e) where
-  refs-next : (k : ℕ) → e < length s → drop k s ≡ trimmed (drop (e + 1) s) → refsTo w (drop at s) ≡ refTo w (part at e s) ∷ refsTo w (drop k s)
-  unfolding refsTo
-  refs-next k lt q = rw (piece-cut h lt, q) (ap (λ (ps : List (List ℕ)). refTo w (part at e s) ∷ map (refTo w) ps) (sym (trim-split (drop (e + 1) s))))
+module _ {s : List ℕ} {at e : ℕ} (h : Ends 44 s at e) where
+  parts-next : (k : ℕ) → e < length s → drop k s ≡ trimmed (drop (e + 1) s) → refParts (drop at s) ≡ part at e s ∷ refParts (drop k s)
+  parts-next k lt q = rw (piece-cut h lt, q) (ap (λ (ps : List (List ℕ)). part at e s ∷ ps) (sym (trim-split (drop (e + 1) s))))
 
-  refs-last : e ≡ length s → refsTo w (drop at s) ≡ refTo w (part at e s) ∷ []
-  unfolding refsTo
-  refs-last q = rw (piece-last h q)
+  parts-last : e ≡ length s → refParts (drop at s) ≡ part at e s ∷ []
+  parts-last q = rw (piece-last h q)
 
 -- WHAT IS TOLD SO FAR
 
@@ -173,38 +205,54 @@ marked-at t i j h k = go (eqb i 0) refl (eqb j i) refl
         let p = eqb-false i 0 e in
         getD-set-other t (i - 1) (j - 1) true false (λ z. eqb-false j i d (omega arith)) ∙ sym (or-false (getD t (j - 1) false))
 
-pub record SoFar (w s : List ℕ) (at : ℕ) (g : Bool) (t : List Bool) : Type 0 where
+pub record SoFar (w s : List ℕ) (at : ℕ) (g y : Bool) (z : Flaw) (t : List Bool) : Type 0 where
   pub width : length t ≡ 64
   pub good : isReferences w s ≡ (g && isReferences w (drop at s))
+  pub like : all (isLike w) (refParts s) ≡ (y && all (isLike w) (refParts (drop at s)))
+  pub flaw : flawAmong w (refParts s) ≡ sooner z (flawAmong w (refParts (drop at s)))
   pub named : (j : ℕ) → 1 ≤ j → j ≤ 64 → refersTo j w s ≡ (getD t (j - 1) false || refersTo j w (drop at s))
 
-pub told-start : (w s : List ℕ) → SoFar w s 0 true (replicate 64 false)
+pub told-start : (w s : List ℕ) → SoFar w s 0 true true Form (replicate 64 false)
 told-start w s = record {
   width = refl;
   good = refl;
+  like = refl;
+  flaw = refl;
   named = λ j a b. rw (getD-replicate 64 (j - 1) false false (omega arith));
 }
 
-module _ {w s : List ℕ} {at : ℕ} {g : Bool} {t : List Bool} (f : SoFar w s at g t) {e : ℕ} (h : Ends 44 s at e) (i : ℕ) (r : i ≡ refTo w (part at e s)) where
+-- one part more: the index x is read there, and i is its number
+module _ {w s : List ℕ} {at : ℕ} {g y : Bool} {z : Flaw} {t : List Bool} (f : SoFar w s at g y z t) {e : ℕ} (h : Ends 44 s at e) (x : Index) (r : x ≡ refIn w (part at e s)) (i : ℕ) (n : i ≡ indexIn x) where
+  index : i ≡ refTo w (part at e s)
+  unfolding refTo
+  index = n ∙ ap indexIn r
+
   fits : i ≤ length t
-  fits = omega (arith, ref-le w (part at e s), f .width)
+  fits = omega (arith, ref-le w (part at e s), f .width, index)
 
-  pub told-next : (k : ℕ) (g′ : Bool) (t′ : List Bool) → e < length s → drop k s ≡ trimmed (drop (e + 1) s) → g′ ≡ (g && isIndex i) → t′ ≡ marked t i → SoFar w s k g′ t′
-  unfolding isReferences any all
-  told-next k g′ t′ lt q eg et =
-      let n : refsTo w (drop at s) ≡ i ∷ refsTo w (drop k s) = refs-next w h k lt q ∙ rw r in
-      record {
-        width = ap length et ∙ marked-length t i ∙ f .width;
-        good = f .good ∙ rw (n, eg) (sym (and-assoc g (isIndex i) (all isIndex (refsTo w (drop k s)))));
-        named = λ j a b. f .named j a b ∙ rw (n, et, marked-at t i j fits a) (sym (or-assoc (getD t (j - 1) false) (eqb j i) (any (eqb j) (refsTo w (drop k s)))));
-      }
+  -- what is said with it
+  module _ (g′ y′ : Bool) (z′ : Flaw) (t′ : List Bool) (eg : g′ ≡ (g && isIndex i)) (ey : y′ ≡ (y && isRead x)) (ez : z′ ≡ sooner z (flawIn x)) (et : t′ ≡ marked t i) where
+    pub told-next : (k : ℕ) → e < length s → drop k s ≡ trimmed (drop (e + 1) s) → SoFar w s k g′ y′ z′ t′
+    unfolding isReferences refsTo refFlaw flawAmong any all
+    told-next k lt q =
+        let n = parts-next h k lt q in
+        record {
+          width = ap length et ∙ marked-length t i ∙ f .width;
+          good = f .good ∙ rw (n, eg, index) (sym (and-assoc g (isIndex (refTo w (part at e s))) (all isIndex (refsTo w (drop k s)))));
+          like = f .like ∙ rw (n, ey, r) (sym (and-assoc y (isLike w (part at e s)) (all (isLike w) (refParts (drop k s)))));
+          flaw = f .flaw ∙ rw (n, ez, r) (sooner-again z (refFlaw w (part at e s)) (flawAmong w (refParts (drop k s))));
+          named = λ j a b. f .named j a b ∙ rw (n, et, marked-at t i j fits a, index) (sym (or-assoc (getD t (j - 1) false) (eqb j (refTo w (part at e s))) (any (eqb j) (refsTo w (drop k s)))));
+        }
 
-  pub told-last : (g′ : Bool) (t′ : List Bool) → e ≡ length s → g′ ≡ (g && isIndex i) → t′ ≡ marked t i → Tells w s (record { good = g′; named = t′ })
-  unfolding isReferences any all
-  told-last g′ t′ q eg et =
-      let n : refsTo w (drop at s) ≡ i ∷ [] = refs-last w h q ∙ rw r in
-      record {
-        width = ap length et ∙ marked-length t i ∙ f .width;
-        good = sym (f .good ∙ rw (n, eg, and-true (isIndex i)));
-        named = λ j a b. sym (f .named j a b ∙ rw (n, et, marked-at t i j fits a, or-false (eqb j i)));
-      }
+    pub told-last : e ≡ length s → (z″ : Flaw) → z″ ≡ cond y′ z′ Form → Tells w s (record { good = g′; flaw = z″; named = t′ })
+    unfolding isReferences refsTo refFlaw flawAmong refsFlaw any all
+    told-last q z″ e″ =
+        let n = parts-last h q in
+        let like : all (isLike w) (refParts s) ≡ y′ = f .like ∙ rw (n, ey, r, and-true (isLike w (part at e s))) in
+        let flaw : flawAmong w (refParts s) ≡ z′ = f .flaw ∙ rw (n, ez, r, sooner-none (refFlaw w (part at e s))) in
+        record {
+          width = ap length et ∙ marked-length t i ∙ f .width;
+          good = sym (f .good ∙ rw (n, eg, index, and-true (isIndex (refTo w (part at e s)))));
+          flaw = e″ ∙ rw (← like, ← flaw);
+          named = λ j a b. sym (f .named j a b ∙ rw (n, et, marked-at t i j fits a, index, or-false (eqb j (refTo w (part at e s)))));
+        }

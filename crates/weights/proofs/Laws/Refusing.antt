@@ -17,9 +17,11 @@ use Rattle.rules.proofs.Laws.Accepted.{accepted-none}
 use Rattle.judged.specs.Judged.{outcome as judgedAs, judged}
 use Rattle.judged.proofs.Laws.Judging.{judged-count}
 use Rattle.fee.proofs.Laws.Theorems.{list-length, list-at}
-use Rattle.weights.specs.Weights.{PROTEIN, VARIABLES, weightOf, weightsOf, refusal, outcome, weighed}
-use Rattle.weights.specs.Marks.{Marked, linesAdd, Room, Raises}
-use Rattle.weights.specs.declared.Marks.{Marks}
+use Rattle.weight_counts.specs.Variables.{PROTEIN, VARIABLES}
+use Rattle.weights.specs.Weights.{weightOf, weightsOf, refusal, outcome, weighed}
+use Rattle.weight_counts.specs.Counts.{linesAdd, Room, Raises}
+use Rattle.weight_marks.specs.Marks.{Marked}
+use Rattle.weight_marks.specs.declared.Marks.{Marks}
 use Rattle.weights.proofs.Laws.Weighing.{weighed-lines, weight-most}
 
 -- THE NUMBER

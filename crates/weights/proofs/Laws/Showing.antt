@@ -17,7 +17,8 @@ use Rattle.rows.proofs.Laws.Finding.{row-coded, rows-long}
 use Rattle.mztab.specs.Shown.{Sought, soughtCell, soughtRow, cellStart, sought}
 use Rattle.fee_shares.specs.Sums.{sumTo, bit}
 use Rattle.fee_shares.proofs.Laws.Sums.{sum-same}
-use Rattle.weights.specs.Weights.{PROTEIN, abundance, isGiven, hasIn, weightOf}
+use Rattle.weight_counts.specs.Variables.{PROTEIN, abundance}
+use Rattle.weights.specs.Weights.{isGiven, hasIn, weightOf}
 
 -- a cell call shows a cell that is not `null`
 abbrev pub isShown : Sought → Bool

@@ -14,7 +14,7 @@ use Rattle.text.specs.Lines.{LIMIT, lines, cells, coded}
 use Rattle.book.specs.Book.{headerCode, rowCode, mzTab, isSection, sectionOf, bookOf}
 use Rattle.text_bytes.proofs.Laws.Same.{same-equal, same-self}
 use Rattle.text.proofs.Laws.Counts.{count-most, count-less, lines-most}
-use Rattle.value_references.specs.References.{refTo}
+use Rattle.value_references.specs.References.{refIn, refTo}
 use Rattle.value_references.proofs.Laws.Names.{ref-read, ref-written}
 use Rattle.rows.specs.Rows.{Line, rowOf, textOf, headerOf, placeOf, columnNamed, cellAt}
 use Rattle.rows.proofs.Laws.Finding.{header-line}
@@ -22,11 +22,13 @@ use Rattle.rules.specs.Sorts.{isHeader}
 use Rattle.rules.specs.Rules.{breaks}
 use Rattle.rules.proofs.Laws.Accepted.{accepted-width, accepted-apart, header-coded}
 use Rattle.fee_shares.specs.Sums.{bit}
-use Rattle.weights.specs.Weights.{PROTEIN, WORD, abundance, isGiven, hasIn, weightOf}
-use Rattle.weights.specs.Marks.{variableOf, Marked, adds, marks, linesAdd}
-use Rattle.weights.specs.declared.Marks.{Marks}
-use Rattle.weights.proofs.Laws.Columning.{none-named}
-use Rattle.weights.proofs.Laws.Raising.{adds-none, adds-alike}
+use Rattle.weight_counts.specs.Variables.{PROTEIN, WORD, abundance}
+use Rattle.weights.specs.Weights.{isGiven, hasIn, weightOf}
+use Rattle.weight_counts.specs.Counts.{adds, marks, linesAdd}
+use Rattle.weight_marks.specs.Marks.{variableOf, Marked}
+use Rattle.weight_marks.specs.declared.Marks.{Marks}
+use Rattle.weight_marks.proofs.Laws.Columning.{none-named}
+use Rattle.weight_counts.proofs.Laws.Raising.{adds-none, adds-alike}
 
 -- a header that an accepted file has: at most 256 cells, no two columns of one name, and its first cell is the name of none
 record Sound (header : Bytes) : Type 0 where
@@ -39,7 +41,7 @@ unfolding splitOn
 sound-none = record { narrow = omega arith; apart = λ a b la ab bw e. omega arith; first = none-named }
 
 code-unnamed : variableOf (headerCode mzTab PROTEIN) ≡ 0
-unfolding variableOf refTo begins bytes mzTab isSection sectionOf
+unfolding variableOf refTo refIn begins bytes mzTab isSection sectionOf
 code-unnamed = refl
 
 not-same : {x y : Bytes} → same x y ≡ false → x ≡ y → ⊥
