@@ -1,10 +1,10 @@
-//! "The 21 rules", and rule 22 of request 2026-01. Each rule has a function named
-//! after it.
+//! "The 21 rules", rule 22 of request 2026-01, and rules 23 and 24 of request
+//! 2026-05. Each rule has a function named after it.
 
 use std::collections::HashSet;
 
 use crate::demands::{self, Field, Of, Sort, Type};
-use crate::kinds;
+use crate::kinds::{self, Bad};
 use crate::lines::{cells, code, key_and_value, lines, Code};
 use crate::names::{self, Family, Kind, Known};
 use crate::LIMIT;
@@ -183,8 +183,8 @@ fn judge_metadata<'a>(line: &'a [u8], ids: &Ids, above: &mut Above<'a>, report: 
         None => rule_3(report),
         Some((key, value)) => {
             match names::key(key) {
-                // "5 stops 6 to 8"
-                None => rule_5(report),
+                // "5 stops 6 to 8", and so does what is reported in its place.
+                None => rule_5_23_or_24(key, report),
                 Some(known) => {
                     rule_6(key, above, report);
                     rules_7_and_8(&known, value, ids, report);
@@ -207,9 +207,37 @@ fn rule_4(above: &Above, report: &mut Report) {
     }
 }
 
+/// "Where a key [...] would be known but for its indices" a rule of indices is
+/// "reported in place of 5".
+fn rule_5_23_or_24(key: &[u8], report: &mut Report) {
+    match names::bad_key(key) {
+        None => rule_5(report),
+        Some(bad) => rule_23_or_24(bad, 2, report),
+    }
+}
+
 /// rule 5: "unknown key; cell 2"
 fn rule_5(report: &mut Report) {
     report.add(2, 5);
+}
+
+/// "the leftmost bad one decides: new rule 23 for zero or leading zero, else 24
+/// for over 64"
+fn rule_23_or_24(bad: Bad, at: usize, report: &mut Report) {
+    match bad {
+        Bad::Zero => rule_23(at, report),
+        Bad::Over => rule_24(at, report),
+    }
+}
+
+/// rule 23: "zero or leading zero", at the cell of the rule that it replaces
+fn rule_23(at: usize, report: &mut Report) {
+    report.add(at, 23);
+}
+
+/// rule 24: "over 64", at the cell of the rule that it replaces
+fn rule_24(at: usize, report: &mut Report) {
+    report.add(at, 24);
 }
 
 /// rule 6: "key, a `colunit` one apart, already on an earlier three-cell MTD
@@ -221,11 +249,25 @@ fn rule_6(key: &[u8], above: &Above, report: &mut Report) {
 }
 
 fn rules_7_and_8(known: &Known, value: &[u8], ids: &Ids, report: &mut Report) {
-    // "7 stops 8"
+    // "7 stops 8", and so does what is reported in its place.
     if !value_is_of_its_kind(known, value) {
-        rule_7(report);
+        rule_7_23_or_24(known, value, report);
     } else {
         rule_8(known, value, ids, report);
+    }
+}
+
+/// "Where [...] a reference [...] would be known but for its indices" a rule of
+/// indices is "reported in place of [...] 7".
+fn rule_7_23_or_24(known: &Known, value: &[u8], report: &mut Report) {
+    let bad = match known.kind {
+        Kind::Reference(family) => kinds::bad_reference(family.word(), value),
+        Kind::ReferenceList(family) => kinds::bad_reference_list(family.word(), value),
+        _ => None,
+    };
+    match bad {
+        None => rule_7(report),
+        Some(bad) => rule_23_or_24(bad, 3, report),
     }
 }
 
@@ -317,7 +359,7 @@ fn judge_header(section: u32, line: &[u8], whole: &Whole, above: &mut Above, rep
             .iter()
             .map(|name| names::column(section, name))
             .collect();
-        rule_12(&known, report);
+        rule_12_23_or_24(section, &columns, &known, report);
         rule_13(&columns, report);
         rule_14(&columns, report);
         rule_15(&known, &whole.ids, report);
@@ -360,13 +402,22 @@ fn rule_11(report: &mut Report) {
     report.add(1, 11);
 }
 
-/// rule 12: "column name unknown in its section; its cell"
-fn rule_12(known: &[Option<Known>], report: &mut Report) {
-    for (k, column) in known.iter().enumerate() {
+/// "Where [...] a column would be known but for its indices" a rule of indices
+/// is "reported in place of [...] 12".
+fn rule_12_23_or_24(section: u32, columns: &[&[u8]], known: &[Option<Known>], report: &mut Report) {
+    for (k, (name, column)) in columns.iter().zip(known).enumerate() {
         if column.is_none() {
-            report.add(k + 2, 12);
+            match names::bad_column(section, name) {
+                None => rule_12(k + 2, report),
+                Some(bad) => rule_23_or_24(bad, k + 2, report),
+            }
         }
     }
+}
+
+/// rule 12: "column name unknown in its section; its cell"
+fn rule_12(at: usize, report: &mut Report) {
+    report.add(at, 12);
 }
 
 /// rule 13: "column name already in this header; its cell"
@@ -419,7 +470,8 @@ fn rule_16(section: u32, columns: &[&[u8]], whole: &Whole, report: &mut Report) 
     }
 }
 
-/// "Cells under an unknown column are text."
+/// "Cells under an unknown column are text." One whose index is bad is unknown
+/// too: it "would be known but for" it.
 fn kind_of_column(column: Option<Known>) -> Kind {
     match column {
         Some(known) => known.kind,

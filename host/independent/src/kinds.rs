@@ -9,17 +9,43 @@ const SPACE: u8 = b' ';
 /// "Index: 1 to 64, decimal, no leading zero, in square brackets."
 /// Gives the index that stands at the front, and the bytes after its bracket.
 pub fn index(bytes: &[u8]) -> Option<(u32, &[u8])> {
-    match bytes {
-        [b'[', one @ b'1'..=b'9', b']', rest @ ..] => Some((digit(*one), rest)),
-        [b'[', ten @ b'1'..=b'9', one @ b'0'..=b'9', b']', rest @ ..] => {
-            let value = 10 * digit(*ten) + digit(*one);
-            if value <= 64 {
-                Some((value, rest))
-            } else {
-                None
-            }
-        }
+    let (number, rest) = bracket(bytes)?;
+    match index_of(number) {
+        Ok(value) => Some((value, rest)),
+        Err(_) => None,
+    }
+}
+
+/// What is wrong with an index that is none, of request 2026-05.
+#[derive(Clone, Copy, Debug, PartialEq, Eq)]
+pub enum Bad {
+    /// "zero or leading zero"
+    Zero,
+    /// "over 64"
+    Over,
+}
+
+/// The digits in the brackets that stand at the front, and the bytes after
+/// these. "Brackets empty or not all digits stay as they are": nothing is given
+/// for them.
+pub fn bracket(bytes: &[u8]) -> Option<(&[u8], &[u8])> {
+    let inside = bytes.strip_prefix(b"[")?;
+    let end = inside.iter().position(|b| !b.is_ascii_digit())?;
+    match (&inside[..end], &inside[end..]) {
+        ([], _) => None,
+        (number, [b']', rest @ ..]) => Some((number, rest)),
         _ => None,
+    }
+}
+
+/// The index that digits are, or "what is wrong with" it: "zero or leading zero,
+/// else [...] over 64".
+pub fn index_of(number: &[u8]) -> Result<u32, Bad> {
+    match number {
+        [b'0', ..] => Err(Bad::Zero),
+        [one] => Ok(digit(*one)),
+        [ten, one] if 10 * digit(*ten) + digit(*one) <= 64 => Ok(10 * digit(*ten) + digit(*one)),
+        _ => Err(Bad::Over),
     }
 }
 
@@ -151,9 +177,17 @@ pub fn parameter_list(bytes: &[u8]) -> bool {
 /// "Reference: `sample[i]`, `assay[i]`, `study_variable[i]` or `ms_run[i]`, as
 /// the key asks." The index, or 0 where the bytes are no such reference.
 pub fn reference(family_word: &str, bytes: &[u8]) -> u32 {
-    match bytes.strip_prefix(family_word.as_bytes()).and_then(index) {
-        Some((value, [])) => value,
+    match number_of_reference(family_word, bytes).map(index_of) {
+        Some(Ok(value)) => value,
         _ => 0,
+    }
+}
+
+/// The digits of what is a reference, or would be one "but for its indices".
+fn number_of_reference<'a>(family_word: &str, bytes: &'a [u8]) -> Option<&'a [u8]> {
+    match bytes.strip_prefix(family_word.as_bytes()).and_then(bracket) {
+        Some((number, [])) => Some(number),
+        _ => None,
     }
 }
 
@@ -161,14 +195,40 @@ pub fn reference(family_word: &str, bytes: &[u8]) -> u32 {
 /// after it. The same id may come twice."
 pub fn reference_list(family_word: &str, bytes: &[u8]) -> Option<Vec<u32>> {
     let mut found = Vec::new();
-    for (k, piece) in bytes.split(|b| *b == COMMA).enumerate() {
-        let piece = if k == 0 { piece } else { after_spaces(piece) };
+    for piece in pieces_of_list(bytes) {
         match reference(family_word, piece) {
             0 => return None,
             value => found.push(value),
         }
     }
     Some(found)
+}
+
+/// What stands between the commas of a reference list, the spaces after each
+/// comma apart.
+fn pieces_of_list(bytes: &[u8]) -> impl Iterator<Item = &[u8]> + '_ {
+    let pieces = bytes.split(|b| *b == COMMA).enumerate();
+    pieces.map(|(k, piece)| if k == 0 { piece } else { after_spaces(piece) })
+}
+
+/// What is wrong with the bad index of a reference that would be one "but for
+/// its indices".
+pub fn bad_reference(family_word: &str, bytes: &[u8]) -> Option<Bad> {
+    index_of(number_of_reference(family_word, bytes)?).err()
+}
+
+/// The same of a reference list: each of its pieces is a reference or would be
+/// one "but for its indices", and "the leftmost bad one decides".
+pub fn bad_reference_list(family_word: &str, bytes: &[u8]) -> Option<Bad> {
+    let numbers: Option<Vec<&[u8]>> = pieces_of_list(bytes)
+        .map(|piece| number_of_reference(family_word, piece))
+        .collect();
+    leftmost_bad(&numbers?)
+}
+
+/// "the leftmost bad one decides"
+pub fn leftmost_bad(numbers: &[&[u8]]) -> Option<Bad> {
+    numbers.iter().find_map(|number| index_of(number).err())
 }
 
 fn after_spaces(bytes: &[u8]) -> &[u8] {

@@ -1,6 +1,6 @@
 //! "Metadata keys" and "Columns": the lists of names, written out.
 
-use crate::kinds::index;
+use crate::kinds::{bracket, index, index_of, leftmost_bad, Bad};
 
 /// "The kinds of value", and the three that are fixed by their keys.
 #[derive(Clone, Copy, Debug, PartialEq, Eq)]
@@ -351,20 +351,47 @@ fn section_letter(section: u32) -> Option<char> {
 /// The indices of a name that is as the pattern says, with an index for each
 /// `[n]`; 0 for an index that the pattern has not.
 pub fn fits(pattern: &str, name: &[u8]) -> Option<(u32, u32)> {
+    let mut indices = [0, 0];
+    for (k, number) in numbers(pattern, name)?.into_iter().enumerate() {
+        indices[k] = index_of(number).ok()?;
+    }
+    Some((indices[0], indices[1]))
+}
+
+/// The digits in the brackets of a name that is as the pattern says, or would be
+/// so "but for its indices": each `[n]` stands for digits in brackets.
+fn numbers<'a>(pattern: &str, name: &'a [u8]) -> Option<Vec<&'a [u8]>> {
     if pattern.as_bytes().first() != name.first() {
         return None;
     }
     let mut pieces = pattern.split("[n]");
     let mut rest = name.strip_prefix(pieces.next()?.as_bytes())?;
-    let mut indices = [0, 0];
-    for (k, piece) in pieces.enumerate() {
-        let (value, after) = index(rest)?;
-        indices[k] = value;
+    let mut found = Vec::new();
+    for piece in pieces {
+        let (number, after) = bracket(rest)?;
+        found.push(number);
         rest = after.strip_prefix(piece.as_bytes())?;
     }
     if rest.is_empty() {
-        Some((indices[0], indices[1]))
+        Some(found)
     } else {
         None
     }
+}
+
+/// What is wrong with the leftmost bad index of a key that "would be known but
+/// for its indices"; nothing of any other key.
+pub fn bad_key(name: &[u8]) -> Option<Bad> {
+    let mut fitting = keys().filter_map(|(pattern, _)| numbers(pattern, name));
+    leftmost_bad(&fitting.next()?)
+}
+
+/// The same of a column in a section.
+pub fn bad_column(section: u32, name: &[u8]) -> Option<Bad> {
+    let letter = section_letter(section)?;
+    let mut fitting = COLUMNS
+        .iter()
+        .filter(|(sections, _, _)| sections.contains(letter))
+        .filter_map(|(_, pattern, _)| numbers(pattern, name));
+    leftmost_bad(&fitting.next()?)
 }

@@ -57,6 +57,9 @@ rules! {
     rule_20 "rule 20:" 200;
     rule_21 "rule 21:" 13;
     rule_22 "rule 22:" 60;
+    rule_23 "rule 23:" 35;
+    rule_24 "rule 24:" 25;
+    rules_23_and_24_with_the_others "rules 23 and 24:" 50;
 }
 
 /// The fields of rule 22 are known keys, and their cells hundreds in order.
@@ -100,7 +103,7 @@ fn every_file_has_its_breaks() {
 #[test]
 fn every_rule_is_broken_and_kept_somewhere() {
     let all = judging::all();
-    for rule in 1..=22 {
+    for rule in 1..=24 {
         let broken = all
             .iter()
             .filter(|c| c.breaks.iter().any(|b| b.2 == rule))

@@ -7,7 +7,7 @@ fn judges() {
     let input = include_bytes!("../../../crates/test_judges/stdin");
     assert!(input == cases::judges_input().as_slice());
     // As much as the run test has room for.
-    assert!(input.len() < 262_144, "{}", input.len());
+    assert!(input.len() < 327_680, "{}", input.len());
 }
 
 #[test]

@@ -17,6 +17,12 @@ const QUESTIONS: usize = 300;
 /// A file of so few breaks is judged with every length of list.
 const FEW: usize = 6;
 
+/// So many rules there are.
+const RULES: usize = 24;
+/// The rules of indices, and what has an index.
+pub const INDEX_RULES: [u32; 2] = [23, 24];
+pub const WITH_INDEX: [&str; 4] = ["key", "reference", "reference list", "column"];
+
 /// How much was compared.
 #[derive(Default)]
 pub struct Tried {
@@ -29,7 +35,9 @@ pub struct Tried {
     pub cases: BTreeMap<u32, u64>,
     pub powers: BTreeMap<i32, u64>,
     /// How many breaks of each rule.
-    pub rules: [u64; 23],
+    pub rules: [u64; RULES + 1],
+    /// How many breaks of rules 23 and 24 by the rule and what has the bad index.
+    pub indices: BTreeMap<(u32, &'static str), u64>,
     /// How many breaks of rule 22 by the field, and how many accepted files by mode and type.
     pub fields: BTreeMap<u32, u64>,
     pub sorts: BTreeMap<String, u64>,
@@ -57,11 +65,37 @@ impl Tried {
                 *self.fields.entry(field.cell).or_default() += 1;
             }
         }
+        self.note_indices(file, breaks);
         if breaks.is_empty() {
             self.accepted += 1;
             let sort = format!("{:?}", demands::sort_of(file));
             *self.sorts.entry(sort).or_default() += 1;
         }
+    }
+
+    fn note_indices(&mut self, file: &[u8], breaks: &[independent::Break]) {
+        let mut bad = (breaks.iter())
+            .filter(|at| INDEX_RULES.contains(&at.rule))
+            .peekable();
+        if bad.peek().is_none() {
+            return;
+        }
+        let all: Vec<&[u8]> = lines::lines(file).collect();
+        for at in bad {
+            let what = with_index(all[at.line as usize - 1], at.cell);
+            *self.indices.entry((at.rule, what)).or_default() += 1;
+        }
+    }
+}
+
+/// What has the bad index that a line's cell is said to have.
+fn with_index(line: &[u8], cell: u32) -> &'static str {
+    let [key, reference, list, column] = WITH_INDEX;
+    match (lines::key_and_value(line), cell) {
+        (Some(_), 2) => key,
+        (Some((_, value)), _) if value.contains(&b',') => list,
+        (Some(_), _) => reference,
+        (None, _) => column,
     }
 }
 

@@ -28,6 +28,7 @@ pub fn file(near: &[Vec<u8>], draws: &mut Draws) -> Vec<u8> {
     let mut source = Source::new(near, draws);
     if weighed {
         source.wrong = 0;
+        source.bad = 0;
         source.complete = true;
     }
     source.sort();
@@ -67,6 +68,9 @@ struct Source<'d> {
     draws: &'d mut Draws,
     /// One value or name in so many is drawn to be wrong; 0 for none.
     wrong: usize,
+    /// One index in so many is drawn to be bad: zero, or with a zero in front, or over 64; 0 for none. In such a file one reference in three
+    /// is a near one, and in some of them little else is wrong.
+    bad: usize,
     /// Whether what mode and type ask for is to be there.
     complete: bool,
     mode: &'static str,
@@ -89,12 +93,14 @@ struct Source<'d> {
 impl<'d> Source<'d> {
     fn new(near: &'d [Vec<u8>], draws: &'d mut Draws) -> Source<'d> {
         let wrong = [0, 0, 200, 40, 8][draws.below(5)];
+        let bad = [0, 0, 0, 0, 0, 12, 3][draws.below(7)];
         let complete = !draws.once_in(3);
         let returns = [0, 0, 1, 3][draws.below(4)];
         Source {
             near,
             draws,
             wrong,
+            bad,
             complete,
             mode: "",
             kind: "",
@@ -199,6 +205,9 @@ impl<'d> Source<'d> {
         for _ in 0..self.draws.below(8) {
             self.metadata_line();
         }
+        if self.bad > 0 {
+            self.references();
+        }
         for i in self.assays.clone() {
             self.declared_assay(i);
         }
@@ -215,11 +224,27 @@ impl<'d> Source<'d> {
     }
 
     fn put(&mut self, key: &str, value: &str) {
+        let key = self.with_bad_index(key);
         let cells = [b"MTD".to_vec(), key.into(), value.into()];
         if self.wrong > 0 && self.draws.once_in(LATE) {
             self.late.push(cells);
         } else {
             self.end_line(&cells);
+        }
+    }
+
+    /// The key, in some files with a bad first index: then it declares nothing, and what others refer to may be undeclared.
+    fn with_bad_index(&mut self, key: &str) -> String {
+        let cut = key
+            .split_once('[')
+            .and_then(|(before, rest)| Some((before, rest.split_once(']')?)));
+        match cut {
+            Some((before, (own, after))) if self.bad > 0 && self.draws.once_in(4 * self.bad) => {
+                let zero_in_front = format!("0{own}");
+                let bad = [zero_in_front, self.bad_number()];
+                format!("{before}[{}]{after}", bad[self.draws.below(2)])
+            }
+            _ => key.to_string(),
         }
     }
 
@@ -277,6 +302,16 @@ impl<'d> Source<'d> {
         self.line_with(pattern, kind);
     }
 
+    /// Lines whose values are references: few of the keys ask for one.
+    fn references(&mut self) {
+        let is_one = |kind: &Kind| matches!(kind, Kind::Reference(_) | Kind::ReferenceList(_));
+        let all: Vec<_> = names::keys().filter(|(_, kind)| is_one(kind)).collect();
+        for _ in 0..self.draws.below(6) {
+            let (pattern, kind) = all[self.draws.below(all.len())];
+            self.line_with(pattern, kind);
+        }
+    }
+
     /// A line with a key of the pattern and a value of the kind.
     fn line_with(&mut self, pattern: &str, kind: Kind) {
         if self.is_left_out(pattern) {
@@ -304,23 +339,85 @@ impl<'d> Source<'d> {
     /// A name with its indices; where it slips, a name that is near another.
     fn name(&mut self, pattern: &str) -> Vec<u8> {
         if self.slips() {
+            if self.draws.once_in(2) {
+                return self.near_name(pattern).into_bytes();
+            }
             let near = cases::names::NEAR;
             return near[self.draws.below(near.len())].as_bytes().to_vec();
         }
-        let mut name = pattern.to_string();
-        while name.contains("[n]") {
-            let index = self.index();
-            name = name.replacen("[n]", &index, 1);
-        }
-        name.into_bytes()
+        self.with_indices(pattern, Source::index).into_bytes()
     }
 
+    fn with_indices(&mut self, pattern: &str, index: impl Fn(&mut Self) -> String) -> String {
+        let mut name = pattern.to_string();
+        while name.contains("[n]") {
+            name = name.replacen("[n]", &index(self), 1);
+        }
+        name
+    }
+
+    /// A name with indices, half of them bad, and something wrong besides: with good ones it would mostly be unknown still.
+    fn near_name(&mut self, pattern: &str) -> String {
+        let mut name = self.with_indices(pattern, Source::index_or_bad);
+        match self.draws.below(4) {
+            0 => {
+                name.pop();
+            }
+            1 => {
+                name.remove(self.draws.below(name.len()));
+            }
+            _ => {
+                let after = ["x", " ", "]", "-site", "[1]", "[01]", "[65]", "_ms_run[01]"];
+                name += self.draws.one_of(&after);
+            }
+        }
+        name
+    }
+
+    fn index_or_bad(&mut self) -> String {
+        if self.draws.once_in(2) {
+            self.bad_index()
+        } else {
+            self.index()
+        }
+    }
+
+    fn bad_index(&mut self) -> String {
+        format!("[{}]", self.bad_number())
+    }
+
+    /// Digits that are no index, of every shape: zeros, zeros in front of a number, a number over 64. Of some the last bits alone would be an
+    /// index, and some are long.
+    fn bad_number(&mut self) -> String {
+        let index = self.draws.below(64) as u128 + 1;
+        let zeros = "0".repeat(self.draws.below(3) + 1);
+        match self.draws.below(8) {
+            0 => zeros,
+            1 => format!("{zeros}{index}"),
+            2 => format!("{zeros}{}", self.digits(40)),
+            3 => (64 + index).to_string(),
+            4 => (self.draws.below(936) + 65).to_string(),
+            5 => ((1 << [8, 16, 31, 32, 63, 64, 127][self.draws.below(7)]) + index).to_string(),
+            6 => format!("{index}00{}", self.digits(40)),
+            _ => {
+                let edges = [
+                    "0", "00", "01", "064", "065", "65", "66", "99", "100", "640",
+                ];
+                self.draws.one_of(&edges).to_string()
+            }
+        }
+    }
+
+    /// An index, mostly good. Where it slips, brackets that hold no number, or are none.
     fn index(&mut self) -> String {
         if self.slips() {
-            return self
-                .draws
-                .one_of(&["[0]", "[65]", "[01]", "[]", "[100]", "[ 1]", "[1"])
-                .to_string();
+            let none = [
+                "[]", "[ 1]", "[1 ]", "[-1]", "[1a]", "[65a]", "[01", "01]", "1",
+            ];
+            return self.draws.one_of(&none).to_string();
+        }
+        if self.bad > 0 && self.draws.once_in(self.bad) {
+            return self.bad_index();
         }
         // Index 1 of each family is declared, and others may not be.
         if self.wrong == 0 {
@@ -348,19 +445,23 @@ impl<'d> Source<'d> {
                 });
             }
         }
-        for _ in 0..self.draws.below(8) {
+        // Half of the columns have indices.
+        let most = if self.bad > 0 { 24 } else { 8 };
+        for _ in 0..self.draws.below(most) {
             let (sections, pattern, kind) = COLUMNS[self.draws.below(COLUMNS.len())];
             if self.is_left_out(pattern) {
                 continue;
             }
             if sections.contains(letter) || self.slips() {
                 let name = self.name(pattern);
+                let kind = self.kind_under(section as u32 + 1, &name, kind);
                 self.column(name, kind, NULL, &mut columns);
             }
         }
         if section == 0 {
             self.abundances(&mut columns);
         }
+        self.twice(&mut columns);
         self.options(&mut columns);
         let mut cells = vec![header.to_vec()];
         cells.extend(columns.iter().map(|column| column.name.clone()));
@@ -384,6 +485,16 @@ impl<'d> Source<'d> {
         all
     }
 
+    /// What is drawn for the cells under a column. Those under a name that is not known may be any text, and under half of such names they
+    /// are.
+    fn kind_under(&mut self, section: u32, name: &[u8], kind: Kind) -> Kind {
+        if names::column(section, name).is_none() && self.draws.once_in(2) {
+            Kind::Text
+        } else {
+            kind
+        }
+    }
+
     /// One more column, unless one of its name is there.
     fn column(&mut self, name: Vec<u8>, kind: Kind, null: usize, columns: &mut Vec<Column>) {
         if !columns.iter().any(|other| other.name == name) || self.slips() {
@@ -400,6 +511,16 @@ impl<'d> Source<'d> {
             if self.draws.once_in(2) {
                 let (at, last) = (self.draws.below(columns.len()), columns.len() - 1);
                 columns.swap(at, last);
+            }
+        }
+    }
+
+    /// In some files with bad indices the last column stands twice, and is bad or not.
+    fn twice(&mut self, columns: &mut Vec<Column>) {
+        if self.bad > 0 && self.draws.once_in(8) {
+            if let Some(Column { name, kind, null }) = columns.last() {
+                let (name, kind, null) = (name.clone(), *kind, *null);
+                columns.push(Column { name, kind, null });
             }
         }
     }
@@ -472,6 +593,11 @@ impl<'d> Source<'d> {
             Kind::Window => format!("{}|{}", self.decimal(), self.decimal()).into_bytes(),
             Kind::Parameter => self.parameter().into_bytes(),
             Kind::ParameterList => self.many("|", Source::listed_parameter).into_bytes(),
+            Kind::Reference(family) | Kind::ReferenceList(family)
+                if self.bad > 0 && self.draws.once_in(3) =>
+            {
+                self.near_references(family.word()).into_bytes()
+            }
             Kind::Reference(family) => format!("{}{}", family.word(), self.index()).into_bytes(),
             Kind::ReferenceList(family) => {
                 let word = family.word();
@@ -483,7 +609,7 @@ impl<'d> Source<'d> {
         }
     }
 
-    /// Most often no value of the kind; of decimals half are near ones.
+    /// Most often no value of the kind; of decimals and references half are near ones.
     fn wrong_value(&mut self, kind: Kind) -> Vec<u8> {
         if self.draws.once_in(4) {
             return Vec::new();
@@ -495,10 +621,43 @@ impl<'d> Source<'d> {
                 Kind::Window => {
                     return format!("{}|{}", self.decimal(), self.near_decimal()).into_bytes()
                 }
+                Kind::Reference(family) | Kind::ReferenceList(family) => {
+                    return self.near_references(family.word()).into_bytes()
+                }
                 _ => (),
             }
         }
         self.near[self.draws.below(self.near.len())].clone()
+    }
+
+    /// What is near a reference: its word, its index or what stands around it is wrong. Some are right, or have a bad index alone.
+    fn near_reference(&mut self, word: &str) -> String {
+        let index = self.index_or_bad();
+        match self.draws.below(6) {
+            0 => {
+                let other = ["sample", "assay", "study_variable", "ms_run", "Assay", ""];
+                format!("{}{index}", self.draws.one_of(&other))
+            }
+            1 => {
+                let after = ["x", " ", "]", "[1]", ",", "-location"];
+                format!("{word}{index}{}", self.draws.one_of(&after))
+            }
+            2 => {
+                let other = ["", "[]", "[1a]", "[-1]", "[01", "65]", "(01)"];
+                format!("{word}{}", self.draws.one_of(&other))
+            }
+            _ => format!("{word}{index}"),
+        }
+    }
+
+    /// References, good, bad and none, with commas between them or what is near one, whether one is asked for or a list.
+    fn near_references(&mut self, word: &str) -> String {
+        let commas = [",", ",", ", ", ",  ", " ,", ",,", ";", "|"];
+        let (before, comma) = (
+            self.draws.one_of(&["", "", "", " "]),
+            self.draws.one_of(&commas),
+        );
+        before.to_string() + &self.many(comma, |source| source.near_reference(word))
     }
 
     fn many(&mut self, between: &str, one: impl Fn(&mut Self) -> String) -> String {
@@ -512,8 +671,9 @@ impl<'d> Source<'d> {
         if self.draws.once_in(4) {
             return self.near_decimal().into_bytes();
         }
-        let texts: [&[u8]; 7] = [
+        let texts: [&[u8]; 8] = [
             b"x",
+            b"ms_run[01]",
             b"P12345",
             b"Heat shock",
             b"N\xc3\xa4me",
@@ -642,5 +802,44 @@ impl<'d> Source<'d> {
             self.draws.one_of(&third),
             self.draws.one_of(&fields)
         )
+    }
+}
+
+#[cfg(test)]
+mod tests {
+    use super::*;
+    use independent::kinds::Bad;
+
+    #[test]
+    fn bad_numbers_are_bad() {
+        let mut draws = Draws::new(1);
+        let mut source = Source::new(&[], &mut draws);
+        let mut drawn = [0, 0];
+        for _ in 0..10_000 {
+            let key = format!("uri{}", source.bad_index());
+            match names::bad_key(key.as_bytes()) {
+                Some(Bad::Zero) => drawn[0] += 1,
+                Some(Bad::Over) => drawn[1] += 1,
+                None => panic!("{key}"),
+            }
+        }
+        assert!(drawn.iter().all(|count| *count > 3_000), "{drawn:?}");
+    }
+
+    /// Half of the names that are near others have something wrong beside their indices.
+    #[test]
+    fn near_names_are_near() {
+        let mut draws = Draws::new(2);
+        let mut source = Source::new(&[], &mut draws);
+        let mut unknown = 0;
+        for (pattern, _) in names::keys() {
+            for _ in 0..100 {
+                let name = source.near_name(pattern);
+                let known = names::key(name.as_bytes()).is_some();
+                let bad = names::bad_key(name.as_bytes()).is_some();
+                unknown += usize::from(!known && !bad);
+            }
+        }
+        assert!(unknown > names::keys().count() * 50, "{unknown}");
     }
 }

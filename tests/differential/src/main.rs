@@ -22,7 +22,7 @@ use std::io::{self, Write};
 use std::ops::RangeInclusive;
 use std::process::ExitCode;
 
-use compare::{compare, Tried};
+use compare::{compare, Tried, INDEX_RULES, WITH_INDEX};
 use samples::Draws;
 
 const SEED: u64 = 1;
@@ -38,11 +38,14 @@ const CASES: u32 = 7;
 const POWERS: RangeInclusive<i32> = -22..=22;
 /// So many splits are drawn beside each file.
 const SPLITS: usize = 2;
-/// So many bytes have the hostile files.
+/// So many bytes have the hostile files, and so many those with long indices beside.
 const HOSTILE: [usize; 2] = [10_000, 40_000];
+const LONG: usize = 1 << 20;
+/// Of the lines that are enough for a difference so many bytes are printed.
+const PRINTED: usize = 100_000;
 /// A file of a table ends with this byte, and a run test takes so many bytes of a table.
 const FILE_END: u8 = 30;
-const TABLE: usize = 262_144;
+const TABLE: usize = 327_680;
 /// After so many differences no more are looked for.
 const ENOUGH: u32 = 10;
 
@@ -73,6 +76,7 @@ fn main() -> ExitCode {
     run.drawn(&options);
     if options.count >= MANY {
         run.every_rule();
+        run.every_index();
         run.every_demand();
         run.every_reading();
         run.every_number();
@@ -140,6 +144,9 @@ impl Run {
                 self.try_one(sample.name, &sample.file, &mut Draws::new(options.seed));
             }
         }
+        for sample in samples::long_indices(LONG) {
+            self.try_one(sample.name, &sample.file, &mut Draws::new(options.seed));
+        }
         println!(
             "differential: {} hostile files, {} differences",
             self.tried.files - before,
@@ -200,7 +207,12 @@ impl Run {
         let again = |file: &[u8]| compare(file, &mut before.clone(), &mut Tried::default());
         let few = shrink::shrunk(file, |file| again(file).is_err());
         if let Err(difference) = again(&few) {
-            println!("the lines that are enough: b\"{}\"", few.escape_ascii());
+            let printed = &few[..few.len().min(PRINTED)];
+            println!(
+                "the lines that are enough, {} bytes: b\"{}\"",
+                few.len(),
+                printed.escape_ascii()
+            );
             println!("and of them: {difference}");
         }
     }
@@ -227,6 +239,20 @@ impl Run {
             if *broken == 0 {
                 println!("differential: no file breaks rule {rule}, so the files show too little");
                 self.different += 1;
+            }
+        }
+    }
+
+    /// The same of the rules of indices: either is broken by each name that has one, and by each value.
+    fn every_index(&mut self) {
+        for rule in INDEX_RULES {
+            for what in WITH_INDEX {
+                if !self.tried.indices.contains_key(&(rule, what)) {
+                    println!(
+                        "differential: no {what} breaks rule {rule}, so the files show too little"
+                    );
+                    self.different += 1;
+                }
             }
         }
     }
@@ -321,4 +347,18 @@ fn options() -> Result<Options, String> {
         }
     }
     Ok(options)
+}
+
+#[cfg(test)]
+mod tests {
+    use super::*;
+
+    /// The library's own tests hold it to these counts.
+    #[test]
+    fn hostile_files_have_as_many_breaks_as_they_say() {
+        for sample in samples::hostile(HOSTILE[0]).chain(samples::long_indices(LONG)) {
+            let breaks = independent::judge(&sample.file).expect(sample.name);
+            assert_eq!(breaks.len(), sample.breaks as usize, "{}", sample.name);
+        }
+    }
 }

@@ -9,7 +9,7 @@ pub struct Hostile {
 
 type Make = fn(usize) -> (Vec<u8>, usize);
 
-const ALL: [(&str, Make); 17] = [
+const ALL: [(&str, Make); 19] = [
     ("tabs alone", |n| (vec![b'\t'; n], 1 + ABSENT)),
     ("LF alone", |n| (vec![b'\n'; n], ABSENT)),
     ("one line", |n| (vec![b'x'; n], 1 + ABSENT)),
@@ -23,6 +23,9 @@ const ALL: [(&str, Make); 17] = [
     }),
     ("unknown keys", |n| {
         lines(n, b"", b"MTD\tsample[9]-\ta\n", 1)
+    }),
+    ("keys with a bad index", |n| {
+        lines(n, b"", b"MTD\tsample[65]-species[1]\ta\n", 1)
     }),
     ("a long index", |n| {
         one_more(value(n, b"sample[", b"1", b"]\ta"))
@@ -47,6 +50,9 @@ const ALL: [(&str, Make); 17] = [
     ("headers of 255 names that part late", |n| {
         less(1, lines(n, b"", &line("PRH", parting_late), 257))
     }),
+    ("headers of 255 bad indices", |n| {
+        less(1, lines(n, b"", &line("PRH", with_bad_index), 257))
+    }),
     ("one cell of digits", |n| {
         let table = "PRH\taccession\tdescription\tdatabase\tsearch_engine\tbest_search_engine_score[1]\nPRT\ta\tb\tc\tnull\t";
         let mut file = table.as_bytes().to_vec();
@@ -64,12 +70,63 @@ const ALL: [(&str, Make); 17] = [
     ("rows without header", |n| lines(n, b"", b"PRT\n", 1)),
 ];
 
+/// Files of one long index or more, or of one long list with bad ones.
+const LONG_INDICES: [(&str, Make); 11] = [
+    ("a key's long index with zeros", |n| {
+        one_more(value(n, b"sample[", b"0", b"1]-description\ta"))
+    }),
+    ("a key's long index over 64", |n| {
+        one_more(value(n, b"sample[", b"1", b"]-description\ta"))
+    }),
+    ("two long indices of a key", |n| {
+        let first = first_index(n);
+        one_more(value(n, &first, b"0", b"]\ta"))
+    }),
+    ("two long indices of an unknown key", |n| {
+        let first = first_index(n);
+        one_more(value(n, &first, b"0", b"]x\ta"))
+    }),
+    ("a reference's long index with zeros", |n| {
+        one_more(value(n, b"assay[1]-sample_ref\tsample[", b"0", b"64]"))
+    }),
+    ("a reference's long index over 64", |n| {
+        one_more(value(n, b"assay[1]-sample_ref\tsample[", b"9", b"]"))
+    }),
+    ("a list of bad references", |n| {
+        one_more(value(n, ASSAY_REFS, b"assay[0],", b"assay[65]"))
+    }),
+    ("a list of references, the last bad", |n| {
+        one_more(value(n, ASSAY_REFS, b"assay[1],", b"assay[65]"))
+    }),
+    ("a list of bad references, the last none", |n| {
+        one_more(value(n, ASSAY_REFS, b"assay[0],", b"assay[65"))
+    }),
+    ("a column's long index with zeros", |n| {
+        one_more(filled(n, SCORE, b"0", b"1]\nSML\tx\t1\ty\n"))
+    }),
+    ("a column's long index over 64", |n| {
+        one_more(filled(n, SCORE, b"7", b"]\nSML\tx\t1\ty\n"))
+    }),
+];
+
+const ASSAY_REFS: &[u8] = b"study_variable[1]-assay_refs\t";
+const SCORE: &[u8] = b"SMH\tidentifier\tcharge\tbest_search_engine_score[";
+
 /// The breaks of rule 21 in a file without metadata.
 const ABSENT: usize = 5;
 
 /// All hostile files, made one at a time.
 pub fn hostile(size: usize) -> impl Iterator<Item = Hostile> {
-    ALL.iter().map(move |(name, make)| {
+    made(&ALL, size).chain(long_indices(size))
+}
+
+/// Those of long indices alone.
+pub fn long_indices(size: usize) -> impl Iterator<Item = Hostile> {
+    made(&LONG_INDICES, size)
+}
+
+fn made(all: &'static [(&'static str, Make)], size: usize) -> impl Iterator<Item = Hostile> {
+    all.iter().map(move |(name, make)| {
         let (file, breaks) = make(size);
         Hostile {
             name,
@@ -90,7 +147,17 @@ fn lines(size: usize, first: &[u8], each: &[u8], breaks: usize) -> (Vec<u8>, usi
 
 /// One metadata line: a beginning, a middle as often as it fits, an end.
 fn value(size: usize, beginning: &[u8], middle: &[u8], end: &[u8]) -> (Vec<u8>, usize) {
-    let mut file = [b"MTD\t", beginning].concat();
+    filled(size, &[b"MTD\t", beginning].concat(), middle, end)
+}
+
+/// A key up to its second index: the first has half as many digits as the file has bytes.
+fn first_index(size: usize) -> Vec<u8> {
+    [b"software[", &*vec![b'6'; size / 2], b"]-setting["].concat()
+}
+
+/// A beginning, a middle as often as it fits, an end.
+fn filled(size: usize, beginning: &[u8], middle: &[u8], end: &[u8]) -> (Vec<u8>, usize) {
+    let mut file = beginning.to_vec();
     let count = (size - file.len() - end.len()) / middle.len();
     file.extend(middle.repeat(count));
     file.extend(end);
@@ -124,6 +191,10 @@ fn required_first(k: usize) -> String {
         Some(name) => name.to_string(),
         None => format!("opt_{k:03}"),
     }
+}
+
+fn with_bad_index(k: usize) -> String {
+    format!("best_search_engine_score[0{k}]")
 }
 
 /// Names with the same sum of bytes times powers of 33: `aB` and `b!` have the same.

@@ -9,5 +9,5 @@ mod ordinary;
 
 pub use draws::Draws;
 pub use exports::{Export, EXPORTS};
-pub use hostile::{hostile, Hostile};
+pub use hostile::{hostile, long_indices, Hostile};
 pub use ordinary::ordinary;

@@ -9,6 +9,7 @@ mod rule_22;
 mod rules_12_to_16;
 mod rules_17_to_19;
 mod rules_1_2;
+mod rules_23_24;
 mod rules_3_to_6;
 mod rules_7_8;
 mod rules_9_to_11;
@@ -193,6 +194,7 @@ pub fn all() -> Vec<Case> {
     rule_20::rule_20_with_exponents(&mut c);
     rule_21::rule_21(&mut c);
     rule_22::rule_22(&mut c);
+    rules_23_24::rules_23_and_24(&mut c);
     several::several_at_once(&mut c);
     c.list
 }

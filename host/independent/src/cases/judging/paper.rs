@@ -39,19 +39,19 @@ pub(super) fn the_papers_own(c: &mut Cases) {
         "assay[65] not",
         "assay[65]-quantification_reagent",
         "[,,x,]",
-        &[(6, 2, 5)],
+        &[(6, 2, 24)],
     );
     c.mtd(
         "assay[01] not",
         "assay[01]-quantification_reagent",
         "[,,x,]",
-        &[(6, 2, 5)],
+        &[(6, 2, 23)],
     );
     c.mtd(
         "assay[0] not",
         "assay[0]-quantification_reagent",
         "[,,x,]",
-        &[(6, 2, 5)],
+        &[(6, 2, 23)],
     );
     c.mtd(
         "a comma in marks",

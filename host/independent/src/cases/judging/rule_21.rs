@@ -56,7 +56,7 @@ pub(super) fn rule_21(c: &mut Cases) {
             "{VERSION}\n{MODE}\n{TYPE}\n{WORDS}\nMTD→ms_run[65]-location→a\n\
              MTD→ms_run[1]-format→[,,a,]\n{FIXED}\n{VARIABLE}\n"
         ),
-        &[(5, 2, 5), (9, 5, 21)],
+        &[(5, 2, 24), (9, 5, 21)],
     );
     c.whole(
         "rule 21: on a line that has not three cells",

@@ -172,10 +172,10 @@ fn unknown_keys(c: &mut Cases) {
                MTD→Software[1]→[,,a,]\nMTD→fixed_mod[01]→[,,a,]\nMTD→variable_mod[1] →[,,a,]\n",
         &[
             (6, 2, 5),
-            (7, 2, 5),
-            (8, 2, 5),
+            (7, 2, 23),
+            (8, 2, 24),
             (9, 2, 5),
-            (10, 2, 5),
+            (10, 2, 23),
             (11, 2, 5),
             (12, 400, 22),
             (12, 900, 22),
@@ -338,7 +338,7 @@ fn declared_assays(c: &mut Cases) {
         "rule 22: unknown keys declare no assay",
         CQ,
         "MTD→assay[1]-foo→a\nMTD→assay[65]-ms_run_ref→ms_run[1]\nMTD→assay[1]→a\n",
-        &[(10, 2, 5), (11, 2, 5), (12, 2, 5)],
+        &[(10, 2, 5), (11, 2, 24), (12, 2, 5)],
     );
     c.nine(
         "rule 22: two cells or four declare no assay",

@@ -113,9 +113,9 @@ pub(super) fn rule_12(c: &mut Cases) {
             (6, 7, 12),
             (6, 8, 12),
             (6, 9, 12),
-            (6, 10, 12),
-            (6, 11, 12),
-            (6, 12, 12),
+            (6, 10, 23),
+            (6, 11, 24),
+            (6, 12, 23),
             (6, 14, 12),
             (6, 15, 12),
         ],
@@ -128,7 +128,7 @@ pub(super) fn rule_12(c: &mut Cases) {
     c.headed(
         "rule 12: cells under an unknown column are text",
         format!("{PH}→foo→→num_psms_ms_run[65]\n{PR}→null→ →x\n{PR}→→a→1.5\n"),
-        &[(6, 6, 12), (6, 7, 12), (6, 8, 12), (8, 6, 19)],
+        &[(6, 6, 12), (6, 7, 12), (6, 8, 24), (8, 6, 19)],
     );
     c.headed(
         "rule 12: an unknown name that names an id",

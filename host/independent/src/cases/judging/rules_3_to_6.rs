@@ -140,12 +140,12 @@ pub(super) fn rule_5(c: &mut Cases) {
     );
     c.headed(
         "rule 5: 5 stops 7",
-        "MTD→foo→\nMTD→custom[65]→a\n",
+        "MTD→foo→\nMTD→custom[]→a\n",
         &[(6, 2, 5), (7, 2, 5)],
     );
     c.headed(
         "rule 5: 5 stops 8",
-        "MTD→assay[65]-sample_ref→sample[9]\n",
+        "MTD→assay[]-sample_ref→sample[9]\n",
         &[(6, 2, 5)],
     );
     c.headed(

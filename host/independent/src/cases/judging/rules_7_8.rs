@@ -158,9 +158,9 @@ pub(super) fn rule_7(c: &mut Cases) {
         &[(6, 3, 7)],
     );
     c.mtd(
-        "rule 7: 7 stops 8 with 65",
+        "rule 7: 7 stops 8 with no index",
         "assay[1]-ms_run_ref",
-        "ms_run[65]",
+        "ms_run[]",
         &[(6, 3, 7)],
     );
     c.headed(
