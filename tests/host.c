@@ -96,6 +96,9 @@ static void known_name(char *s, uint32_t k) {
     else strcpy(s, REQUIRED[k - 251]);
 }
 
+/* Indices over 64: 128 with one name, 127 with another. */
+static void bad_name(char *s, uint32_t k) { sprintf(s, "%s[%u]", k < 128 ? "num_psms_ms_run" : "best_search_engine_score", 65 + k % 128); }
+
 /* 256 names of 16 bytes with the same sum of bytes times powers of 33: `aB` and `b!` have the same. */
 static void like_name(char *s, uint32_t k) {
     for (int b = 0; b < 8; b++)
@@ -162,6 +165,7 @@ static struct want prh_lines(size_t n) { begin(n); return headers("PRH\n", 1, 16
 static struct want opt_headers(size_t n) { begin(n); return headers(line_of("PRH", 255, opt_name), 1, 16, 1); }
 static struct want wide_headers(size_t n) { begin(n); return headers(line_of("PRH", 256, opt_name), 1, 11, 1); }
 static struct want known_headers(size_t n) { begin(n); return headers(line_of("PRH", 255, known_name), 192, 15, 2); }
+static struct want bad_headers(size_t n) { begin(n); return headers(line_of("PRH", 255, bad_name), 1 + 255, 16, 1); }
 static struct want nameless_headers(size_t n) { begin(n); return headers(line_of("PRH", 255, no_name), 1 + 255 + 254, 16, 1); }
 static struct want short_headers(size_t n) { begin(n); return headers(line_of("SMH", 255, short_name), 1 + 255 + 254, 16, 1); }
 static struct want near_headers(size_t n) { begin(n); return headers(line_of("SMH", 255, near_name), 1 + 255 + 254, 16, 1); }
@@ -199,13 +203,32 @@ static struct want marks(size_t n, size_t odd) {
 static struct want closed_marks(size_t n) { return marks(n, 0); }
 static struct want open_marks(size_t n) { return marks(n, 1); }
 
-static struct want long_index(size_t n) {
+/* A line with this digit over and over between two texts, and one break of the rule at the cell beside those of rule 21. */
+static struct want digits_in(size_t n, const char *front, uint8_t digit, const char *end, uint32_t rule, uint32_t cell) {
     begin(n);
-    put("MTD\tsample[");
-    fill('1', n - 4);
-    put("]\ta\n");
-    return want(6, 5, 1, 2);
+    put(front);
+    fill(digit, n - strlen(end));
+    put(end);
+    return want(6, rule, 1, cell);
 }
+
+static struct want long_index(size_t n) { return digits_in(n, "MTD\tsample[", '1', "]\ta\n", 5, 2); }
+static struct want long_zero(size_t n) { return digits_in(n, "MTD\tsample[", '0', "]-description\ta\n", 23, 2); }
+static struct want long_over(size_t n) { return digits_in(n, "MTD\tsample[", '1', "]-description\ta\n", 24, 2); }
+static struct want long_reference(size_t n) { return digits_in(n, "MTD\tassay[1]-ms_run_ref\tms_run[", '0', "]\n", 23, 3); }
+
+/* A list of references of which the second has a bad index, and the last is none at all where `none` says so. */
+static struct want bad_references(size_t n, int none) {
+    begin(n);
+    put("MTD\tstudy_variable[1]-assay_refs\tassay[1],");
+    over("assay[065], assay[65],", n - 8);
+    put(none ? "assay[1a" : "assay[2]");
+    absent(0);
+    return want(6, none ? 7 : 23, 1, 3);
+}
+
+static struct want unfit_references(size_t n) { return bad_references(n, 0); }
+static struct want nearly_references(size_t n) { return bad_references(n, 1); }
 
 static struct want references(size_t n) {
     begin(n);
@@ -295,13 +318,19 @@ static const struct hostile {
     {"nearly known keys", nearly_keys},
     {"empty keys", no_keys},
     {"key with a long index", long_index},
+    {"key but for an index of zeros", long_zero},
+    {"key but for a long index", long_over},
     {"MTD x y lines", mtd_lines},
     {"reference list", references},
+    {"reference, an index of zeros", long_reference},
+    {"list of bad indices", unfit_references},
+    {"list of bad indices, and none", nearly_references},
     {"parameter list", parameters},
     {"PRH lines", prh_lines},
     {"headers of 255 opt_ names", opt_headers},
     {"headers of 256 names", wide_headers},
     {"headers of 255 known names", known_headers},
+    {"headers of 255 bad indices", bad_headers},
     {"headers of 255 empty names", nameless_headers},
     {"headers of 255 names `s`", short_headers},
     {"headers of 255 names `sma`", near_headers},
@@ -490,6 +519,47 @@ static void lists(void) {
     }
     free(long_list);
     group("a long lent list");
+}
+
+/* The first break of a line alone, and the one after it: the next of the line, or the first of rule 21. */
+static void judged_as(const char *line, uint32_t cell, uint32_t rule, uint32_t rule_after, const char *what) {
+    uint32_t places[7], number = 77;
+    mark(places, COUNT(places));
+    uint32_t count = mztab_judge((const uint8_t *)line, strlen(line), places, 6, &number);
+    check(number == 0 && count == (rule_after == 21 ? 6 : 7), what, count);
+    check(places[0] == rule && places[1] == 1 && places[2] == cell, what, places[0]);
+    check(places[3] == rule_after && places[4] == (rule_after == 21 ? 2 : 1), what, places[3]);
+    check(marked(places + 6, 1), what, 0);
+}
+
+/* Rules 23 and 24 in place of 5, 7 and 12: the leftmost bad index decides. */
+static void indices(void) {
+    static const struct { const char *key; uint32_t rule; } keys[] = {
+        {"sample[01]-description", 23}, {"sample[065]-description", 23}, {"sample[65]-description", 24}, {"sample[18446744073709551617]-description", 24},
+        {"assay[0]-ms_run_ref", 23}, {"assay[00]-ms_run_ref", 23}, {"software[65]-setting[01]", 24}, {"software[01]-setting[65]", 23},
+        {"software[64]-setting[65]", 24}, {"software[1]-setting[0]", 23}, {"sample[0]-nothing", 5}, {"sample[65]", 5}, {"sample[]-description", 5},
+        {"sample[1a]-description", 5}, {"sample[-1]-description", 5}, {"sample[ 1]-description", 5}, {"software[01]-setting[]", 5}, {"software[0]setting[1]", 5}};
+    static const struct { const char *value; uint32_t rule; } values[] = {
+        {"assay[077]", 23}, {"assay[77]", 24}, {"assay[0],assay[65]", 23}, {"assay[1], assay[65],  assay[0]", 24}, {"assay[64],assay[064]", 23},
+        {"sample[077]", 7}, {"assay[01],sample[1]", 7}, {"assay[01],assay[1a]", 7}, {"assay[01],", 7}, {"assay[01] ,assay[1]", 7}, {" assay[01]", 7},
+        {"assay[1],assay[01]x", 7}, {"assay[1]", 8}};
+    static const struct { const char *name; uint32_t rule; } names[] = {
+        {"num_psms_ms_run[077]", 23}, {"num_psms_ms_run[65]", 24}, {"search_engine_score[65]_ms_run[0]", 24}, {"search_engine_score[1]_ms_run[0]", 23},
+        {"search_engine_score[0]", 12}, {"num_psms_ms_run[1a]", 12}, {"num_psms_ms_run[]", 12}, {"num_psms_ms_run[64]", 15}};
+    char line[128];
+    for (size_t i = 0; i < COUNT(keys); i++) {
+        sprintf(line, "MTD\t%s\tx", keys[i].key);
+        judged_as(line, 2, keys[i].rule, 21, "key");
+    }
+    for (size_t i = 0; i < COUNT(values); i++) {
+        sprintf(line, "MTD\tstudy_variable[1]-assay_refs\t%s", values[i].value);
+        judged_as(line, 3, values[i].rule, 21, "value");
+    }
+    for (size_t i = 0; i < COUNT(names); i++) {
+        sprintf(line, "PRH\t%s", names[i].name);
+        judged_as(line, 1, 16, names[i].rule, "column name");
+    }
+    group("bad indices");
 }
 
 /* Whether the first n bytes give the same over places for so many breaks and over as many records: number, count, and every place, marked ones too. */
@@ -1216,6 +1286,7 @@ int main(int words, char **word) {
     if (most == 0 || most > LIMIT) most = LIMIT;
     limits();
     lists();
+    indices();
     stand_ins();
     records();
     edges();

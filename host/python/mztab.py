@@ -91,8 +91,8 @@ class AllZero(Refusal):
 
 
 class Break(NamedTuple):
-    """A place where a file breaks a rule, 1 to 22. Lines and cells count from 1; cell 1 is the line code. Rules 21 and 22 are reported at the line after
-    the last, and their cell is a number that stands for the key that is absent: docs/rules.md has it.
+    """A place where a file breaks a rule, 1 to 24. Lines and cells count from 1; cell 1 is the line code. Rules 21 and 22 are reported at the line after
+    the last, and their cell is a number that stands for the key that is absent: docs/rules.md has it. All others, 23 and 24 too, are reported at a cell.
     """
 
     line: int

@@ -51,6 +51,25 @@ class Judging(unittest.TestCase):
         lines[2] = b"MTD\tmzTab-type\tquantification"
         self.assertEqual(mztab.judge(b"\n".join(lines)), [(3, 3, 7)])
 
+    def test_bad_indices(self):
+        for line, cell, rule in [
+            (b"MTD\tsample[01]-description\ta", 2, 23),
+            (b"MTD\tsample[65]-description\ta", 2, 24),
+            (b"MTD\tassay[0]-ms_run_ref\tms_run[1]", 2, 23),
+            (b"MTD\tsoftware[65]-setting[01]\ta", 2, 24),
+            (b"MTD\tsoftware[01]-setting[65]\ta", 2, 23),
+            (b"MTD\tassay[1]-ms_run_ref\tms_run[077]", 3, 23),
+            (b"MTD\tstudy_variable[1]-assay_refs\tassay[1], assay[65],assay[0]", 3, 24),
+            (b"SMH\tidentifier\tcharge\tbest_search_engine_score[077]", 4, 23),
+            (b"SMH\tidentifier\tcharge\tsmallmolecule_abundance_assay[65]", 4, 24),
+            # What is wrong besides stays what it was.
+            (b"MTD\tsample[0]-nothing\ta", 2, 5),
+            (b"MTD\tsample[1a]-description\ta", 2, 5),
+            (b"MTD\tassay[1]-ms_run_ref\tassay[077]", 3, 7),
+            (b"SMH\tidentifier\tcharge\tbest_search_engine_score[1a]", 4, 12),
+        ]:
+            self.assertEqual(mztab.judge(line, 2), [(1, cell, rule), (2, 1, 21)], line)
+
     def test_the_first_breaks(self):
         for most in range(9):
             self.assertEqual(mztab.judge(YEAST, most), mztab.judge(YEAST)[:most])

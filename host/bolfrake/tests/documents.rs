@@ -97,6 +97,26 @@ fn the_example_of_each_rule() {
     }
 }
 
+/// What the page of rule 23 says of brackets.
+#[test]
+fn what_breaks_rules_23_and_24() {
+    let broken = |key: &str| {
+        let mut lines = head();
+        lines.push(format!("MTD\t{key}\ta"));
+        printed(&lines)
+    };
+    let words = between(page(23), "decides between rules 23 and 24: ", "stays.");
+    let (two, others) = words.split_once('.').unwrap();
+    let keys = quoted(two);
+    assert_eq!(broken(keys[0]), "FAULTS 1\n10 2 23");
+    assert_eq!(broken(keys[1]), "FAULTS 1\n10 2 24");
+    assert_eq!(quoted(others).len(), 4);
+    for bracket in quoted(others) {
+        let key = format!("sample{bracket}-description");
+        assert_eq!(broken(&key), "FAULTS 1\n10 2 5", "{key}");
+    }
+}
+
 /// Whether the file is accepted with the mended piece: in place of the line or the cell of the break, or as a line above the headers.
 fn mends(lines: &[String], at: &str, mended: &str) -> bool {
     let numbers: Vec<usize> = at.split(' ').map(|word| word.parse().unwrap()).collect();

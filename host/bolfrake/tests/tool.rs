@@ -9,6 +9,7 @@ use std::path::PathBuf;
 use std::process::{Command, Stdio};
 
 use common::Run;
+use mztab::RULES;
 use samples::{Export, EXPORTS};
 
 /// Nine lines, with all that a Summary Identification file of proteins and small molecules needs.
@@ -171,6 +172,71 @@ fn demands_for_programs() {
         \"detail\": \"no MTD line of three cells has the key `{key}`: {reason}\"}}]}}"
     );
     assert!(run.out.contains(&expected), "{}", run.out);
+}
+
+/// Bad indices in keys, in a value and in column names. The line with the bad value declares `assay[1]` all the same.
+const BAD_INDICES: &str = "MTD\tsample[01]-description\ta\nMTD\tassay[1]-ms_run_ref\tms_run[077]\nMTD\tassay[77]-ms_run_ref\tms_run[1]\n\
+    SMH\tidentifier\tcharge\tsmallmolecule_abundance_assay[1]\tsmallmolecule_abundance_assay[77]\tbest_search_engine_score[0]\nSML\tC1\t1\t1\tx\ty\n";
+
+/// What is told of them: the line, the cell, the rule, the cell that is shown, and what is wrong with it.
+const BAD_INDICES_TOLD: [(u32, u32, u32, &str, &str); 5] = [
+    (10, 2, 23, "sample[01]-description", "index [01] has a leading zero: write [1]"),
+    (11, 3, 23, "ms_run[077]", "for the key `assay[1]-ms_run_ref`, index [077] has a leading zero: indices run from 1 to 64"),
+    (12, 2, 24, "assay[77]-ms_run_ref", "index [77] is over 64"),
+    (13, 5, 24, "smallmolecule_abundance_assay[77]", "index [77] is over 64"),
+    (13, 6, 23, "best_search_engine_score[0]", "index [0] is zero: indices run from 1 to 64"),
+];
+
+/// The title of rule 23 or 24.
+fn title_of(rule: u32) -> &'static str {
+    match rule {
+        23 => "index zero or with a leading zero",
+        _ => "index over 64",
+    }
+}
+
+#[test]
+fn indices_that_are_none() {
+    let folder = Folder::new("indices");
+    let run = folder
+        .write("i.mztab", headed(BAD_INDICES))
+        .run(&["check", "i.mztab"]);
+    let mut expected = String::new();
+    for (line, cell, rule, shown, detail) in BAD_INDICES_TOLD {
+        let title = title_of(rule);
+        expected += &format!("i.mztab:{line}:{cell}: rule {rule}: {title}: `{shown}`, {detail}\n");
+    }
+    expected +=
+        "i.mztab: 5 breaks\n1 file: 0 accepted, 1 with breaks, 0 not judged; 5 breaks in all\n";
+    assert_eq!((run.status, run.out), (1, expected));
+    // Cells under such a column are text, so no row breaks a rule.
+    let run = folder.run(&["rows", "--format", "csv", "i.mztab"]);
+    let expected = "i.mztab,small-molecule,5,1,0,1\n";
+    assert!(run.out.ends_with(expected), "{}", run.out);
+}
+
+#[test]
+fn indices_for_programs() {
+    let folder = Folder::new("indices for programs");
+    folder.write("i.mztab", headed(BAD_INDICES));
+    let run = folder.run(&["check", "--format", "csv", "i.mztab"]);
+    let lines: Vec<&str> = run.out.lines().skip(1).collect();
+    assert_eq!(lines.len(), BAD_INDICES_TOLD.len());
+    for (found, (line, cell, rule, shown, detail)) in lines.iter().zip(BAD_INDICES_TOLD) {
+        let title = title_of(rule);
+        let mark = if detail.contains(',') { "\"" } else { "" };
+        let expected =
+            format!("i.mztab,{line},{cell},{rule},{title},`{shown}`,{mark}{detail}{mark}");
+        assert_eq!(*found, expected);
+    }
+    let run = folder.run(&["check", "--format", "json", "i.mztab"]);
+    for (line, cell, rule, shown, detail) in BAD_INDICES_TOLD {
+        let title = title_of(rule);
+        let expected = format!(
+            "\n  {{\"line\": {line}, \"cell\": {cell}, \"rule\": {rule}, \"words\": \"{title}\", \"shown\": \"{shown}\", \"detail\": \"{detail}\"}}"
+        );
+        assert!(run.out.contains(&expected), "{}", run.out);
+    }
 }
 
 #[test]
@@ -673,8 +739,18 @@ fn pages() {
     assert!(run
         .out
         .starts_with("## Rule 22: metadata that the mode and type ask for is absent\n"));
-    assert_eq!(folder.run(&["explain"]).out.lines().count(), 22);
-    assert_eq!(folder.run(&["explain", "23"]).status, 2);
+    for (rule, title) in [
+        ("23", "index zero or with a leading zero"),
+        ("24", "index over 64"),
+    ] {
+        let run = folder.run(&["explain", rule]);
+        let beginning = format!("## Rule {rule}: {title}\n");
+        assert!(run.out.starts_with(&beginning), "{}", run.out);
+    }
+    assert_eq!(folder.run(&["explain"]).out.lines().count(), 24);
+    let run = folder.run(&["explain", "25"]);
+    let expected = "bolfrake: explain knows the rules 1 to 24, `values` and `names`, and not `25` (`bolfrake explain --help` tells how)\n";
+    assert_eq!((run.status, run.error.as_str()), (2, expected));
 }
 
 #[test]
@@ -693,6 +769,14 @@ fn help_and_wrong_uses() {
         assert_eq!((run.status, run.out.as_str(), run.error), (2, "", expected));
     }
     assert!(folder.run(&["--version"]).out.starts_with("bolfrake 0."));
+    // All that name a number of rules name the same.
+    for (words, rules) in [
+        (&["--version"][..], format!(" {RULES} rules,")),
+        (&["check", "--help"], format!(" the {RULES} rules ")),
+        (&["explain", "--help"], format!(" 1 to {RULES}:")),
+    ] {
+        assert!(folder.run(words).out.contains(&rules), "{words:?}");
+    }
     for words in [
         &["frob"][..],
         &["check"],

@@ -160,7 +160,7 @@ pub const DEMANDS: [Demand; 15] = [
     ),
 ];
 
-/// An id has an index from 1 to this.
+/// An index is from 1 to this, and has no leading zero.
 pub const INDICES: u32 = 64;
 
 const fn each(cell: u32, key: &'static str, reason: &'static str) -> Demand {
@@ -206,6 +206,59 @@ pub fn demand_at(cell: u32) -> Option<(&'static Demand, u32)> {
     let least = u32::from(demand.each);
     let most = if demand.each { INDICES } else { 0 };
     (least..=most).contains(&index).then_some((demand, index))
+}
+
+/// What stands in a bracket of digits alone, and is no index.
+#[derive(Clone, Copy, Debug, PartialEq, Eq)]
+pub struct BadIndex<'a> {
+    /// One digit or more.
+    pub digits: &'a [u8],
+    /// Their number, or `u32::MAX` where it is larger.
+    pub number: u32,
+}
+
+impl BadIndex<'_> {
+    /// The rule that it breaks: 23 for zero and for a leading zero, else 24.
+    pub fn rule(&self) -> u32 {
+        match self.digits {
+            [b'0', ..] => 23,
+            _ => 24,
+        }
+    }
+}
+
+/// The leftmost bad index of a cell. Of a key, a value or a column name that breaks rule 23 or 24 it is the one that decides.
+///
+/// ```
+/// let index = mztab::format::bad_index(b"software[1]-setting[065]").unwrap();
+/// assert_eq!((index.digits, index.number, index.rule()), (b"065" as &[u8], 65, 23));
+/// assert_eq!(mztab::format::bad_index(b"assay[64], assay[1a]"), None);
+/// ```
+pub fn bad_index(cell: &[u8]) -> Option<BadIndex<'_>> {
+    let mut rest = cell;
+    while let Some(bracket) = rest.iter().position(|byte| *byte == b'[') {
+        rest = &rest[bracket + 1..];
+        let length = rest.iter().take_while(|byte| byte.is_ascii_digit());
+        let (digits, after) = rest.split_at(length.count());
+        if after.first() == Some(&b']') {
+            let found = bad(digits);
+            if found.is_some() {
+                return found;
+            }
+        }
+        rest = after;
+    }
+    None
+}
+
+/// The digits of a bracket, where they are no index. No digit at all is no bad index.
+fn bad(digits: &[u8]) -> Option<BadIndex<'_>> {
+    let first = digits.first()?;
+    let value = |digit: &u8| u32::from(*digit - b'0');
+    let number = digits.iter().map(value).fold(0, |number: u32, digit| {
+        number.saturating_mul(10).saturating_add(digit)
+    });
+    (*first == b'0' || number > INDICES).then_some(BadIndex { digits, number })
 }
 
 /// The section whose headers have this code.

@@ -1,4 +1,4 @@
-//! The verified reader of mzTab 1.0 files, safe to call from Rust: [`judge`] judges a file by the 22 rules, [`cell`] shows a cell as the
+//! The verified reader of mzTab 1.0 files, safe to call from Rust: [`judge`] judges a file by the 24 rules, [`cell`] shows a cell as the
 //! very bytes that stand there, [`reading`] reads it as a number, [`rows`] counts rows, and [`weights`] and [`split_fee`] split a fee.
 //!
 //! ```
@@ -24,7 +24,7 @@ use std::fmt;
 pub const LIMIT: usize = 16_777_216;
 
 /// How many rules there are; they are numbered from 1.
-pub const RULES: u32 = 22;
+pub const RULES: u32 = 24;
 
 /// A fee, and a sum of amounts, is at most so many cents.
 pub const FEE_LIMIT: u64 = 100_000_000_000;

@@ -84,7 +84,8 @@ mod c {
     }
 }
 
-/// A place where a file breaks a rule, laid out as `struct mztab_fault`. Lines, cells and rules count from 1.
+/// A place where a file breaks a rule, laid out as `struct mztab_fault`. Lines, cells and rules count from 1. Rules 21 and 22 stand at the
+/// line after the last, and their cell for the key that is absent ([`crate::format`]); all others at a cell.
 #[repr(C)]
 #[derive(Clone, Copy, Debug, Default, PartialEq, Eq)]
 pub struct Break {

@@ -43,6 +43,72 @@ fn an_empty_file() {
     assert_eq!(cell(b"", 1, 0, 1), Err(Refusal::NoRow));
 }
 
+/// The cell and the rule of each break on the file's first line.
+fn on_first_line(file: &str) -> Vec<(u32, u32)> {
+    let judged = judge_all(file.as_bytes()).unwrap();
+    let breaks = judged.breaks().filter(|at| at.line == 1);
+    breaks.map(|at| (at.cell, at.rule)).collect()
+}
+
+#[test]
+fn indices_that_are_none() {
+    for (line, cell, rule) in [
+        ("MTD\tsample[01]-description\ta", 2, 23),
+        ("MTD\tsample[65]-description\ta", 2, 24),
+        ("MTD\tsample[065]-description\ta", 2, 23),
+        ("MTD\tassay[0]-ms_run_ref\tms_run[1]", 2, 23),
+        ("MTD\tsoftware[65]-setting[01]\ta", 2, 24),
+        ("MTD\tsoftware[01]-setting[65]\ta", 2, 23),
+        ("MTD\tassay[1]-ms_run_ref\tms_run[077]", 3, 23),
+        ("MTD\tassay[1]-ms_run_ref\tms_run[77]", 3, 24),
+        (
+            "MTD\tstudy_variable[1]-assay_refs\tassay[1], assay[65],assay[0]",
+            3,
+            24,
+        ),
+        // What is wrong besides stays what it was.
+        ("MTD\tsample[0]-nothing\ta", 2, 5),
+        ("MTD\tsample[1a]-description\ta", 2, 5),
+        ("MTD\tsample[]-description\ta", 2, 5),
+        ("MTD\tassay[1]-ms_run_ref\tassay[077]", 3, 7),
+        ("MTD\tassay[1]-ms_run_ref\tms_run[-1]", 3, 7),
+        ("MTD\tstudy_variable[1]-assay_refs\tassay[0], assay", 3, 7),
+    ] {
+        assert_eq!(on_first_line(line), [(cell, rule)], "{line}");
+    }
+    // The required columns are absent too.
+    for (name, rule) in [
+        ("num_psms_ms_run[077]", 23),
+        ("num_psms_ms_run[77]", 24),
+        ("search_engine_score[65]_ms_run[0]", 24),
+        ("num_psms_ms_run[1a]", 12),
+        ("num_psms_ms_run[ 1]", 12),
+        // It is known in other sections.
+        ("search_engine_score[077]", 12),
+    ] {
+        let found = on_first_line(&format!("PRH\t{name}"));
+        assert_eq!(found, [(1, 16), (2, rule)], "{name}");
+    }
+}
+
+#[test]
+fn bad_indices_stop_what_an_unknown_name_stops() {
+    // Neither the value nor a second line is judged; nothing is declared.
+    let key = "MTD\tassay[01]-ms_run_ref\tx\n";
+    let file = key.repeat(2) + "MTD\tstudy_variable[1]-assay_refs\tassay[1]\n";
+    let breaks: Vec<Break> = judge_all(file.as_bytes()).unwrap().breaks().collect();
+    let expected = [broken(1, 2, 23), broken(2, 2, 23), broken(3, 3, 8)];
+    assert_eq!(breaks[..3], expected);
+    // Rules 13 and 14 are judged at a column name, rule 15 is not; a cell under it is text.
+    let file = "SMH\tidentifier\tcharge\topt_a\tbest_search_engine_score[0]\tbest_search_engine_score[0]\tsmallmolecule_abundance_assay[65]\n\
+        SML\tC1\t1\tx\tx\tx\tx\n";
+    let breaks: Vec<Break> = judge_all(file.as_bytes()).unwrap().breaks().collect();
+    let at = |cell: u32, rules: &[u32]| rules.iter().map(|rule| broken(1, cell, *rule)).collect();
+    let expected: [Vec<Break>; 3] = [at(5, &[14, 23]), at(6, &[13, 14, 23]), at(7, &[14, 24])];
+    assert_eq!(breaks[..7], expected.concat());
+    assert!(breaks[7..].iter().all(|at| at.rule == 21));
+}
+
 #[test]
 fn lists_shorter_than_the_count() {
     for most in 0..9 {

@@ -1,8 +1,8 @@
 //! The names that the binding has of the format are those that the library judges by.
 
 use mztab::format::{
-    demand_at, headed, Demand, Section, COMMENT, DEMANDS, INDICES, METADATA, MODE, MODES,
-    REQUIRED_KEYS, SECTIONS, TYPE, TYPES,
+    bad_index, demand_at, headed, Demand, Section, COMMENT, DEMANDS, INDICES, METADATA, MODE,
+    MODES, REQUIRED_KEYS, SECTIONS, TYPE, TYPES,
 };
 use mztab::{cell, judge_all, rows, Break};
 
@@ -234,6 +234,78 @@ fn cells_of_demands() {
     }
     assert_eq!(DEMANDS[0].key_of(64), "assay[64]-ms_run_ref");
     assert!(DEMANDS.windows(2).all(|two| two[0].cell < two[1].cell));
+}
+
+/// What may stand in a bracket, with bars between.
+const BRACKETS: &str =
+    "0|00|01|010|064|065|1|9|10|64|65|99|100|4294967297|18446744073709551617||1a|-1| 1|+1";
+
+/// The rule that the first line of a file breaks beside 16: one at most, and at this cell.
+fn rule_at(line: &str, cell: u32) -> Option<u32> {
+    let found = breaks(line).into_iter().filter(|at| at.line == 1);
+    let mut found = found.filter(|at| at.rule != 16);
+    let rule = found.next().map(|at| {
+        assert_eq!(at.cell, cell, "{line}");
+        at.rule
+    });
+    assert_eq!(found.next(), None, "{line}");
+    rule
+}
+
+/// The rule that a name breaks by what stands in its brackets: where they hold digits alone that of its leftmost bad index, if it has
+/// one, else the other.
+fn by_brackets(name: &str, brackets: &[&str], other: u32) -> Option<u32> {
+    let is_number =
+        |bracket: &&str| !bracket.is_empty() && bracket.bytes().all(|byte| byte.is_ascii_digit());
+    if brackets.iter().all(is_number) {
+        bad_index(name.as_bytes()).map(|index| index.rule())
+    } else {
+        Some(other)
+    }
+}
+
+#[test]
+fn bad_indices() {
+    for i in BRACKETS.split('|') {
+        for j in BRACKETS.split('|') {
+            let key = format!("software[{i}]-setting[{j}]");
+            let found = rule_at(&line(METADATA, &[&key, "a"]), 2);
+            assert_eq!(found, by_brackets(&key, &[i, j], 5), "{key}");
+            let name = format!("search_engine_score[{i}]_ms_run[{j}]");
+            let found = rule_at(&line(b"PRH", &[&name]), 2);
+            // A run that is not declared breaks rule 15 where the name is a known one.
+            let expected = by_brackets(&name, &[i, j], 12).or(Some(15));
+            assert_eq!(found, expected, "{name}");
+            let value = format!("assay[{i}], assay[{j}]");
+            let found = rule_at(
+                &line(METADATA, &["study_variable[1]-assay_refs", &value]),
+                3,
+            );
+            let expected = by_brackets(&value, &[i, j], 7).or(Some(8));
+            assert_eq!(found, expected, "{value}");
+        }
+    }
+}
+
+#[test]
+fn which_index_is_bad() {
+    let found = |cell: &str| {
+        let index = bad_index(cell.as_bytes());
+        index.map(|index| (index.digits.to_vec(), index.number))
+    };
+    let bad = |digits: &str, number: u32| Some((digits.as_bytes().to_vec(), number));
+    assert_eq!(found("sample[065]-description"), bad("065", 65));
+    assert_eq!(found("software[64]-setting[000]"), bad("000", 0));
+    assert_eq!(
+        found("assay[1a],assay[],[[0065],assay[77]"),
+        bad("0065", 65)
+    );
+    assert_eq!(found("assay[4294967296]"), bad("4294967296", u32::MAX));
+    for cell in [
+        "", "[", "]", "[]", "[0", "0]", "[0[", "[64]", "[0 ]", "a[1][2]",
+    ] {
+        assert_eq!(found(cell), None, "{cell}");
+    }
 }
 
 #[test]

@@ -161,7 +161,7 @@ mod tests {
     fn other_pages() {
         assert!(page_of("values").unwrap().contains("**Whole**"));
         assert!(page_of("names").unwrap().starts_with("## Known names\n"));
-        for unknown in ["0", "23", "-1", "seven", ""] {
+        for unknown in ["0", "25", "-1", "seven", ""] {
             assert!(page_of(unknown).is_err(), "{unknown}");
         }
     }
@@ -170,5 +170,6 @@ mod tests {
     fn the_list() {
         assert_eq!(list().lines().count(), RULES as usize);
         assert!(list().contains("19  empty cell in a row\n"));
+        assert!(list().ends_with("23  index zero or with a leading zero\n24  index over 64\n"));
     }
 }

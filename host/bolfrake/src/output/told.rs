@@ -1,6 +1,6 @@
 //! A break in words: the rule's title, the cell that stands there, and what else helps to mend it.
 
-use mztab::format::{demand_at, headed, REQUIRED_KEYS};
+use mztab::format::{bad_index, demand_at, headed, BadIndex, INDICES, METADATA, REQUIRED_KEYS};
 use mztab::Break;
 
 use crate::files::finder::{cells, code, Finder};
@@ -49,8 +49,9 @@ impl<'a> Teller<'a> {
             21 => (None, absent(&required(at.cell))),
             22 => (None, demanded(at.cell)),
             _ => {
-                let shown = self.finder.find(at.line, at.cell).map(show::cell);
-                (shown, self.detail(at))
+                let cell = self.finder.find(at.line, at.cell);
+                let detail = self.detail(at, cell.unwrap_or_default());
+                (cell.map(show::cell), detail)
             }
         };
         Told {
@@ -61,11 +62,11 @@ impl<'a> Teller<'a> {
         }
     }
 
-    fn detail(&mut self, at: Break) -> String {
+    fn detail(&mut self, at: Break, cell: &[u8]) -> String {
         let line = self.finder.line();
         match at.rule {
             3 | 11 => format!("the line has {}", count(line)),
-            7 | 8 => format!("for the key `{}`", key(line)),
+            7 | 8 => for_key(line),
             16 => format!("the header has no {}", self.lacking(line)),
             18 => format!(
                 "the row has {}, its header {}",
@@ -73,6 +74,8 @@ impl<'a> Teller<'a> {
                 count(self.finder.header())
             ),
             19 | 20 => format!("in the column `{}`", self.column(at.cell)),
+            23 | 24 if is_value(line, at.cell) => format!("{}, {}", for_key(line), unfit(cell)),
+            23 | 24 => unfit(cell),
             _ => String::new(),
         }
     }
@@ -132,9 +135,36 @@ fn count(line: &[u8]) -> String {
     show::counted(cells(line).count() as u64, "cell")
 }
 
-/// The key of a metadata line.
-fn key(line: &[u8]) -> String {
-    show::cell(cells(line).nth(1).unwrap_or_default())
+/// Which key a metadata line has.
+fn for_key(line: &[u8]) -> String {
+    let key = show::cell(cells(line).nth(1).unwrap_or_default());
+    format!("for the key `{key}`")
+}
+
+/// Whether the cell of the line is the value of a key. A header has a column name there.
+fn is_value(line: &[u8], cell: u32) -> bool {
+    cell == 3 && code(line) == METADATA
+}
+
+/// What is wrong with the leftmost bad index of a cell that breaks rule 23 or 24.
+fn unfit(cell: &[u8]) -> String {
+    bad_index(cell).map_or(String::new(), |index| flaw(&index))
+}
+
+/// What is wrong with an index, and what to write for it where that is clear.
+fn flaw(index: &BadIndex) -> String {
+    let shown = show::cell(index.digits);
+    match (index.rule(), index.number) {
+        (_, 0) => format!("index [{shown}] is zero: indices run from 1 to {INDICES}"),
+        (23, 1..=INDICES) => {
+            format!(
+                "index [{shown}] has a leading zero: write [{}]",
+                index.number
+            )
+        }
+        (23, _) => format!("index [{shown}] has a leading zero: indices run from 1 to {INDICES}"),
+        _ => format!("index [{shown}] is over {INDICES}"),
+    }
 }
 
 #[cfg(test)]
@@ -168,7 +198,7 @@ mod tests {
         for case in independent::cases::judging::all() {
             let judged = mztab::judge_all(&case.file).unwrap();
             let mut teller = Teller::new(&case.file, &titles);
-            for at in judged.breaks().filter(|at| at.rule < 21) {
+            for at in judged.breaks().filter(|at| ![21, 22].contains(&at.rule)) {
                 let shown = teller.tell(at).shown;
                 assert!(shown.is_some(), "{}", case.label);
                 assert_eq!(
@@ -193,6 +223,91 @@ mod tests {
                 assert!(named, "{}: {detail}", case.label);
             }
         }
+    }
+
+    #[test]
+    fn the_bad_index_is_shown() {
+        let titles = Titles::new();
+        for case in independent::cases::judging::all() {
+            let judged = mztab::judge_all(&case.file).unwrap();
+            let mut teller = Teller::new(&case.file, &titles);
+            for at in judged.breaks().filter(|at| [23, 24].contains(&at.rule)) {
+                let detail = teller.tell(at).detail;
+                let shown =
+                    detail.contains("index [") && detail.contains("] is over") == (at.rule == 24);
+                assert!(shown, "{}: {detail}", case.label);
+            }
+        }
+    }
+
+    #[test]
+    fn what_is_wrong_with_an_index() {
+        for (cell, words) in [
+            (
+                "sample[01]-description",
+                "[01] has a leading zero: write [1]",
+            ),
+            (
+                "software[1]-setting[064]",
+                "[064] has a leading zero: write [64]",
+            ),
+            (
+                "ms_run[065]",
+                "[065] has a leading zero: indices run from 1 to 64",
+            ),
+            ("assay[0]", "[0] is zero: indices run from 1 to 64"),
+            ("assay[000]", "[000] is zero: indices run from 1 to 64"),
+            ("sample[65]-description", "[65] is over 64"),
+            ("assay[64],assay[100], assay[01]", "[100] is over 64"),
+            (
+                "software[01]-setting[65]",
+                "[01] has a leading zero: write [1]",
+            ),
+            ("software[65]-setting[01]", "[65] is over 64"),
+        ] {
+            assert_eq!(unfit(cell.as_bytes()), format!("index {words}"), "{cell}");
+        }
+        assert_eq!(unfit(b"sample[64]-description"), "");
+    }
+
+    #[test]
+    fn long_indices_are_cut() {
+        let long = |digits: String| unfit(format!("sample[{digits}]").as_bytes());
+        let many = |digit: &str| digit.repeat(1_000_000);
+        let cut = |digit: &str| format!("index [{}…]", digit.repeat(show::WIDTH));
+        assert_eq!(long(many("7")), cut("7") + " is over 64");
+        assert_eq!(
+            long(many("0") + "9"),
+            cut("0") + " has a leading zero: write [9]"
+        );
+        assert_eq!(
+            long(many("0")),
+            cut("0") + " is zero: indices run from 1 to 64"
+        );
+    }
+
+    #[test]
+    fn bad_indices_of_keys_values_and_columns() {
+        let lines = told(
+            b"MTD\tsample[01]-description\ta\nMTD\tassay[1]-ms_run_ref\tms_run[77]\n\
+            PRH\taccession\tnum_psms_ms_run[0]\tnum_psms_ms_run[1a]\tsearch_engine_score[65]_ms_run[1]\n\
+            MTD\tsample[0]-nothing\ta\nMTD\tassay[2]-ms_run_ref\tassay[01]\n",
+        );
+        let (zero, over) = (Titles::new().of(23), Titles::new().of(24));
+        let expected = [
+            format!("23 {zero} Some(\"sample[01]-description\") index [01] has a leading zero: write [1]"),
+            format!("24 {over} Some(\"ms_run[77]\") for the key `assay[1]-ms_run_ref`, index [77] is over 64"),
+            "16 required column absent Some(\"PRH\") the header has no `description`, `database`, `search_engine`".to_string(),
+            // Cell 3 of a header is the value of no key.
+            format!("23 {zero} Some(\"num_psms_ms_run[0]\") index [0] is zero: indices run from 1 to 64"),
+            "12 unknown column name Some(\"num_psms_ms_run[1a]\") ".to_string(),
+            format!("24 {over} Some(\"search_engine_score[65]_ms_run[1]\") index [65] is over 64"),
+            "4 MTD line after a header or row Some(\"MTD\") ".to_string(),
+            "5 unknown key Some(\"sample[0]-nothing\") ".to_string(),
+            "4 MTD line after a header or row Some(\"MTD\") ".to_string(),
+            "7 value not of its kind Some(\"assay[01]\") for the key `assay[2]-ms_run_ref`".to_string(),
+        ];
+        assert_eq!(lines[..expected.len()], expected);
     }
 
     #[test]

@@ -3,7 +3,7 @@
 pub const VERSION: &str = concat!(
     "bolfrake ",
     env!("CARGO_PKG_VERSION"),
-    "\nmzTab 1.0, 22 rules, files of at most 16,777,216 bytes. The judging, the cells, the rows and the split of a fee are a library that is proved to keep its contracts.\n"
+    "\nmzTab 1.0, 24 rules, files of at most 16,777,216 bytes. The judging, the cells, the rows and the split of a fee are a library that is proved to keep its contracts.\n"
 );
 
 pub const ALL: &str = "\
@@ -29,14 +29,15 @@ weight to split a fee by; 2 a file cannot be read or is longer than 16,777,216 b
 const CHECK: &str = "\
 bolfrake check [--format text|csv|json] [--max N] FILE|DIR...
 
-Judges each file by the 22 rules and prints each break as
+Judges each file by the 24 rules and prints each break as
 
   FILE:LINE:CELL: rule N: words: `the cell`
 
 by line, then cell, then rule, then a line for each file and one for all. Lines and cells count from 1; cell 1 is the
 line code. Breaks of rules 21 and 22 stand at the line after the last and say which key is absent, and of rule 22 why it
-is asked for. In a cell, bytes that do not print are shown as \\xNN, a backslash as \\\\, and what does not fit is cut
-with an ellipsis.
+is asked for. Those of rules 23 and 24 say which index is wrong, and how; they stand in place of 5, 7 and 12 where a key,
+a reference or a column name is right but for its indices. In a cell, bytes that do not print are shown as \\xNN, a
+backslash as \\\\, and what does not fit is cut with an ellipsis.
 
   --format text   as above (the default)
   --format csv    a line for each break: file,line,cell,rule,words,shown,detail; the cell stands between backticks, so that a
@@ -119,7 +120,7 @@ long, or an amount or weights that are not understood.
 const EXPLAIN: &str = "\
 bolfrake explain [RULE | values | names]
 
-Prints the page of a rule, 1 to 22: what breaks it, an example, how to mend the file, and which rules it stops. `values`
+Prints the page of a rule, 1 to 24: what breaks it, an example, how to mend the file, and which rules it stops. `values`
 prints the kinds of value, `names` where the known keys and columns are listed. Without a word it lists the rules.
 ";
 
