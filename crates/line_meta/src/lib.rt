@@ -19,7 +19,7 @@ ghost use Rattle.book.specs.Book.{SLOTS, keyOf};
 ghost use Rattle.book_ids.specs.Ids.{Flags};
 ghost use Rattle.book.specs.Text.{bookIn, IsBook};
 ghost use Rattle.scan.specs.Places.{CEILING, LINE-MOST, lent, Puts};
-ghost use Rattle.scan.specs.Machine.{controlAt, some, eachCell, metaCell, metaBreaks, idsOf};
+ghost use Rattle.scan.specs.Machine.{controlAt, ruleAt, eachCell, metaCell, metaBreaks, idsOf};
 ghost use Rattle.line_meta_keys.specs.Keys.{slotted};
 ghost use Rattle.line_meta.specs.Metas.{KeepsKeys};
 
@@ -33,7 +33,7 @@ const VALUE: u32 = 3;
 // A key or its value: the cell has the line's first control byte (1), and it breaks a rule, 0 for none.
 fn put_field(places: &mut [u32], count: u32, tag: Tag, cell: u32, rule: u32) -> u32
     requires { ⌜ count + 2 ≤ CEILING ⌝ }
-    ensures { λ r. ⌜ Puts (λ rest. controlAt (tag .control) (tag .line) cell (some rule (tag .line) cell rest)) 2 (lent (now (places .entry)) count) (lent (now (places .exit)) r) ⌝ }
+    ensures { λ r. ⌜ Puts (λ rest. controlAt (tag .control) (tag .line) cell (ruleAt rule (tag .line) cell rest)) 2 (lent (now (places .entry)) count) (lent (now (places .exit)) r) ⌝ }
 {
     let k = put_if(places, count, tag.control == cell, 1, tag.line, cell);
     put_rule(places, k, rule, tag.line, cell)

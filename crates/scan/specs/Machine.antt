@@ -42,8 +42,8 @@ abbrev pub plainRest : ℕ → ℕ → List Break → List Break
 plainRest cc n rest = when (ltb 1 cc) (breakAt n cc 1) rest
 
 -- the rule r at cell c, where it is one: 0 is none
-abbrev pub some : ℕ → ℕ → ℕ → List Break → List Break
-some r n c rest = when (not (eqb r 0)) (breakAt n c r) rest
+abbrev pub ruleAt : ℕ → ℕ → ℕ → List Break → List Break
+ruleAt r n c rest = when (not (eqb r 0)) (breakAt n c r) rest
 
 -- the rule that a bad index breaks; r where none is bad
 abbrev pub flawRule : Flaw → ℕ → ℕ
@@ -94,7 +94,7 @@ fieldRule b slots ids key value c =
     (cond (eqb c 3) (valueRule ids (keyOf b key) value) 0)
 
 abbrev pub metaCell : Book → List Bool → Ids → Bytes → Bytes → ℕ → ℕ → ℕ → Bytes → List Break → List Break
-metaCell b slots ids key value cc n c x rest = controlAt cc n c (some (fieldRule b slots ids key value c) n c rest)
+metaCell b slots ids key value cc n c x rest = controlAt cc n c (ruleAt (fieldRule b slots ids key value c) n c rest)
 
 -- an MTD line of the cells xs; `table` says whether a header or row stands above
 unfoldable pub metaBreaks : Book → Bool → List Bool → Ids → ℕ → ℕ → List Bytes → List Break → List Break
@@ -129,7 +129,7 @@ abbrev pub nameCell : Bool → Bool → Ids → Found → ℕ → ℕ → ℕ �
 nameCell again opt ids found cc n c x rest =
     knownBreaks again found cc n c
     (when (not (isOpt x) && opt) (breakAt n c 14)
-    (some (nameRule ids found) n c rest))
+    (ruleAt (nameRule ids found) n c rest))
 
 abbrev pub headCell : Book → ℕ → List Bytes → Ids → ℕ → ℕ → ℕ → Bytes → List Break → List Break
 headCell b section ns ids cc n c x rest = nameCell (any (same x) (take (c - 2) ns)) (any isOpt (take (c - 2) ns)) ids (columnOf b section x) cc n c x rest

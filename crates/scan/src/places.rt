@@ -2,7 +2,7 @@
 ghost use Prim.Native.Nat.{_+_, _≤_};
 ghost use Rattle.rules.specs.Breaks.{breakAt, when};
 ghost use Rattle.scan.specs.Places.{CEILING, lent, Puts};
-ghost use Rattle.scan.specs.Machine.{some};
+ghost use Rattle.scan.specs.Machine.{ruleAt};
 
 // What a judging function is told of a line beside its bytes: its number, and the cell of its first control byte, 0 for none.
 pub struct Tag {
@@ -31,7 +31,7 @@ pub fn put_if(places: &mut [u32], count: u32, yes: bool, rule: u32, line: u32, c
 // The same of the rule, where it is one: 0 is none.
 pub fn put_rule(places: &mut [u32], count: u32, rule: u32, line: u32, cell: u32) -> u32
     requires { ⌜ count + 1 ≤ CEILING ⌝ }
-    ensures { λ r. ⌜ Puts (some rule line cell) 1 (lent (now (places .entry)) count) (lent (now (places .exit)) r) ⌝ }
+    ensures { λ r. ⌜ Puts (ruleAt rule line cell) 1 (lent (now (places .entry)) count) (lent (now (places .exit)) r) ⌝ }
 {
     put_if(places, count, rule != 0, rule, line, cell)
 }

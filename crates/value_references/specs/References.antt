@@ -52,7 +52,7 @@ trimmed (b ∷ bs) =
     let rest = trimmed bs in
     cond (isSpace b) rest (b ∷ bs)
 
--- zero or more spaces may stand in front of each piece but the first
+-- zero or more spaces may stand in front of each part but the first
 abbrev pub spaced : List Bytes → List Bytes
 spaced [] = []
 spaced (p ∷ ps) = p ∷ map trimmed ps

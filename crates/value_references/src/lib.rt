@@ -6,6 +6,7 @@ use crate::index::Flaw;
 use crate::index::Index;
 use crate::index::flaw_in;
 use crate::index::index_in;
+use crate::index::is_form;
 use crate::index::is_read;
 use crate::index::read_index;
 use crate::index::sooner;
@@ -15,12 +16,12 @@ use text_bytes::begins_with;
 use text_bytes::both;
 use text_bytes::seek;
 ghost use mathlib.Core.Path.{_≡_};
-ghost use mathlib.Core.Bool.{true, cond, _&&_};
+ghost use mathlib.Core.Bool.{true, cond};
 ghost use Rattle.value_references.specs.declared.index.Flaw.the-variants.{Form};
 ghost use Prim.Native.Nat.{_-_, _≤_};
 ghost use lib.ListN.{length, drop, set};
 ghost use lib.Dec.{eqb};
-ghost use Rattle.value_references.specs.References.{refIn, refTo, trimmed, isIndex, Tells};
+ghost use Rattle.value_references.specs.References.{refIn, refTo, trimmed, Tells};
 
 // How many families of ids there are, and how many indices a family has.
 pub const FAMILIES: usize = 4;
@@ -74,16 +75,6 @@ fn skip_spaces(s: &[u8], from: usize) -> usize
     i
 }
 
-// Whether all parts so far, and the one that refers to i, are references.
-fn good_with(good: bool, i: usize) -> bool
-    ensures { λ r. ⌜ r ≡ (good && isIndex i) ⌝ }
-{
-    if i == 0 {
-        return false;
-    }
-    good
-}
-
 // Marks the index i as named; 0 is none.
 fn mark(named: &mut [bool; INDICES], i: usize)
     requires { ⌜ i ≤ 64 ⌝ }
@@ -105,7 +96,6 @@ fn flaw_where(like: bool, flaw: Flaw) -> Flaw
 pub fn references(word: &[u8], s: &[u8]) -> Named
     ensures { λ r. ⌜ Tells (now (word .entry)) (now (s .entry)) r ⌝ }
 {
-    let mut good = true;
     let mut like = true;
     let mut flaw = Flaw::Form;
     let mut named = [false; INDICES];
@@ -113,14 +103,12 @@ pub fn references(word: &[u8], s: &[u8]) -> Named
     loop {
         let e = seek(s, at, COMMA);
         let found = read_reference(word, &s[at..e]);
-        let i = index_in(found);
-        good = good_with(good, i);
         like = both(like, is_read(found));
         flaw = sooner(flaw, flaw_in(found));
-        mark(&mut named, i);
+        mark(&mut named, index_in(found));
         if e == s.len() {
             return Named {
-                good,
+                good: both(like, is_form(flaw)),
                 flaw: flaw_where(like, flaw),
                 named,
             };

@@ -9,7 +9,7 @@ use Rattle.text_bytes.specs.Bytes.{Bytes, bytes, same, isEmpty}
 use Rattle.values.specs.Values.{isText, isNull, isWhole, isDecimal}
 use Rattle.value_references.specs.References.{refFlaw, refsFlaw}
 use Rattle.value_references.specs.declared.index.Flaw.the-variants.{Form}
-use Rattle.value_references.proofs.Laws.Names.{ref-good, refs-good}
+use Rattle.value_references.proofs.Laws.Names.{ref-flawless, refs-flawless}
 use Rattle.value_parameters.specs.Parameters.{isParameters}
 use Rattle.book_kinds.specs.Kinds.{familyNumber, wordOf, isKept, ofKind, kindFlaw, cellOfKind}
 
@@ -94,6 +94,6 @@ unfolding ofKind kindFlaw
 good-none k f b h = go (eqb k 114) (eqb k 108) refl refl
   where
     go : (t u : Bool) → eqb k 114 ≡ t → eqb k 108 ≡ u → cond t (refFlaw (wordOf f) b) (cond u (refsFlaw (wordOf f) b) Form) ≡ Form
-    go true u d e = let q = eqb-true k 114 d in ref-good (wordOf f) b (rw q at h)
-    go false true d e = let q = eqb-true k 108 e in refs-good (wordOf f) b (rw q at h)
+    go true u d e = let q = eqb-true k 114 d in ref-flawless (wordOf f) b (rw q at h)
+    go false true d e = let q = eqb-true k 108 e in refs-flawless (wordOf f) b (rw q at h)
     go false false d e = refl

@@ -15,7 +15,7 @@ use Rattle.text.specs.Lines.{cells}
 use Rattle.book.specs.Book.{Book, keyOf}
 use Rattle.rules.specs.Breaks.{breakAt, when}
 use Rattle.scan.specs.Places.{LINE-MOST, Lent, Puts}
-use Rattle.scan.specs.Machine.{Ids, eachCell, controlAt, plainRest, some, metaCell, metaBreaks}
+use Rattle.scan.specs.Machine.{Ids, eachCell, controlAt, plainRest, ruleAt, metaCell, metaBreaks}
 use Rattle.scan.proofs.Laws.Putting.{puts2, puts3}
 use Rattle.scan.proofs.Laws.Celling.{cell-here, cells-last}
 use Rattle.line_meta_keys.specs.Keys.{Judged}
@@ -28,8 +28,8 @@ first-tab {l} {e} h n =
 
 -- THE KEY AND THE VALUE
 module _ (b : Book) (cc n : ℕ) {slots : List Bool} {ids : Ids} {key value : Bytes} {r : Judgement} {o o₁ o₂ : Lent} (j : Judged b slots ids (keyOf b key) key value r)
-    (h₁ : Puts (λ rest. controlAt cc n 2 (some (r .key) n 2 rest)) 2 o o₁)
-    (h₂ : Puts (λ rest. controlAt cc n 3 (some (r .value) n 3 rest)) 2 o₁ o₂) where
+    (h₁ : Puts (λ rest. controlAt cc n 2 (ruleAt (r .key) n 2 rest)) 2 o o₁)
+    (h₂ : Puts (λ rest. controlAt cc n 3 (ruleAt (r .value) n 3 rest)) 2 o₁ o₂) where
   pub three-puts : (xs : List Bytes) → drop 1 xs ≡ key ∷ value ∷ [] → Puts (eachCell (metaCell b slots ids (getD xs 1 []) (getD xs 2 []) cc n) 2 (drop 1 xs)) 4 o o₂
   unfolding eachCell
   three-puts [] e = absurd (omega (arith, ap length e))

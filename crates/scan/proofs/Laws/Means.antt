@@ -24,7 +24,7 @@ use Rattle.book_facts.specs.Asked.{askedOf}
 use Rattle.rules.specs.Sorts.{sortOf, header, isTable, controlCell}
 use Rattle.rules.specs.Breaks.{Break, breakAt, when, Spot, spot, Rule, atCell, atLine}
 use Rattle.rules.specs.Rules.{keyFound, sameKey, valueFlaw, isWrong, namedIn, namesUndeclared, ofSection, ofLater, isWide, names, columnUndeclared, lacksColumn, nearest, kindIn, flawAt, rules}
-use Rattle.scan.specs.Machine.{controlAt, some, flawRule, Ids, Asked, againIn, undeclaredIn, keyRule, valueRule, fieldRule, metaCell, metaBreaks, columnIn, nameRule, headCell, headBreaks, Kinds, rowCell, rowBreaks, unknownBreaks}
+use Rattle.scan.specs.Machine.{controlAt, ruleAt, flawRule, Ids, Asked, againIn, undeclaredIn, keyRule, valueRule, fieldRule, metaCell, metaBreaks, columnIn, nameRule, headCell, headBreaks, Kinds, rowCell, rowBreaks, unknownBreaks}
 use Rattle.rules.specs.declared.sorts.Sort.the-variants.{Silent, Unknown, Meta, Header, Row}
 use Rattle.rules.proofs.Laws.Sorting.{silent-sort, meta-sort, header-section, row-section}
 use Rattle.scan.proofs.Laws.Rowing.{Says, line-cells, plainCell, plain-rest}
@@ -71,34 +71,32 @@ module _ (book : Book) (sized : Sized book) where
 
   -- ONE RULE AT MOST of those that stop each other
 
+  -- a rule k where a test holds
+  rule-when : (k n c : ℕ) (rest : List Break) → eqb k 0 ≡ false → (t : Bool) → when t (breakAt n c k) rest ≡ ruleAt (cond t k 0) n c rest
+  rule-when k n c rest e true = rw e
+  rule-when k n c rest e false = refl
+
+  -- the rules of a bad index
+  abbrev bad : ℕ → ℕ → List Break → Flaw → List Break
+  bad n c rest z = when (isZero z) (breakAt n c 23) (when (isOver z) (breakAt n c 24) rest)
+
   -- of a key and its value: 5 to 8, 23 and 24
   module _ (slots : List Bool) (ids : Ids) (key value : Bytes) (n c : ℕ) (rest : List Break) where
-    abbrev bad : Flaw → List Break
-    bad z = when (isZero z) (breakAt n c 23) (when (isOver z) (breakAt n c 24) rest)
-
     -- the value, by whether it is of its kind, names an undeclared id, and has a flaw
     of-value : (good undeclared : Bool) (z : Flaw) → (good ≡ true → z ≡ Form)
-        → when (not good && isForm z) (breakAt n c 7) (when (good && undeclared) (breakAt n c 8) (bad z)) ≡ some (cond good (cond undeclared 8 0) (flawRule z 7)) n c rest
-    of-value true undeclared z h = rw (h refl) (go undeclared)
-      where
-        go : (t : Bool) → when t (breakAt n c 8) rest ≡ some (cond t 8 0) n c rest
-        go true = refl
-        go false = refl
+        → when (not good && isForm z) (breakAt n c 7) (when (good && undeclared) (breakAt n c 8) (bad n c rest z)) ≡ ruleAt (cond good (cond undeclared 8 0) (flawRule z 7)) n c rest
+    of-value true undeclared z h = rw (h refl) (rule-when 8 n c rest refl undeclared)
     of-value false undeclared Form h = refl
     of-value false undeclared Zero h = refl
     of-value false undeclared Over h = refl
 
-    of-key : (found : Found) → when (isStrange found) (breakAt n c 5) (when (againIn book slots key found) (breakAt n c 6) (bad (whyNot found))) ≡ some (keyRule (againIn book slots key found) found) n c rest
+    of-key : (found : Found) → when (isStrange found) (breakAt n c 5) (when (againIn book slots key found) (breakAt n c 6) (bad n c rest (whyNot found))) ≡ ruleAt (keyRule (againIn book slots key found) found) n c rest
     of-key (Unknown Form) = refl
     of-key (Unknown Zero) = refl
     of-key (Unknown Over) = refl
-    of-key (Known e k f i j) = go (againIn book slots key (Known e k f i j))
-      where
-        go : (t : Bool) → when t (breakAt n c 6) rest ≡ some (cond t 6 0) n c rest
-        go true = refl
-        go false = refl
+    of-key (Known e k f i j) = rule-when 6 n c rest refl (againIn book slots key (Known e k f i j))
 
-    at-value : (found : Found) → when (isWrong found value) (breakAt n c 7) (when (undeclaredIn ids found value) (breakAt n c 8) (bad (valueFlaw found value))) ≡ some (valueRule ids found value) n c rest
+    at-value : (found : Found) → when (isWrong found value) (breakAt n c 7) (when (undeclaredIn ids found value) (breakAt n c 8) (bad n c rest (valueFlaw found value))) ≡ ruleAt (valueRule ids found value) n c rest
     at-value (Unknown w) = refl
     at-value (Known e k f i j) = of-value (ofKind k f value) (any (λ i. not (ids (familyNumber f) i)) (namedIn k f value)) (kindFlaw k f value) (good-none k f value)
 
@@ -110,8 +108,8 @@ module _ (book : Book) (sized : Sized book) where
         (when (eqb c 2 && againIn book slots key found) (breakAt n c 6)
         (when (eqb c 3 && isWrong found value) (breakAt n c 7)
         (when (eqb c 3 && undeclaredIn ids found value) (breakAt n c 8)
-        (bad (cond (eqb c 2) (whyNot found) (cond (eqb c 3) (valueFlaw found value) Form))))))
-        ≡ some (fieldRule book slots ids key value c) n c rest
+        (bad n c rest (cond (eqb c 2) (whyNot found) (cond (eqb c 3) (valueFlaw found value) Form))))))
+        ≡ ruleAt (fieldRule book slots ids key value c) n c rest
     field-rules = go (eqb c 2) (eqb c 3) refl refl
       where
         go : (u v : Bool) → eqb c 2 ≡ u → eqb c 3 ≡ v →
@@ -119,8 +117,8 @@ module _ (book : Book) (sized : Sized book) where
             (when (u && againIn book slots key found) (breakAt n c 6)
             (when (v && isWrong found value) (breakAt n c 7)
             (when (v && undeclaredIn ids found value) (breakAt n c 8)
-            (bad (cond u (whyNot found) (cond v (valueFlaw found value) Form))))))
-            ≡ some (cond u (keyRule (againIn book slots key found) found) (cond v (valueRule ids found value) 0)) n c rest
+            (bad n c rest (cond u (whyNot found) (cond v (valueFlaw found value) Form))))))
+            ≡ ruleAt (cond u (keyRule (againIn book slots key found) found) (cond v (valueRule ids found value) 0)) n c rest
         go true true a b = absurd (omega (arith, eqb-true c 2 a, eqb-true c 3 b))
         go true false a b = of-key found
         go false true a b = at-value found
@@ -128,15 +126,11 @@ module _ (book : Book) (sized : Sized book) where
 
   -- of a column name: 15, 23 and 24
   name-rules : (ids : Ids) (found : Found) (n c : ℕ) (rest : List Break)
-      → when (columnIn ids found) (breakAt n c 15) (when (isZero (whyNot found)) (breakAt n c 23) (when (isOver (whyNot found)) (breakAt n c 24) rest)) ≡ some (nameRule ids found) n c rest
+      → when (columnIn ids found) (breakAt n c 15) (bad n c rest (whyNot found)) ≡ ruleAt (nameRule ids found) n c rest
   name-rules ids (Unknown Form) n c rest = refl
   name-rules ids (Unknown Zero) n c rest = refl
   name-rules ids (Unknown Over) n c rest = refl
-  name-rules ids (Known e k f i j) n c rest = go (columnIn ids (Known e k f i j))
-    where
-      go : (t : Bool) → when t (breakAt n c 15) rest ≡ some (cond t 15 0) n c rest
-      go true = refl
-      go false = refl
+  name-rules ids (Known e k f i j) n c rest = rule-when 15 n c rest refl (columnIn ids (Known e k f i j))
 
   -- THE CELLS OF A LINE, BY ITS SORT
 

@@ -1,7 +1,7 @@
 -- References, and the indices that a list of them names. Assumes nothing.
 use Prim.Native.Nat.{ℕ, _+_, _-_, _≤_, _<_}
 use mathlib.Core.Path.{_≡_, refl, ap, sym, _∙_}
-use mathlib.Core.Bool.{Bool, true, false, cond, _&&_, _||_, and-assoc, and-true, or-false, or-true, or-assoc}
+use mathlib.Core.Bool.{Bool, true, false, cond, not, _&&_, _||_, and-assoc, and-false, and-true, or-false, or-true, or-assoc}
 use mathlib.Core.List.{List, [], _∷_, _++_, map, append-nil}
 use native.Mathlib.Omega.{arith}
 use borrow.Author.Tests.{eq-eqb, ne-eqb, eqb-true, eqb-false}
@@ -11,16 +11,16 @@ use lib.Seq.{drop-append-seam, getD-set-same, getD-set-other}
 use Rattle.text_bytes.specs.Bytes.{begins, any, all, onFirst, splitOn, isSpace}
 use Rattle.text_bytes.specs.Places.{part, Ends}
 use Rattle.text_bytes.proofs.Laws.Begins.{begins-is, begins-self}
-use Rattle.text_bytes.proofs.Laws.Tests.{absurd-bool, and-left, and-right}
+use Rattle.text_bytes.proofs.Laws.Tests.{absurd-bool, and-both, and-right}
 use Rattle.text_bytes.proofs.Laws.Pieces.{drop-step, piece-cut, piece-last}
-use Rattle.value_references.specs.Index.{written, indexAt, isRead, indexIn, flawIn, sooner}
+use Rattle.value_references.specs.Index.{written, indexAt, isRead, indexIn, flawIn, isForm, sooner}
 use Rattle.value_references.specs.References.{alone, refIn, refTo, refFlaw, trimmed, spaced, refParts, refsTo, isIndex, isReferences, isLike, flawAmong, refsFlaw, refersTo, Tells}
 use Rattle.value_references.specs.declared.index.Index.{Index}
 use Rattle.value_references.specs.declared.index.Flaw.{Flaw}
-use Rattle.value_references.specs.declared.index.Flaw.the-variants.{Form}
+use Rattle.value_references.specs.declared.index.Flaw.the-variants.{Form, Zero, Over}
 use Rattle.value_references.specs.declared.index.Index.the-variants.{Not, Bad, Is}
 use Rattle.text_bytes.proofs.Laws.Each.{to-end, split-some}
-use Rattle.value_references.proofs.Laws.Indices.{index-read, index-written}
+use Rattle.value_references.proofs.Laws.Indices.{Holds, index-holds, index-read, index-written}
 use Rattle.value_references.proofs.Laws.Firsts.{sooner-none, sooner-again}
 
 -- ONE REFERENCE
@@ -101,29 +101,69 @@ ref-written w i lo hi =
     let n : indexAt (written i) ≡ Is i (length (written i)) = ap indexAt (sym (append-nil (written i))) ∙ index-written i [] lo hi in
     rw (begins-self w (written i), drop-append-seam w (written i), n, eq-eqb (length (written i)) (length (written i)) refl)
 
--- A GOOD ONE HAS NO FLAW
+-- GOOD ONES are those that are like references and have no flaw
 
-good-flaw : (x : Index) → isIndex (indexIn x) ≡ true → flawIn x ≡ Form
-good-flaw Not h = absurd-bool h
-good-flaw (Bad z w) h = absurd-bool h
-good-flaw (Is i w) h = refl
-
-pub ref-good : (w b : List ℕ) → isIndex (refTo w b) ≡ true → refFlaw w b ≡ Form
-unfolding refTo refFlaw
-ref-good w b h = good-flaw (refIn w b) h
-
-each-good : (w : List ℕ) (ps : List (List ℕ)) → all isIndex (map (refTo w) ps) ≡ true → flawAmong w ps ≡ Form
-unfolding all flawAmong
-each-good w [] h = refl
-each-good w (p ∷ ps) h = rw (ref-good w p (and-left (isIndex (refTo w p)) _ h), each-good w ps (and-right (isIndex (refTo w p)) _ h))
-
-pub refs-good : (w b : List ℕ) → isReferences w b ≡ true → refsFlaw w b ≡ Form
-unfolding isReferences refsTo refsFlaw
-refs-good w b h = go (all (isLike w) (refParts b))
+alone-good : (s : List ℕ) (n : ℕ) (o : Index) → indexAt s ≡ o → isIndex (indexIn (alone o n)) ≡ (isRead (alone o n) && isForm (flawIn (alone o n)))
+unfolding Holds
+alone-good s n Not e = refl
+alone-good s n (Bad z w) e = go (eqb w n) (index-holds s (Bad z w) e .1)
   where
-    go : (t : Bool) → cond t (flawAmong w (refParts b)) Form ≡ Form
-    go true = each-good w (refParts b) h
+    bad : (y : Flaw) → (y ≡ Form → ⊥) → false ≡ isForm y
+    bad Form h = absurd (h refl)
+    bad Zero h = refl
+    bad Over h = refl
+
+    go : (t : Bool) → (z ≡ Form → ⊥) → isIndex (indexIn (cond t (Bad z w) Not)) ≡ (isRead (cond t (Bad z w) Not) && isForm (flawIn (cond t (Bad z w) Not)))
+    go true h = bad z h
+    go false h = refl
+alone-good s n (Is i v) e = go (eqb v n)
+  where
+    go : (t : Bool) → isIndex (indexIn (cond t (Is i v) Not)) ≡ (isRead (cond t (Is i v) Not) && isForm (flawIn (cond t (Is i v) Not)))
+    go true = ap not (ne-eqb i 0 (λ (q : i ≡ 0). omega (arith, index-read s i v e .low)))
     go false = refl
+
+pub ref-good : (w b : List ℕ) → isIndex (refTo w b) ≡ (isLike w b && isForm (refFlaw w b))
+unfolding refTo refIn refFlaw
+ref-good w b = go (begins w b)
+  where
+    rest : List ℕ
+    rest = drop (length w) b
+
+    go : (t : Bool) → isIndex (indexIn (cond t (alone (indexAt rest) (length rest)) Not))
+        ≡ (isRead (cond t (alone (indexAt rest) (length rest)) Not) && isForm (flawIn (cond t (alone (indexAt rest) (length rest)) Not)))
+    go true = alone-good rest (length rest) (indexAt rest) refl
+    go false = refl
+
+-- one part in front of others
+good-both : (a b : Bool) (z y : Flaw) → ((a && isForm z) && (b && isForm y)) ≡ ((a && b) && isForm (sooner z y))
+good-both true b Form y = refl
+good-both true b Zero y = sym (and-false b)
+good-both true b Over y = sym (and-false b)
+good-both false b z y = refl
+
+parts-good : (w : List ℕ) (ps : List (List ℕ)) → all isIndex (map (refTo w) ps) ≡ (all (isLike w) ps && isForm (flawAmong w ps))
+unfolding all flawAmong
+parts-good w [] = refl
+parts-good w (p ∷ ps) = rw (ref-good w p, parts-good w ps) (good-both (isLike w p) (all (isLike w) ps) (refFlaw w p) (flawAmong w ps))
+
+pub refs-good : (w b : List ℕ) → isReferences w b ≡ (all (isLike w) (refParts b) && isForm (flawAmong w (refParts b)))
+unfolding isReferences refsTo
+refs-good w b = parts-good w (refParts b)
+
+-- so good ones have no flaw
+form-is : (z : Flaw) → isForm z ≡ true → z ≡ Form
+form-is Form h = refl
+form-is Zero h = absurd-bool h
+form-is Over h = absurd-bool h
+
+pub ref-flawless : (w b : List ℕ) → isIndex (refTo w b) ≡ true → refFlaw w b ≡ Form
+ref-flawless w b h = form-is (refFlaw w b) (and-right (isLike w b) (isForm (refFlaw w b)) (sym (ref-good w b) ∙ h))
+
+pub refs-flawless : (w b : List ℕ) → isReferences w b ≡ true → refsFlaw w b ≡ Form
+unfolding refsFlaw
+refs-flawless w b h =
+    let q = and-both (all (isLike w) (refParts b)) (isForm (flawAmong w (refParts b))) (sym (refs-good w b) ∙ h) in
+    rw (q .0) (form-is (flawAmong w (refParts b)) (q .1))
 
 -- SPACES IN FRONT
 
@@ -205,24 +245,22 @@ marked-at t i j h k = go (eqb i 0) refl (eqb j i) refl
         let p = eqb-false i 0 e in
         getD-set-other t (i - 1) (j - 1) true false (λ z. eqb-false j i d (omega arith)) ∙ sym (or-false (getD t (j - 1) false))
 
-pub record SoFar (w s : List ℕ) (at : ℕ) (g y : Bool) (z : Flaw) (t : List Bool) : Type 0 where
+pub record SoFar (w s : List ℕ) (at : ℕ) (y : Bool) (z : Flaw) (t : List Bool) : Type 0 where
   pub width : length t ≡ 64
-  pub good : isReferences w s ≡ (g && isReferences w (drop at s))
   pub like : all (isLike w) (refParts s) ≡ (y && all (isLike w) (refParts (drop at s)))
   pub flaw : flawAmong w (refParts s) ≡ sooner z (flawAmong w (refParts (drop at s)))
   pub named : (j : ℕ) → 1 ≤ j → j ≤ 64 → refersTo j w s ≡ (getD t (j - 1) false || refersTo j w (drop at s))
 
-pub told-start : (w s : List ℕ) → SoFar w s 0 true true Form (replicate 64 false)
+pub told-start : (w s : List ℕ) → SoFar w s 0 true Form (replicate 64 false)
 told-start w s = record {
   width = refl;
-  good = refl;
   like = refl;
   flaw = refl;
   named = λ j a b. rw (getD-replicate 64 (j - 1) false false (omega arith));
 }
 
 -- one part more: the index x is read there, and i is its number
-module _ {w s : List ℕ} {at : ℕ} {g y : Bool} {z : Flaw} {t : List Bool} (f : SoFar w s at g y z t) {e : ℕ} (h : Ends 44 s at e) (x : Index) (r : x ≡ refIn w (part at e s)) (i : ℕ) (n : i ≡ indexIn x) where
+module _ {w s : List ℕ} {at : ℕ} {y : Bool} {z : Flaw} {t : List Bool} (f : SoFar w s at y z t) {e : ℕ} (h : Ends 44 s at e) (x : Index) (r : x ≡ refIn w (part at e s)) (i : ℕ) (n : i ≡ indexIn x) where
   index : i ≡ refTo w (part at e s)
   unfolding refTo
   index = n ∙ ap indexIn r
@@ -231,28 +269,27 @@ module _ {w s : List ℕ} {at : ℕ} {g y : Bool} {z : Flaw} {t : List Bool} (f 
   fits = omega (arith, ref-le w (part at e s), f .width, index)
 
   -- what is said with it
-  module _ (g′ y′ : Bool) (z′ : Flaw) (t′ : List Bool) (eg : g′ ≡ (g && isIndex i)) (ey : y′ ≡ (y && isRead x)) (ez : z′ ≡ sooner z (flawIn x)) (et : t′ ≡ marked t i) where
-    pub told-next : (k : ℕ) → e < length s → drop k s ≡ trimmed (drop (e + 1) s) → SoFar w s k g′ y′ z′ t′
+  module _ (y′ : Bool) (z′ : Flaw) (t′ : List Bool) (ey : y′ ≡ (y && isRead x)) (ez : z′ ≡ sooner z (flawIn x)) (et : t′ ≡ marked t i) where
+    pub told-next : (k : ℕ) → e < length s → drop k s ≡ trimmed (drop (e + 1) s) → SoFar w s k y′ z′ t′
     unfolding isReferences refsTo refFlaw flawAmong any all
     told-next k lt q =
         let n = parts-next h k lt q in
         record {
           width = ap length et ∙ marked-length t i ∙ f .width;
-          good = f .good ∙ rw (n, eg, index) (sym (and-assoc g (isIndex (refTo w (part at e s))) (all isIndex (refsTo w (drop k s)))));
           like = f .like ∙ rw (n, ey, r) (sym (and-assoc y (isLike w (part at e s)) (all (isLike w) (refParts (drop k s)))));
           flaw = f .flaw ∙ rw (n, ez, r) (sooner-again z (refFlaw w (part at e s)) (flawAmong w (refParts (drop k s))));
           named = λ j a b. f .named j a b ∙ rw (n, et, marked-at t i j fits a, index) (sym (or-assoc (getD t (j - 1) false) (eqb j (refTo w (part at e s))) (any (eqb j) (refsTo w (drop k s)))));
         }
 
-    pub told-last : e ≡ length s → (z″ : Flaw) → z″ ≡ cond y′ z′ Form → Tells w s (record { good = g′; flaw = z″; named = t′ })
+    pub told-last : e ≡ length s → (g : Bool) (z″ : Flaw) → g ≡ (y′ && isForm z′) → z″ ≡ cond y′ z′ Form → Tells w s (record { good = g; flaw = z″; named = t′ })
     unfolding isReferences refsTo refFlaw flawAmong refsFlaw any all
-    told-last q z″ e″ =
+    told-last q g z″ eg e″ =
         let n = parts-last h q in
         let like : all (isLike w) (refParts s) ≡ y′ = f .like ∙ rw (n, ey, r, and-true (isLike w (part at e s))) in
         let flaw : flawAmong w (refParts s) ≡ z′ = f .flaw ∙ rw (n, ez, r, sooner-none (refFlaw w (part at e s))) in
         record {
           width = ap length et ∙ marked-length t i ∙ f .width;
-          good = sym (f .good ∙ rw (n, eg, index, and-true (isIndex (refTo w (part at e s)))));
+          good = eg ∙ sym (refs-good w s ∙ rw (like, flaw));
           flaw = e″ ∙ rw (← like, ← flaw);
           named = λ j a b. sym (f .named j a b ∙ rw (n, et, marked-at t i j fits a, index, or-false (eqb j (refTo w (part at e s)))));
         }
