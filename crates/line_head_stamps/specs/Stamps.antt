@@ -5,7 +5,7 @@ use lib.ListN.{getD, set}
 use Rattle.text_bytes.specs.Bytes.{Bytes}
 use Rattle.text_bytes.specs.Places.{part}
 
--- PLACES: the stamps, and from here on their doors, the doors of the forks, what each fork asks, where each name begins, and where it ends
+-- PLACES: the stamps, and from here on their doors, the doors of the forks, what each fork asks, where each name begins, where it ends, and what each fork guesses
 abbrev pub DOORS : ℕ
 DOORS = 4096
 
@@ -21,8 +21,11 @@ STARTS = 12544
 abbrev pub ENDS : ℕ
 ENDS = 12800
 
+abbrev pub GUESSES : ℕ
+GUESSES = 13056
+
 abbrev pub ROOM : ℕ
-ROOM = 13056
+ROOM = 13312
 
 -- the door of a fork on one of its sides, 0 to 15
 abbrev pub branch : ℕ → ℕ → ℕ
@@ -55,6 +58,10 @@ byteCode (x ∷ xs) (suc place) = byteCode xs place
 unfoldable pub sideOf : ℕ → Bytes → ℕ
 sideOf ask name = byteCode name (ask / 16) / 2 ^ (ask % 16) % 16
 
+-- what no fork asks: the answer of two names that are equal
+abbrev pub SAME : ℕ
+SAME = 4294967295
+
 -- WHAT IS WRITTEN: n places from one on hold a number
 unfoldable pub covered : List ℕ → ℕ → ℕ → ℕ → List ℕ
 covered t from zero held = t
@@ -64,6 +71,10 @@ covered t from (suc n) held = set (covered t from n held) (from + n) held
 unfoldable pub entered : List ℕ → ℕ → ℕ → ℕ → List ℕ
 entered t m start end = covered (set (set t (STARTS + m) start) (ENDS + m) end) (BRANCHES + 16 * m) 16 m
 
--- a door leads to fork m, where on one side is what the door held
+-- where the fork guesses whose door it is; of the door of a stamp some fork does. Nothing rests on a guess
+abbrev pub guessAt : ℕ → ℕ
+guessAt door = GUESSES + door / 16 % 256
+
+-- a door leads to fork m, where on one side is what the door held, and is guessed to
 unfoldable pub forked : List ℕ → ℕ → ℕ → ℕ → ℕ → List ℕ
-forked t door m ask their = set (set (set t (ASKS + m) ask) (branch m their) (getD t door 0)) door (256 + m)
+forked t door m ask their = set (set (set (set t (ASKS + m) ask) (branch m their) (getD t door 0)) door (256 + m)) (guessAt door) (256 + m)

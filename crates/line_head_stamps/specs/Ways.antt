@@ -6,7 +6,13 @@ use mathlib.Core.Bool.{Bool, false, _||_}
 use mathlib.Core.List.{List}
 use lib.ListN.{length, getD}
 use Rattle.text_bytes.specs.Bytes.{Bytes, same}
-use Rattle.line_head_stamps.specs.Stamps.{ROOM, DOORS, BRANCHES, ASKS, STARTS, ENDS, IsDoor, branch, nameAt, hashOf, sideOf}
+use Rattle.line_head_stamps.specs.Stamps.{ROOM, DOORS, BRANCHES, ASKS, STARTS, ENDS, IsDoor, branch, nameAt, hashOf, byteCode, sideOf}
+
+-- two names are the same up to a place, which is the end of both or tells them apart
+pub record PartsAt (a b : Bytes) (place : ℕ) : Type 0 where
+  pub within : place ≤ length a
+  pub equal : place ≡ length a → place ≡ length b → a ≡ b
+  pub ended : byteCode a place ≡ byteCode b place → (place ≡ length a) × (place ≡ length b)
 
 -- from the last door back to the first: a door that holds a fork leads to that of its doors which is on the name's side
 pub data Way (t : List ℕ) (m : ℕ) (name : Bytes) (last : ℕ) : ℕ → Type 0 where
@@ -22,6 +28,14 @@ pub record Astray (t : List ℕ) (door : ℕ) (name : Bytes) : Type 0 where
 pub record Doors (t : List ℕ) (m : ℕ) : Type 0 where
   pub holds : (fork side : ℕ) → fork < m → side < 16 → IsDoor m (getD t (branch fork side) 0)
   pub rises : (fork side : ℕ) → fork < m → side < 16 → 256 ≤ getD t (branch fork side) 0 → 256 + fork < getD t (branch fork side) 0
+
+-- a way of the name goes from one door on to another, and a way on from there is one from the first
+pub record Goes (t : List ℕ) (m : ℕ) (name : Bytes) (from door : ℕ) : Type 0 where
+  pub low : DOORS ≤ door
+  pub high : door < ASKS
+  pub holds : IsDoor m (getD t door 0)
+  pub rises : 256 ≤ getD t door 0 → getD t from 0 < getD t door 0
+  pub way : (last : ℕ) → Way t m name last door → Way t m name last from
 
 -- the way of the name, whose stamp stands at h, ends at this door; it is 0 where there is no such stamp of line n
 pub record FindsDoor (t : List ℕ) (n m h : ℕ) (name : Bytes) (door : ℕ) : Type 0 where

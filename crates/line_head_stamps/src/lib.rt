@@ -1,19 +1,21 @@
 // Whether a name of a header came before in it, where each name is compared with one earlier name at most, whatever the names are. A name leaves its line's
-// number as a stamp, at a place that its bytes give. From the stamp's door the names of that stamp go apart by forks, each of which asks for four bits.
-use text_bytes::same_bytes;
+// number as a stamp, at a place that its bytes give. From the stamp's door the names of that stamp go apart by forks, each of which asks for four bits. Names
+// made to pass many forks mostly go on as others did before them: so each fork has a guess of what the next door holds, and the processor need not wait for
+// the name's bits before it looks there.
+use text_bytes::both;
 use text_bytes::wide;
 ghost use mathlib.Core.Path.{_≡_};
 ghost use mathlib.Core.Bool.{true, false};
 ghost use Prim.Native.Nat.{_+_, _*_, _/_, _%_, _^_, _≤_, _<_};
-ghost use lib.ListN.{length};
+ghost use lib.ListN.{length, getD};
 ghost use Rattle.text_bytes.specs.Places.{part};
 ghost use Rattle.text.specs.Lines.{LIMIT};
-ghost use Rattle.line_head_stamps.specs.Stamps.{ROOM as room, IsDoor, BRANCHES as branches, hashOf, byteCode, sideOf, covered, entered, forked};
-ghost use Rattle.line_head_stamps.specs.Ways.{Astray, Doors, FindsDoor, Noted, Adds};
+ghost use Rattle.line_head_stamps.specs.Stamps.{ROOM as room, SAME as same, IsDoor, BRANCHES as branches, hashOf, byteCode, sideOf, covered, entered, forked};
+ghost use Rattle.line_head_stamps.specs.Ways.{PartsAt, Astray, Doors, Goes, FindsDoor, Noted, Adds};
 
-// The list that is lent has so many places: the stamps, and from the places below on their doors, the doors of each fork, what each fork asks, and where each
-// name begins and ends.
-pub const ROOM: usize = 13056;
+// The list that is lent has so many places: the stamps, and from the places below on their doors, the doors of each fork, what each fork asks, where each
+// name begins and ends, and the guess of each fork.
+pub const ROOM: usize = 13312;
 
 const DOORS: usize = 4096;
 
@@ -24,6 +26,8 @@ const ASKS: usize = 12288;
 const STARTS: usize = 12544;
 
 const ENDS: usize = 12800;
+
+const GUESSES: usize = 13056;
 
 // A door holds the number of a name, or from here on that of the fork that came with a name.
 const FORK: u32 = 256;
@@ -38,6 +42,12 @@ const STAMPS: usize = 4096;
 
 // A fork has so many doors, one for each side that four bits can give.
 const SIDES: usize = 16;
+
+// There are fewer forks.
+const FORKS: usize = 256;
+
+// What no fork asks.
+const SAME: u32 = 4294967295;
 
 // A number of the list as an index.
 fn index(x: u32) -> usize
@@ -98,6 +108,30 @@ fn is_live(stamp: u32, line_no: u32, held: u32, count: u32) -> bool
     held % FORK < count
 }
 
+// A door further on the way of the name, from one that leads to a fork of the first `count` names: it ends the way, or holds something else than was guessed.
+// While the guesses are right, what comes next is read from them, and the name's bits are only compared with it.
+fn further(stamps: &[u32], count: u32, from: usize, name: &[u8]) -> usize
+    requires { ⌜ length (now stamps) ≡ room ⌝ }
+    requires { ⌜ (count ≤ 254) × (from < room) ⌝ }
+    requires { ⌜ Doors (now stamps) count ⌝ }
+    requires { ⌜ (256 ≤ getD (now stamps) from 0) × IsDoor count (getD (now stamps) from 0) ⌝ }
+    ensures { λ r. ⌜ Goes (now (stamps .entry)) count (now (name .entry)) from r ⌝ }
+{
+    let mut held = stamps[from];
+    loop {
+        let fork = index(held - FORK);
+        let guess = stamps[GUESSES + fork];
+        let door = BRANCHES + SIDES * fork + side(name, stamps[ASKS + fork]);
+        if stamps[door] != guess {
+            return door;
+        }
+        if guess < FORK {
+            return door;
+        }
+        held = guess;
+    }
+}
+
 // The door where the way of the name ends, which holds the number of an earlier name; 0 where there is none with its stamp, which stands at h.
 fn last_door(stamps: &[u32], line_no: u32, count: u32, h: usize, name: &[u8]) -> usize
     requires { ⌜ length (now stamps) ≡ room ⌝ }
@@ -110,15 +144,14 @@ fn last_door(stamps: &[u32], line_no: u32, count: u32, h: usize, name: &[u8]) ->
         return 0;
     }
     while FORK <= stamps[door] {
-        let fork = index(stamps[door] - FORK);
-        door = BRANCHES + SIDES * fork + side(name, stamps[ASKS + fork]);
+        door = further(stamps, count, door, name);
     }
     door
 }
 
 // The first place where the two differ, or the end of the shorter.
 fn first_difference(a: &[u8], b: &[u8]) -> usize
-    ensures { λ r. ⌜ (r ≤ length (now (a .entry))) × (byteCode (now (a .entry)) r ≡ byteCode (now (b .entry)) r → now (a .entry) ≡ now (b .entry)) ⌝ }
+    ensures { λ r. ⌜ PartsAt (now (a .entry)) (now (b .entry)) r ⌝ }
 {
     let mut i = 0;
     while i < a.len() {
@@ -147,12 +180,16 @@ fn differing_bits(a: u32, b: u32) -> u32
     8
 }
 
-// What a fork has to ask to tell the two apart: names with the same side there are the same.
+// What a fork has to ask to tell the two apart, by the first place where they differ; SAME where they do not.
 fn question(a: &[u8], b: &[u8]) -> u32
     requires { ⌜ length (now a) ≤ LIMIT ⌝ }
-    ensures { λ r. ⌜ (sideOf r (now (a .entry)) ≡ sideOf r (now (b .entry)) → now (a .entry) ≡ now (b .entry)) ⌝ }
+    ensures { λ r. ⌜ (r ≡ same → now (a .entry) ≡ now (b .entry)) ⌝ }
+    ensures { λ r. ⌜ ((r ≡ same → ⊥) → sideOf r (now (a .entry)) ≡ sideOf r (now (b .entry)) → ⊥) ⌝ }
 {
     let place = first_difference(a, b);
+    if both(place == a.len(), place == b.len()) {
+        return SAME;
+    }
     let shift = differing_bits(code_at(a, place), code_at(b, place));
     16 * (place as u32) + shift
 }
@@ -181,16 +218,18 @@ fn enter(stamps: &mut [u32], count: usize, at: usize, end: usize)
     fill_doors(stamps, count);
 }
 
-// The door leads to the fork of name number `count`. On side `their` is what the door held; all others hold the name already.
+// The door leads to the fork of name number `count`. On side `their` is what the door held; all others hold the name already. The fork whose door it is
+// guesses it from now on; that of a stamp is no fork's, and some fork then guesses wrong, which costs a look.
 fn put_fork(stamps: &mut [u32], door: usize, count: usize, ask: u32, their: usize)
     requires { ⌜ length (now stamps) ≡ room ⌝ }
-    requires { ⌜ (door < room) × (count ≤ 254) × (their < 16) ⌝ }
+    requires { ⌜ (door < 12288) × (count ≤ 254) × (their < 16) ⌝ }
     ensures { λ r. ⌜ now (stamps .exit) ≡ forked (now (stamps .entry)) door count ask their ⌝ }
 {
     let held = stamps[door];
     stamps[ASKS + count] = ask;
     stamps[BRANCHES + SIDES * count + their] = held;
     stamps[door] = FORK + (count as u32);
+    stamps[GUESSES + door / SIDES % FORKS] = FORK + (count as u32);
 }
 
 // Whether the name behind a door of a fork is of another side than the door. No way of an earlier name ends there then.
@@ -233,17 +272,16 @@ pub fn came_before(
     let start = index(stamps[STARTS + k]);
     let stop = index(stamps[ENDS + k]);
     let other = &line[start..stop];
-    let again = same_bytes(name, other);
+    let ask = question(name, other);
     let astray = is_astray(stamps, door, other);
     enter(stamps, count, at, end);
-    if again {
+    if ask == SAME {
         return true;
     }
     if astray {
         stamps[door] = count as u32;
         return false;
     }
-    let ask = question(name, other);
     let their = side(other, ask);
     put_fork(stamps, door, count, ask, their);
     false

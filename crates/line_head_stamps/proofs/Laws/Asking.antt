@@ -1,17 +1,19 @@
 -- The hash of a name, the codes of its bytes, and its sides at forks. Assumes nothing.
 use mathlib.Core.Path.{_≡_, refl, sym, _∙_}
-use mathlib.Core.Bool.{Bool, true, false}
+use mathlib.Core.Bool.{Bool, true, false, _&&_}
 use mathlib.Core.List.{[], _∷_}
 use Prim.Native.Nat.{ℕ, zero, suc, _+_, _*_, _/_, _%_, _^_, _≤_, _<_}
 use native.Mathlib.Nat.{mod-lt, not-suc-le-zero, le-of-suc-le-suc}
 use native.Mathlib.Omega.{arith}
-use lib.Dec.{ltb}
+use lib.Dec.{eqb, ltb}
 use lib.ListN.{length, drop, getD, drop-of-length-le}
-use borrow.Author.Tests.{ltb-true, ltb-false}
+use borrow.Author.Tests.{eqb-true, eq-eqb, ltb-true, ltb-false}
 use Rattle.text_bytes.specs.Bytes.{Bytes, same}
 use Rattle.text_bytes.proofs.Laws.Pieces.{drop-step}
 use Rattle.text_bytes.proofs.Laws.Same.{same-equal, same-end}
+use Rattle.text_bytes.proofs.Laws.Tests.{and-both, absurd-bool}
 use Rattle.line_head_stamps.specs.Stamps.{DOORS, hashFrom, hashOf, byteCode, sideOf}
+use Rattle.line_head_stamps.specs.Ways.{PartsAt}
 
 -- THE HASH
 
@@ -42,13 +44,29 @@ code-past [] place l = refl
 code-past (x ∷ xs) zero l = absurd (not-suc-le-zero l)
 code-past (x ∷ xs) (suc place) l = code-past xs place (le-of-suc-le-suc l)
 
--- two texts with the same bytes up to the end of the first are equal, if the second ends there too
-pub codes-end : (a b : Bytes) (i : ℕ) → length a ≤ i → same (drop i a) (drop i b) ≡ same a b → byteCode a i ≡ byteCode b i → a ≡ b
-codes-end a b i l left e = go (ltb i (length b)) refl
+-- PARTED: at a place within the first name, where the codes differ
+pub parts-before : (a b : Bytes) (i : ℕ) → i < length a → (byteCode a i ≡ byteCode b i → ⊥) → PartsAt a b i
+parts-before a b i l differ = record { within = omega arith; equal = λ e. absurd (omega (arith, e)); ended = λ e. absurd (differ e) }
+
+-- or at its end, where the second ends too or goes on
+pub parts-end : (a b : Bytes) (i : ℕ) → length a ≤ i → i ≤ length a → i ≤ length b → same (drop i a) (drop i b) ≡ same a b → PartsAt a b i
+parts-end a b i l m h left =
+    record {
+      within = m;
+      equal = λ p q. same-equal a b (sym left ∙ same-end a b i l (omega (arith, q)));
+      ended = λ e. (omega arith, go e (ltb i (length b)) refl);
+    }
   where
-    go : (t : Bool) → ltb i (length b) ≡ t → a ≡ b
-    go true q = absurd (omega (arith, code-past a i l, code-here b i (ltb-true i (length b) q)))
-    go false q = same-equal a b (sym left ∙ same-end a b i l (ltb-false i (length b) q))
+    go : byteCode a i ≡ byteCode b i → (t : Bool) → ltb i (length b) ≡ t → i ≡ length b
+    go e true q = absurd (omega (arith, e, code-past a i l, code-here b i (ltb-true i (length b) q)))
+    go e false q = omega (arith, ltb-false i (length b) q)
+
+-- the end of both
+pub both-ended : (place m n : ℕ) → (eqb place m && eqb place n) ≡ true → (place ≡ m) × (place ≡ n)
+both-ended place m n e = let b = and-both (eqb place m) (eqb place n) e in (eqb-true place m (b .0), eqb-true place n (b .1))
+
+pub ended-both : (place m n : ℕ) → (eqb place m && eqb place n) ≡ false → place ≡ m → place ≡ n → ⊥
+ended-both place m n e p q = absurd-bool (sym (rw (eq-eqb place m p, eq-eqb place n q) at e))
 
 -- SIDES
 
@@ -63,10 +81,9 @@ side-at place shift name l =
     let s : (16 * place + shift) % 16 ≡ shift = omega arith in
     rw (p, s)
 
--- where the codes at a place decide whether two names are equal, and four bits whether the codes are, the sides decide
-pub side-decides : (a b : Bytes) (place shift x y : ℕ) → shift ≤ 8 → x ≡ byteCode a place → y ≡ byteCode b place → (x / 2 ^ shift % 16 ≡ y / 2 ^ shift % 16 → x ≡ y)
-    → (byteCode a place ≡ byteCode b place → a ≡ b) → sideOf (16 * place + shift) a ≡ sideOf (16 * place + shift) b → a ≡ b
-side-decides a b place shift x y l p q f g e =
+-- where four bits decide whether the codes at a place are equal, and these are not, the sides part two names
+pub side-parts : (a b : Bytes) (place shift x y : ℕ) → shift ≤ 8 → x ≡ byteCode a place → y ≡ byteCode b place → (x / 2 ^ shift % 16 ≡ y / 2 ^ shift % 16 → x ≡ y)
+    → (x ≡ y → ⊥) → sideOf (16 * place + shift) a ≡ sideOf (16 * place + shift) b → ⊥
+side-parts a b place shift x y l p q f differ e =
     let few : shift < 16 = omega arith in
-    let s : x / 2 ^ shift % 16 ≡ y / 2 ^ shift % 16 = rw (p, q) (sym (side-at place shift a few) ∙ e ∙ side-at place shift b few) in
-    g (sym p ∙ f s ∙ q)
+    differ (f (rw (p, q) (sym (side-at place shift a few) ∙ e ∙ side-at place shift b few)))

@@ -9,7 +9,7 @@ use lib.ListN.{getD}
 use borrow.Author.Tests.{le-ltb, ltb-false}
 use Rattle.text_bytes.specs.Bytes.{Bytes}
 use Rattle.line_head_stamps.specs.Stamps.{DOORS, BRANCHES, ASKS, IsDoor, branch, sideOf}
-use Rattle.line_head_stamps.specs.Ways.{Way, here, on}
+use Rattle.line_head_stamps.specs.Ways.{Way, here, on, Doors, Goes}
 use Rattle.line_head_stamps.proofs.Laws.Asking.{side-below}
 
 -- how far a way can go on from a door that holds this: forks rise, and a name ends it
@@ -79,3 +79,42 @@ module _ (t t' : List ℕ) (m m' : ℕ) (more : m ≤ m')
   way-stays {z} (on f q l w) s =
       let ask = getD t (ASKS + f) 0 in
       on f (s (omega arith) ∙ q) (omega arith) (rw (asks f l) (way-stays w (forks f (sideOf ask z) l (side-below ask z))))
+
+-- A FORK IS HELD that a way from `from` leads to: the name's door there
+abbrev pub onward : List ℕ → Bytes → ℕ → ℕ
+onward t name held = branch (held - 256) (sideOf (getD t (ASKS + (held - 256)) 0) name)
+
+abbrev pub Leads : List ℕ → ℕ → Bytes → ℕ → ℕ → Type 0
+Leads t m name from held = (256 ≤ held) × IsDoor m held × (getD t from 0 ≤ held) × ((e : ℕ) → Way t m name e (onward t name held) → Way t m name e from)
+
+-- it does from a door that holds it, and from one whence a way goes to such a door
+module _ {t : List ℕ} {m held : ℕ} {name : Bytes} (at : ℕ) (low : 256 ≤ held) (door : IsDoor m held) (holds : getD t at 0 ≡ held) where
+  through : (e : ℕ) → Way t m name e (onward t name held) → Way t m name e at
+  through e w = on {door = at} (held - 256) (omega (arith, holds)) (omega (arith, door)) w
+
+  pub leads-first : Leads t m name at held
+  leads-first = (low, door, omega (arith, holds), through)
+
+  pub leads-on : {from : ℕ} → Goes t m name from at → Leads t m name from held
+  leads-on g = (low, door, omega (arith, g .rises (omega (arith, holds)), holds), λ e w. g .way e (through e w))
+
+module _ {t : List ℕ} {m from held : ℕ} {name : Bytes} (fork side : ℕ) (doors : Doors t m) (few : m ≤ 254) (leads : Leads t m name from held) (f : fork ≡ held - 256) (s : side ≡ sideOf (getD t (ASKS + fork) 0) name) where
+  sixteen : side < 16
+  sixteen = rw s (side-below (getD t (ASKS + fork) 0) name)
+
+  came : fork < m
+  came = omega (arith, f, leads .1, leads .0)
+
+  -- what the name's door there holds has a higher number
+  pub door-rises : 256 ≤ getD t (branch fork side) 0 → held < getD t (branch fork side) 0
+  door-rises h = omega (arith, doors .rises fork side came sixteen h, f, leads .0)
+
+  pub goes-door : Goes t m name from (branch fork side)
+  goes-door =
+      record {
+        low = omega arith;
+        high = omega (arith, sixteen, came, few);
+        holds = doors .holds fork side came sixteen;
+        rises = λ h. omega (arith, door-rises h, leads .2);
+        way = λ e w. leads .3 e (rw (s, f) at w);
+      }

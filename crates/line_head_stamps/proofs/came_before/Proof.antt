@@ -1,15 +1,12 @@
 -- `line_head_stamps::came_before` meets its contract: a name is the first of its stamp, or the one name at the end of its way decides. Assumes nothing.
 use mathlib.Core.Path.{_≡_, refl, sym, ap, subst, _∙_}
-use mathlib.Core.Bool.{true, false}
 use Prim.Native.Nat.{_+_, _≤_, _<_}
 use native.Mathlib.Omega.{arith}
 use borrow.Author.Needs.{needs}
 use lib.ListN.{length, getD, length-set}
-use Rattle.text_bytes.specs.Bytes.{Bytes, same}
+use Rattle.text_bytes.specs.Bytes.{Bytes}
 use Rattle.text_bytes.specs.Places.{part}
-use Rattle.text_bytes.proofs.Laws.Same.{same-equal, same-self}
-use Rattle.text_bytes.proofs.Laws.Tests.{absurd-bool}
-use Rattle.line_head_stamps.specs.Stamps.{DOORS, nameAt, hashOf, sideOf}
+use Rattle.line_head_stamps.specs.Stamps.{DOORS, SAME, nameAt, hashOf, sideOf}
 use Rattle.line_head_stamps.specs.Ways.{Way, Astray}
 use Rattle.line_head_stamps.proofs.Laws.Asking.{hash-below, side-below}
 use Rattle.line_head_stamps.proofs.Laws.Naming.{name-there}
@@ -103,25 +100,26 @@ other-name c =
 
 -- IT IS THE SAME NAME, or the door is free, or its side tells the two apart
 
-abbrev told : tie.After-same-bytes → tie.After-index3
+abbrev told : tie.After-question → tie.After-index3
 told c = c .before .before
 
-abbrev ended : tie.After-same-bytes → tie.Else1
+abbrev ended : tie.After-question → tie.Else1
 ended c = met (numbered (told c))
 
-equal : (c : tie.After-same-bytes) → c .same-bytes .result ≡ true → there (ended c) ≡ name (hashed (ended c))
-equal c e = sym (same-equal _ _ (sym (c .same-bytes .ensures) ∙ e) ∙ other-name (told c))
+equal : (c : tie.After-question) → c .question .result ≡ SAME → there (ended c) ≡ name (hashed (ended c))
+equal c e = sym (c .question .ensures .0 e ∙ other-name (told c))
 
-unequal : (c : tie.After-same-bytes) → c .same-bytes .result ≡ false → there (ended c) ≡ name (hashed (ended c)) → ⊥
-unequal c e q =
-    let x = name (hashed (ended c)) in
-    absurd-bool (sym e ∙ c .same-bytes .ensures ∙ ap (same x) (other-name (told c) ∙ q) ∙ same-self x)
+parted : (c : tie.After-question) → (c .question .result ≡ SAME → ⊥) → sideOf (c .question .result) (name (hashed (ended c))) ≡ sideOf (c .question .result) (there (ended c)) → ⊥
+parted c e q = c .question .ensures .1 e (q ∙ ap (sideOf (c .question .result)) (sym (other-name (told c))))
+
+unequal : (c : tie.After-question) → (c .question .result ≡ SAME → ⊥) → there (ended c) ≡ name (hashed (ended c)) → ⊥
+unequal c e q = parted c e (ap (sideOf (c .question .result)) (sym q))
 
 is-astray-requires : tie.Need-is-astray-requires
 is-astray-requires c κs = let door = ended (c .before) in (start (hashed door) .pre .0 .places, omega (arith, door-below door))
 
 -- the name is entered
-abbrev compared : tie.After-enter2 → tie.After-same-bytes
+abbrev compared : tie.After-enter2 → tie.After-question
 compared c = c .before .before .before .before
 
 abbrev new : tie.Else2 → tie.After-enter2
@@ -154,35 +152,31 @@ returns-3 c =
     let astray = subst (λ (b : Bytes). Astray (s .args .stamps .now) d b) (other-name (told at-same)) (at-enter .before .before .is-astray .ensures (c .if3 .taken)) in
     rw (at-enter .enter2 .ensures) (adds-over (pre .0) (pre .1 .1 .0) (s .args .at) (s .args .end) (pre .1 .1 .1) (pre .1 .1 .2) (name (hashed door)) refl (stamped door) d (way door) (door .before .last-door .ensures .ends (door .if1 .left)) (unequal at-same (else .if2 .left)) astray)
 
--- a fork parts them
-differ : (c : tie.After-question) → let at-same = compared (new (c .before .before)) in sideOf (c .question .result) (name (hashed (ended at-same))) ≡ sideOf (c .question .result) (there (ended at-same)) → ⊥
-differ c q =
-    let else = c .before .before in
-    let at-same = compared (new else) in
-    let other = other-name (told at-same) in
-    unequal at-same (else .if2 .left) (sym (c .question .ensures (q ∙ ap (sideOf (c .question .result)) (sym other)) ∙ other))
+-- a fork parts them, on the side of the name that is there
+abbrev asked : tie.After-side → tie.After-question
+asked c = compared (new (c .before .before))
 
--- the side of the name that is there
-their-side : (c : tie.After-side) → c .side .result ≡ sideOf (c .before .question .result) (there (ended (compared (new (c .before .before .before)))))
-their-side c = c .side .ensures ∙ ap (sideOf (c .before .question .result)) (other-name (told (compared (new (c .before .before .before)))))
+their-side : (c : tie.After-side) → c .side .result ≡ sideOf (asked c .question .result) (there (ended (asked c)))
+their-side c = c .side .ensures ∙ ap (sideOf (asked c .question .result)) (other-name (told (asked c)))
 
 put-fork-requires : tie.Need-put-fork-requires
 put-fork-requires c κs =
     let at-side = c .before in
-    let at-enter = new (at-side .before .before .before) in
+    let at-enter = new (at-side .before .before) in
     let door = ended (compared at-enter) in
     let s = start (hashed door) in
-    (ap length (at-enter .enter2 .ensures) ∙ entered-length (s .args .stamps .now) (s .args .count) (s .args .at) (s .args .end) ∙ s .pre .0 .places, (omega (arith, door-below door), s .pre .1 .1 .0, rw (their-side at-side) (side-below (at-side .before .question .result) (there door))))
+    (ap length (at-enter .enter2 .ensures) ∙ entered-length (s .args .stamps .now) (s .args .count) (s .args .at) (s .args .end) ∙ s .pre .0 .places, (omega (arith, door-below door), s .pre .1 .1 .0, rw (their-side at-side) (side-below (asked at-side .question .result) (there door))))
 
 returns-4 : tie.Need-returns-4
 returns-4 c =
     let at-fork = c .before .before in
     let at-side = at-fork .before .before in
-    let at-enter = new (at-side .before .before .before) in
+    let else = at-side .before .before in
+    let at-enter = new else in
     let door = ended (compared at-enter) in
     let s = start (hashed door) in
     let pre = s .pre in
-    rw (at-fork .put-fork .ensures, at-enter .enter2 .ensures, their-side at-side) (adds-fork (pre .0) (pre .1 .1 .0) (s .args .at) (s .args .end) (pre .1 .1 .1) (pre .1 .1 .2) (name (hashed door)) refl (stamped door) (door .before .last-door .result) (way door) (door .before .last-door .ensures .ends (door .if1 .left)) (at-side .before .question .result) (differ (at-side .before)))
+    rw (at-fork .put-fork .ensures, at-enter .enter2 .ensures, their-side at-side) (adds-fork (pre .0) (pre .1 .1 .0) (s .args .at) (s .args .end) (pre .1 .1 .1) (pre .1 .1 .2) (name (hashed door)) refl (stamped door) (door .before .last-door .result) (way door) (door .before .last-door .ensures .ends (door .if1 .left)) (asked at-side .question .result) (parted (asked at-side) (else .if2 .left)))
 
 pub came-before-spec : {M : Type 1} → statement M
 came-before-spec =
@@ -227,7 +221,6 @@ came-before-spec =
     slice-write-stamps-3
     (λ c. search needs)
     returns-3
-    (λ c κs. search needs)
     (λ c κs. search needs)
     put-fork-requires
     (λ c. search needs)

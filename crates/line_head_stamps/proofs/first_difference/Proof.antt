@@ -6,7 +6,7 @@ use borrow.Author.Needs.{needs}
 use lib.ListN.{length, drop}
 use Rattle.text_bytes.specs.Bytes.{same}
 use Rattle.text_bytes.proofs.Laws.Same.{same-hit}
-use Rattle.line_head_stamps.proofs.Laws.Asking.{code-here, code-past, codes-end}
+use Rattle.line_head_stamps.proofs.Laws.Asking.{code-here, code-past, parts-before, parts-end}
 use Rattle.line_head_stamps.proofs.first_difference.Statement.{statement}
 use Rattle.line_head_stamps.proofs.first_difference.Tie as tie
 
@@ -24,7 +24,8 @@ returns c =
     let l = c .before .before in
     let args = l .before .args in
     let i = l .loop .i in
-    (l .loop .inv .0, λ e. absurd (omega (arith, e, code-here (args .a .now) i (c .before .loop-test .taken), code-past (args .b .now) i (c .if1 .taken))))
+    let m = c .before .loop-test .taken in
+    parts-before (args .a .now) (args .b .now) i m (λ e. omega (arith, e, code-here (args .a .now) i m, code-past (args .b .now) i (c .if1 .taken)))
 
 returns-2 : tie.Need-returns-2 Inv-loop μ-loop
 returns-2 c =
@@ -32,7 +33,8 @@ returns-2 c =
     let l = else .before .before in
     let args = l .before .args in
     let i = l .loop .i in
-    (l .loop .inv .0, λ e. absurd (c .if2 .taken (omega (arith, e, code-here (args .a .now) i (else .before .loop-test .taken), code-here (args .b .now) i (else .if1 .left)))))
+    let m = else .before .loop-test .taken in
+    parts-before (args .a .now) (args .b .now) i m (λ e. c .if2 .taken (omega (arith, e, code-here (args .a .now) i m, code-here (args .b .now) i (else .if1 .left))))
 
 loop-again : tie.Need-loop-again Inv-loop μ-loop
 loop-again c =
@@ -45,7 +47,7 @@ returns-3 : tie.Need-returns-3 Inv-loop μ-loop
 returns-3 c =
     let l = c .before in
     let args = l .before .args in
-    (l .loop .inv .0, codes-end (args .a .now) (args .b .now) (l .loop .i) (c .loop-test .left) (l .loop .inv .2))
+    parts-end (args .a .now) (args .b .now) (l .loop .i) (c .loop-test .left) (l .loop .inv .0) (l .loop .inv .1) (l .loop .inv .2)
 
 pub first-difference-spec : {M : Type 1} → statement M
 first-difference-spec =

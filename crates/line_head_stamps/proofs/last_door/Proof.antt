@@ -5,9 +5,8 @@ use native.Mathlib.Omega.{arith}
 use borrow.Author.Needs.{needs}
 use borrow.Author.Tests.{not-true, not-false}
 use lib.ListN.{getD}
-use Rattle.line_head_stamps.specs.Stamps.{IsDoor, branch}
-use Rattle.line_head_stamps.specs.Ways.{Way, here, on}
-use Rattle.line_head_stamps.proofs.Laws.Asking.{side-below}
+use Rattle.line_head_stamps.specs.Stamps.{IsDoor}
+use Rattle.line_head_stamps.specs.Ways.{Way, here}
 use Rattle.line_head_stamps.proofs.Laws.Passing.{rank, rank-falls}
 use Rattle.line_head_stamps.proofs.last_door.Statement.{statement}
 use Rattle.line_head_stamps.proofs.last_door.Tie as tie
@@ -37,38 +36,22 @@ loop-holds c =
     let live = c .before .is-live in
     (omega arith, omega arith, live .ensures .0 (not-false (live .result) (c .if1 .left)) .1, λ e w. w)
 
--- the fork is one of those that came
-came : (c : tie.After-index Inv-loop μ-loop) → c .index .result < start (c .before .before .before .before .before .before) .args .count
-came c =
-    let l = c .before .before .before .before in
-    omega (arith, c .index .ensures, c .before .before .if2 .taken, l .loop .inv .2)
-
-below : (c : tie.After-index Inv-loop μ-loop) → c .index .result < 254
-below c = omega (arith, came c, start (c .before .before .before .before .before .before) .pre .1 .0)
-
-sixteen : (c : tie.After-side Inv-loop μ-loop) → c .side .result < 16
-sixteen c = rw (c .side .ensures) (side-below _ _)
+further-requires : tie.Need-further-requires Inv-loop μ-loop
+further-requires c κs =
+    let l = c .before .before in
+    let pre = start (l .before .before) .pre in
+    (pre .0, ((pre .1 .0 .0, omega (arith, l .loop .inv .1)), (pre .1 .1, (c .if2 .taken, l .loop .inv .2))))
 
 loop-less : tie.Need-loop-less Inv-loop μ-loop
 loop-less c =
-    let at-index = c .before .before in
-    let l = at-index .before .before .before .before in
-    let s = start (l .before .before) in
-    let t = s .args .stamps .now in
-    let f = at-index .index .result in
-    rank-falls (getD t (l .loop .door) 0) (getD t (branch f (c .side .result)) 0) (at-index .before .before .if2 .taken) (l .loop .inv .2 .0) (λ g. omega (arith, at-index .index .ensures, s .pre .1 .1 .rises f (c .side .result) (came at-index) (sixteen c) g))
+    let l = c .before .before .before in
+    let t = start (l .before .before) .args .stamps .now in
+    rank-falls (getD t (l .loop .door) 0) (getD t (c .further .result) 0) (c .before .if2 .taken) (l .loop .inv .2 .0) (c .further .ensures .rises)
 
 loop-again : tie.Need-loop-again Inv-loop μ-loop
 loop-again c =
-    let at-index = c .before .before in
-    let l = at-index .before .before .before .before in
-    let s = start (l .before .before) in
-    let f = at-index .index .result in (
-      omega arith,
-      omega (arith, below at-index, sixteen c),
-      s .pre .1 .1 .holds f (c .side .result) (came at-index) (sixteen c),
-      (λ e w. l .loop .inv .3 e (on f (omega (arith, at-index .index .ensures, at-index .before .before .if2 .taken)) (came at-index) (rw (c .side .ensures) at w))),
-    )
+    let g = c .further .ensures in
+    (g .low, g .high, g .holds, λ e w. c .before .before .before .loop .inv .3 e (g .way e w))
 
 returns-2 : tie.Need-returns-2 Inv-loop μ-loop
 returns-2 c =
@@ -98,17 +81,7 @@ last-door-spec =
     loop-holds
     (λ c. search needs)
     (λ c. search needs)
-    (λ c. search needs)
-    (λ c. search needs)
-    (λ c. search needs)
-    (λ c κs. search needs)
-    (λ c. omega (arith, below c))
-    (λ c. omega (arith, below c))
-    (λ c. omega (arith, below c))
-    (λ c. omega (arith, below c))
-    (λ c. omega (arith, below (c .before), start (c .before .before .before .before .before .before .before) .pre .0))
-    (λ c κs. search needs)
-    (λ c. omega (arith, below (c .before .before), sixteen c))
+    further-requires
     loop-less
     loop-again
     returns-2)
