@@ -7,6 +7,7 @@ use text::cells::count_cells;
 use text::cells::has_code;
 use text::cells::nth_cell;
 use text::lines::line_at;
+use text::lines::next_opening;
 use text_bytes::begins_with;
 use text_bytes::both;
 use text_bytes::either;
@@ -134,7 +135,7 @@ fn survey_line(
 }
 
 // One pass over all lines: the flags, all false before, say which ids the file declares, index i of a family at place i - 1, and the answer is its facts. Few
-// lines begin with the byte of metadata lines, and only these are looked at.
+// lines begin with the byte of metadata lines, and only these are looked at; the others are passed over.
 pub fn survey(flags: &mut [[bool; INDICES]; FAMILIES], book: &[u8], file: &[u8]) -> Facts
     requires { ⌜ IsBook (now book) ⌝ }
     requires { ⌜ now flags ≡ replicate 4 (replicate 64 false) ⌝ }
@@ -150,13 +151,17 @@ pub fn survey(flags: &mut [[bool; INDICES]; FAMILIES], book: &[u8], file: &[u8])
     let mut at = 0;
     let mut n: u32 = 0;
     while at < file.len() {
-        let line = line_at(file, at);
-        let start = at;
-        let end = line.end;
-        n += 1;
-        at = line.next;
-        if file[start] == FIRST {
+        if file[at] == FIRST {
+            let line = line_at(file, at);
+            let start = at;
+            let end = line.end;
+            n += 1;
+            at = line.next;
             facts = survey_line(flags, book, facts, &file[start..end], n);
+        } else {
+            let next = next_opening(file, at, FIRST);
+            n += next.lines;
+            at = next.at;
         }
     }
     facts

@@ -1,10 +1,10 @@
 -- Facts with one line more: what was found before stays, and the lines that are left decide the rest. Assumes nothing.
 use Prim.Native.Nat.{ℕ, zero, suc, _+_, _-_, _≤_, _<_}
 use Prim.Native.String.{String}
-use mathlib.Core.Path.{_≡_, refl, sym, ap, _∙_}
-use mathlib.Core.Bool.{Bool, true, false, cond, _&&_, and-false}
+use mathlib.Core.Path.{_≡_, refl, sym, ap, subst, _∙_}
+use mathlib.Core.Bool.{Bool, true, false, cond, _&&_, _||_, and-false}
 use mathlib.Core.List.{List, [], _∷_}
-use mathlib.Core.Option.{none, some}
+use mathlib.Core.Option.{none as nothing, some}
 use native.Mathlib.Omega.{arith}
 use lib.Dec.{eqb}
 use lib.ListN.{length, getD, getElem?, take, drop}
@@ -15,6 +15,11 @@ use Rattle.text_bytes.specs.Places.{part}
 use Rattle.text_bytes.proofs.Laws.Same.{same-equal}
 use Rattle.text_bytes.proofs.Laws.Tests.{absurd-bool}
 use Rattle.text.specs.Lines.{cells, cell, coded, isMeta, isField}
+use Rattle.text.specs.Openings.{Passed, none, more, Reaches}
+use Rattle.text.proofs.Laws.Openings.{passed-any}
+use Rattle.book.specs.Book.{Book}
+use Rattle.book_ids.specs.Ids.{declares, flag}
+use Rattle.book_ids.proofs.Laws.Marks.{Left as IdsLeft}
 use Rattle.book_facts.specs.Facts.{earlier, earliest, modeAt, typeAt, versionAt, modeIn, typeIn, versionIn, modeOf, typeOf, versionOf, FactsOf, notedField, noted}
 use Rattle.book_facts.specs.declared.Facts.{Facts}
 
@@ -24,7 +29,7 @@ nth-some [] k x e = absurd (let z : _≡_ {A = ℕ} 0 1 = cc in omega arith)
 nth-some (y ∷ xs) zero x e = cc
 nth-some (y ∷ xs) (suc k) x e = nth-some xs k x e
 
-pub nth-none : (xs : List Bytes) (k : ℕ) → getElem? xs k ≡ none → length xs ≤ k
+pub nth-none : (xs : List Bytes) (k : ℕ) → getElem? xs k ≡ nothing → length xs ≤ k
 nth-none [] k e = omega arith
 nth-none (y ∷ xs) zero e = absurd (let z : _≡_ {A = ℕ} 0 1 = cc in omega arith)
 nth-none (y ∷ xs) (suc k) e = omega (arith, nth-none xs k e)
@@ -52,12 +57,13 @@ begins-other (x ∷ xs) h = go (eqb x 9) (splitOn 9 xs)
     go false [] = rw (ne-eqb x 77 h)
     go false (c ∷ cs) = rw (ne-eqb x 77 h)
 
-pub other-first : (file : Bytes) (at end : ℕ) → at < length file → (getD file at 0 ≡ 77 → ⊥) → isMeta (part at end file) ≡ false
-other-first file at end l h = begins-other (part at end file) (go (end - at))
+pub other-opening : (l : Bytes) → begins (77 ∷ []) l ≡ false → isField l ≡ false
+unfolding begins
+other-opening l h = other-code l (begins-other l (go l h))
   where
-    go : (n : ℕ) → getD (take n (drop at file)) 0 0 ≡ 77 → ⊥
-    go zero e = absurd (omega (arith, e))
-    go (suc n) e = h (sym (ap (λ (s : Bytes). getD (take (suc n) s) 0 0) (drop-cons file at 0 l)) ∙ e)
+    go : (l : Bytes) → begins (77 ∷ []) l ≡ false → getD l 0 0 ≡ 77 → ⊥
+    go [] h e = absurd (omega (arith, e))
+    go (x ∷ xs) h e = absurd-bool (sym (rw (eq-eqb 77 x (sym e)) at h))
 
 -- A VALUE of a kind with the key that is sought
 module _ (p k : Bool) (x : ℕ) where
@@ -146,6 +152,19 @@ left-next {file} {x} {n} {rest} l ls e h =
       typed = h .typed ∙ ap (λ (r : List Bytes). earlier (x .typed) (earliest typeIn (n + 1) r)) e ∙ earliest-next typeIn (x .typed) (n + 1) l ls;
       version = h .version ∙ ap (λ (r : List Bytes). earlier (x .version) (earliest versionIn (n + 1) r)) e ∙ earliest-next versionIn (x .version) (n + 1) l ls;
     }
+
+-- lines passed over say nothing
+pub left-passed : {file : List Bytes} {x : Facts} {n k : ℕ} {ls rest : List Bytes} → Passed 77 ls k rest → Left file x n ls → Left file x (n + k) rest
+left-passed {file} {x} {n} {k} {ls} {rest} none h = subst (λ (m : ℕ). Left file x m rest) (let e : n ≡ n + 0 = omega arith in e) h
+left-passed {file} {x} {n} {k} {ls} {rest} (more {n = j} l q o) h =
+    let next = left-next l rest refl (left-passed q h) in
+    let same = noted-none x (n + j + 1) l (other-opening l o) in
+    subst (λ (m : ℕ). Left file x m rest) (let e : n + j + 1 ≡ n + (j + 1) = omega arith in e) (subst (λ (y : Facts). Left file y (n + j + 1) rest) same next)
+
+-- nor do they declare an id
+pub ids-passed : (book : Book) (t : List (List Bool)) {file : Bytes} {at next k : ℕ} → Reaches 77 file at next k → IdsLeft book t file at → IdsLeft book t file next
+unfolding declares
+ids-passed book t r left f i hf hi = left f i hf hi ∙ ap (λ (b : Bool). flag t f i || b) (passed-any (declares book f (i + 1)) (λ l o. rw (other-opening l o)) (r .passed))
 
 pub left-done : {file : List Bytes} {x : Facts} {n : ℕ} {rest : List Bytes} → rest ≡ [] → Left file x n rest → FactsOf file x
 unfolding earliest

@@ -13,9 +13,9 @@ use Rattle.book.specs.Book.{Book}
 use Rattle.book.specs.Text.{bookIn}
 use Rattle.book_facts.specs.Facts.{noted}
 use Rattle.book_ids.specs.Ids.{Flags, lineId, marked}
-use Rattle.book_ids.proofs.Laws.Marks.{line-other, Left as IdsLeft, start-flags, left-start as ids-start, left-next as ids-next, left-done as ids-done, marked-flags, line-range}
+use Rattle.book_ids.proofs.Laws.Marks.{Left as IdsLeft, start-flags, left-start as ids-start, left-next as ids-next, left-done as ids-done, marked-flags, line-range}
 use Rattle.book_facts.specs.declared.Facts.{Facts}
-use Rattle.book_facts.proofs.Laws.Surveying.{other-first, other-code, noted-none, Left, left-start, left-next, left-done}
+use Rattle.book_facts.proofs.Laws.Surveying.{Left, left-start, left-next, left-passed, ids-passed, left-done}
 use Rattle.book_facts.proofs.survey.Statement.{statement}
 use Rattle.book_facts.proofs.survey.Tie as tie
 
@@ -42,51 +42,34 @@ loop-holds c =
 
 -- the line, and what is known before it
 abbrev lines-from : tie.After-line-at Inv-loop μ-loop → tie.At-loop Inv-loop μ-loop
-lines-from a = a .before .before
-
-module _ (a : tie.After-line-at Inv-loop μ-loop) where
-  abbrev file : List ℕ
-  file = start (lines-from a) .args .file .now
-
-  abbrev book : Book
-  book = bookIn (start (lines-from a) .args .book .now)
-
-  abbrev at : ℕ
-  at = lines-from a .loop .at
-
-  abbrev next : ℕ
-  next = a .line-at .result .next
-
-  abbrev line : List ℕ
-  line = part at (a .line-at .result .end) file
-
-  -- with the line's id and what it says
-  after : (u : List (List Bool)) (x : Facts) → u ≡ marked (lines-from a .loop .flags) (lineId book line) → x ≡ noted (lines-from a .loop .facts) (lines-from a .loop .n + 1) line
-      → (next ≤ length file) × (lines-from a .loop .n + 1 ≤ next) × Flags u × IdsLeft book u file next × Left (lines file) x (lines-from a .loop .n + 1) (lines (drop next file))
-  after u x d e =
-      let t = lines-from a .loop .flags in
-      let cut = a .line-at .ensures in
-      let i = lines-from a .loop .inv in (
-        cut .within,
-        omega (arith, cut .on, i .1),
-        subst⁻¹ Flags d (marked-flags t (i .2) (lineId book line) (line-range book line)),
-        subst⁻¹ (λ (v : List (List Bool)). IdsLeft book v file next) d (ids-next book t file at (a .line-at .result .end) next (i .2) cut (i .3)),
-        subst⁻¹ (λ (y : Facts). Left (lines file) y (lines-from a .loop .n + 1) (lines (drop next file))) e (left-next line (lines (drop next file)) (cut .cut) (i .4)),
-      )
+lines-from a = a .before .before .before .before
 
 loop-again : tie.Need-loop-again Inv-loop μ-loop
-loop-again c = let e = c .survey-line .ensures in after (c .before .before .before .before .before) _ _ (e .0) (e .1)
-
--- a line that begins with another byte
-loop-again-2 : tie.Need-loop-again-2 Inv-loop μ-loop
-unfolding marked
-loop-again-2 c =
-    let a = c .before .before in
+loop-again c =
+    let a = c .before .before .before in
     let l = lines-from a in
-    let none = other-first (file a) (at a) (a .line-at .result .end) (a .before .loop-test .taken) (c .if1 .left) in
-    after a _ _
-    (sym (ap (marked (l .loop .flags)) (line-other (book a) (line a) none)))
-    (sym (noted-none (l .loop .facts) (l .loop .n + 1) (line a) (other-code (line a) none)))
+    let file = start l .args .file .now in
+    let book = bookIn (start l .args .book .now) in
+    let line = part (l .loop .at) (a .line-at .result .end) file in
+    let next = a .line-at .result .next in
+    let e = c .survey-line .ensures in
+    let t = l .loop .flags in
+    let cut = a .line-at .ensures in
+    let i = l .loop .inv in (
+      cut .within,
+      omega (arith, cut .on, i .1),
+      subst⁻¹ Flags (e .0) (marked-flags t (i .2) (lineId book line) (line-range book line)),
+      subst⁻¹ (λ (v : List (List Bool)). IdsLeft book v file next) (e .0) (ids-next book t file (l .loop .at) (a .line-at .result .end) next (i .2) cut (i .3)),
+      subst⁻¹ (λ (y : Facts). Left (lines file) y (l .loop .n + 1) (lines (drop next file))) (e .1) (left-next line (lines (drop next file)) (cut .cut) (i .4)),
+    )
+
+-- lines that begin with another byte
+loop-again-2 : tie.Need-loop-again-2 Inv-loop μ-loop
+loop-again-2 c =
+    let l = c .before .before .before .before .before in
+    let r = c .before .next-opening .ensures in
+    let i = l .loop .inv in
+    (r .within, omega (arith, r .few, i .1), i .2, ids-passed (bookIn (start l .args .book .now)) (l .loop .flags) r (i .3), left-passed (r .passed) (i .4))
 
 returns : tie.Need-returns Inv-loop μ-loop
 returns c =
@@ -104,15 +87,17 @@ survey-spec =
     Inv-loop
     μ-loop
     loop-holds
-    (λ c κs. search needs)
-    (λ c. let l = c .before .before in omega (arith, l .loop .inv .1, l .loop .inv .0, start l .pre .1 .1))
     (λ c. search needs)
+    (λ c κs. search needs)
+    (λ c. let l = lines-from c in omega (arith, l .loop .inv .1, l .loop .inv .0, start l .pre .1 .1))
     (λ c. search needs)
     (λ c. search needs)
     (λ c. search needs)
     (λ c κs. search needs)
     (λ c. search needs)
     loop-again
-    (λ c. search needs)
+    (λ c κs. let l = c .before .before .before in ((c .before .before .loop-test .taken, start l .pre .1 .1), c .if1 .left))
+    (λ c. let l = c .before .before .before .before .before in let r = c .before .next-opening .ensures in omega (arith, l .loop .inv .1, r .few, r .within, start l .pre .1 .1))
+    (λ c. let r = c .before .next-opening .ensures in omega (arith, r .on, r .within))
     loop-again-2
     returns)
