@@ -49,6 +49,14 @@ static struct want want(uint32_t count, uint32_t rule, uint32_t line, uint32_t c
     return w;
 }
 
+/* The next number of a fixed linear congruential generator, below n. */
+static uint64_t seed = 20120515;
+
+static uint64_t draw(uint64_t n) {
+    seed = seed * 6364136223846793005u + 1442695040888963407u;
+    return (seed >> 11) % n;
+}
+
 /* Nothing is broken but that the required metadata is absent: fills with LF. The file has one line so far, without its LF, or `lines` whole ones. */
 static struct want absent(uint32_t lines) {
     uint32_t ends = (uint32_t)(size - at);
@@ -131,6 +139,22 @@ static struct want ends(size_t n) { begin(n); fill('\n', n); return want(5, 21, 
 static struct want returns(size_t n) { begin(n); fill('\r', n); return want(7, 1, 1, 1); }
 static struct want one_line(size_t n) { begin(n); fill('x', n); return want(6, 2, 1, 1); }
 static struct want x_lines(size_t n) { begin(n); return every("x\n", 1, 2, 1); }
+
+/* Lines of no to four x, in an order that cannot be foretold. */
+static struct want ragged_lines(size_t n) {
+    uint32_t line = 1, first = 0, count = 0;
+    begin(n);
+    for (seed = 7;; line++) {
+        size_t length = draw(5);
+        if (at + length + 1 > n) break;
+        if (length && !count++) first = line;
+        fill('x', at + length);
+        put("\n");
+    }
+    fill('\n', n);
+    return want(count + 5, 2, first, 1);
+}
+
 static struct want control_lines(size_t n) { begin(n); return every("\001\n", 2, 1, 1); }
 static struct want mtd_lines(size_t n) { begin(n); return every("MTD\tx\ty\n", 1, 5, 2); }
 static struct want unknown_keys(size_t n) { begin(n); return every("MTD\tsample[9]-\ta\n", 1, 5, 2); }
@@ -171,6 +195,34 @@ static struct want short_headers(size_t n) { begin(n); return headers(line_of("S
 static struct want near_headers(size_t n) { begin(n); return headers(line_of("SMH", 255, near_name), 1 + 255 + 254, 16, 1); }
 static struct want like_headers(size_t n) { begin(n); return headers(line_of("PRH", 255, like_name), 1 + 255, 16, 1); }
 static struct want late_headers(size_t n) { begin(n); return headers(line_of("PRH", 255, late_name), 1 + 255, 16, 1); }
+
+/* Headers of 255 names of three bytes with one stamp: in each header others, in an order that cannot be foretold. */
+static struct want drawn_headers(size_t n) {
+    static char names[3000][4];
+    uint32_t count = 0, lines = 0;
+    for (uint32_t k = 0; k < 1 << 24; k++) {
+        char name[4] = {(char)(k >> 16), (char)(k >> 8), (char)k, 0};
+        int plain = 1;
+        for (int i = 0; i < 3; i++) plain &= (uint8_t)name[i] > 32 && name[i] != 127;
+        if (plain && stamp(name) == 7 && count < 3000) memcpy(names[count++], name, 4);
+    }
+    begin(n);
+    for (seed = 7; at + 4 + 255 * 4 <= n; lines++) {
+        put("PRH");
+        for (uint32_t k = 0; k < 255; k++) {
+            uint32_t other = k + (uint32_t)draw(count - k);
+            char name[4];
+            memcpy(name, names[other], 4);
+            memcpy(names[other], names[k], 4);
+            memcpy(names[k], name, 4);
+            put("\t");
+            put(name);
+        }
+        put("\n");
+    }
+    fill('\n', n);
+    return want(256 * lines + lines - 1 + 5, 16, 1, 1);
+}
 
 /* 255 names of 60,000 bytes, fewer in a small file: all equal, or alike up to their last 16 bytes. */
 static struct want long_names(size_t n, int alike) {
@@ -310,6 +362,7 @@ static const struct hostile {
     {"CR alone", returns},
     {"one line of x", one_line},
     {"x lines", x_lines},
+    {"x lines of drawn lengths", ragged_lines},
     {"lines of a control byte", control_lines},
     {"marks in a parameter, even", closed_marks},
     {"marks in a parameter, odd", open_marks},
@@ -336,6 +389,7 @@ static const struct hostile {
     {"headers of 255 names `sma`", near_headers},
     {"headers of 255 like names", like_headers},
     {"headers of 255 late names", late_headers},
+    {"headers of 255 drawn names", drawn_headers},
     {"255 equal names of 60,000", equal_names},
     {"255 like names of 60,000", alike_names},
     {"one cell of digits", digits},
@@ -351,14 +405,6 @@ static const struct hostile {
 };
 
 enum { FILES = sizeof HOSTILE / sizeof HOSTILE[0] };
-
-/* The next number of a fixed linear congruential generator, below n. */
-static uint64_t seed = 20120515;
-
-static uint64_t draw(uint64_t n) {
-    seed = seed * 6364136223846793005u + 1442695040888963407u;
-    return (seed >> 11) % n;
-}
 
 #ifndef HOSTILE_FILES_ONLY
 #include "stack.h"
@@ -452,6 +498,24 @@ static const char EXAMPLE[] =
     "PRT\tY1\tnull\tdb\tnull\t\nPRT\tnull\tx\tdb\tnull\t4\n";
 
 static const uint32_t EXAMPLE_BREAKS[18] = {15, 7, 6, 19, 8, 6, 20, 9, 2, 22, 10, 500, 22, 10, 900, 22, 10, 1000};
+
+/* An id may be declared on any line. The first pass looks at 64 bytes at a time for lines that begin as metadata lines do, so the line stands at each place of
+ * such a block, behind a line, empty lines, lines that end with CR, or a line of the byte that is sought; with an LF, or as the last of the file. */
+static void passed_over(void) {
+    static const char *const between[4] = {"x", "\n", "\r\n", "M"};
+    for (size_t pad = 0; pad < 200; pad++)
+        for (int way = 0; way < 16; way++) {
+            uint32_t places[3], number = 77;
+            begin(1024);
+            put("PRH\taccession\tdescription\tdatabase\tsearch_engine\tnum_psms_ms_run[1]\nCOM\t");
+            for (size_t k = 0; k < pad; k++) put(between[way & 3]);
+            put(way & 4 ? "\nMTX\tms_run[1]-location\tf" : "\nMTD\tms_run[1]-location\tf");
+            if (way & 8) put("\nx\n");
+            mztab_judge(file, at, places, 3, &number);
+            check(number == 0 && (places[0] == 15) == ((way & 4) != 0), "an id declared behind lines that are passed over", pad * 16 + (size_t)way);
+        }
+    group("lines passed over");
+}
 
 static void limits(void) {
     uint32_t places[18], number = 77;
@@ -1285,6 +1349,7 @@ int main(int words, char **word) {
     if (words > 1) most = (size_t)atol(word[1]);
     if (most == 0 || most > LIMIT) most = LIMIT;
     limits();
+    passed_over();
     lists();
     indices();
     stand_ins();
