@@ -134,6 +134,29 @@ static void late_name(char *s, uint32_t k) {
                 if (stamp(s) == 7) return;
 }
 
+/* Three bytes behind a name of n bytes that give the stamp 7: the way-th such. */
+static void end_name(char *s, size_t n, uint32_t way) {
+    s[n] = 0;
+    uint32_t front = stamp(s);
+    for (uint32_t a = '!'; a < '~'; a++)
+        for (uint32_t b = '!'; b < '~'; b++) {
+            uint32_t c = (7 + 4096 * 4096 - (((front * 33 + a) * 33 + b) * 33)) % 4096;
+            if (c < '!' || c >= '~' || way--) continue;
+            s[n] = (char)a, s[n + 1] = (char)b, s[n + 2] = (char)c, s[n + 3] = 0;
+            return;
+        }
+}
+
+/* Names of one stamp: 60 that part from the first at two of the bits of each of 30 bytes, 60 that part from these, so that two ways go on from each fork, and
+ * the others go by all forks of the first. */
+static void turning_name(char *s, uint32_t k) {
+    uint32_t j = (k - 1) % 60;
+    size_t n = k == 0 || k > 120 ? 30 : j / 2;
+    memset(s, '_', n);
+    if (k > 0 && k <= 120) s[n++] = (char)((('_' + 1) ^ (j % 2 ? 16 : 1)) - 1);
+    end_name(s, n, k == 0 ? 0 : k <= 60 ? 0 : k <= 120 ? 5 : k - 117);
+}
+
 static struct want tabs(size_t n) { begin(n); fill('\t', n); return want(6, 2, 1, 1); }
 static struct want ends(size_t n) { begin(n); fill('\n', n); return want(5, 21, (uint32_t)n + 1, 1); }
 static struct want returns(size_t n) { begin(n); fill('\r', n); return want(7, 1, 1, 1); }
@@ -194,6 +217,7 @@ static struct want nameless_headers(size_t n) { begin(n); return headers(line_of
 static struct want short_headers(size_t n) { begin(n); return headers(line_of("SMH", 255, short_name), 1 + 255 + 254, 16, 1); }
 static struct want near_headers(size_t n) { begin(n); return headers(line_of("SMH", 255, near_name), 1 + 255 + 254, 16, 1); }
 static struct want like_headers(size_t n) { begin(n); return headers(line_of("PRH", 255, like_name), 1 + 255, 16, 1); }
+static struct want turning_headers(size_t n) { begin(n); return headers(line_of("PRH", 255, turning_name), 1 + 255, 16, 1); }
 static struct want late_headers(size_t n) { begin(n); return headers(line_of("PRH", 255, late_name), 1 + 255, 16, 1); }
 
 /* Headers of 255 names of three bytes with one stamp: in each header others, in an order that cannot be foretold. */
@@ -389,6 +413,7 @@ static const struct hostile {
     {"headers of 255 names `sma`", near_headers},
     {"headers of 255 like names", like_headers},
     {"headers of 255 late names", late_headers},
+    {"headers of 255 turning names", turning_headers},
     {"headers of 255 drawn names", drawn_headers},
     {"255 equal names of 60,000", equal_names},
     {"255 like names of 60,000", alike_names},

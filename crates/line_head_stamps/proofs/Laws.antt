@@ -4,4 +4,5 @@ pub mod Asking
 pub mod Naming
 pub mod Noting
 pub mod Passing
+pub mod Guessing
 pub mod Writing

@@ -71,10 +71,6 @@ covered t from (suc n) held = set (covered t from n held) (from + n) held
 unfoldable pub entered : List ℕ → ℕ → ℕ → ℕ → List ℕ
 entered t m start end = covered (set (set t (STARTS + m) start) (ENDS + m) end) (BRANCHES + 16 * m) 16 m
 
--- where the fork guesses whose door it is; of the door of a stamp some fork does. Nothing rests on a guess
-abbrev pub guessAt : ℕ → ℕ
-guessAt door = GUESSES + door / 16 % 256
-
--- a door leads to fork m, where on one side is what the door held, and is guessed to
+-- a door leads to fork m, where on one side is what the door held
 unfoldable pub forked : List ℕ → ℕ → ℕ → ℕ → ℕ → List ℕ
-forked t door m ask their = set (set (set (set t (ASKS + m) ask) (branch m their) (getD t door 0)) door (256 + m)) (guessAt door) (256 + m)
+forked t door m ask their = set (set (set t (ASKS + m) ask) (branch m their) (getD t door 0)) door (256 + m)

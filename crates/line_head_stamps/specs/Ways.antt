@@ -6,13 +6,18 @@ use mathlib.Core.Bool.{Bool, false, _||_}
 use mathlib.Core.List.{List}
 use lib.ListN.{length, getD}
 use Rattle.text_bytes.specs.Bytes.{Bytes, same}
-use Rattle.line_head_stamps.specs.Stamps.{ROOM, DOORS, BRANCHES, ASKS, STARTS, ENDS, IsDoor, branch, nameAt, hashOf, byteCode, sideOf}
+use Rattle.line_head_stamps.specs.Stamps.{ROOM, DOORS, BRANCHES, ASKS, STARTS, ENDS, GUESSES, IsDoor, branch, nameAt, hashOf, byteCode, sideOf}
 
 -- two names are the same up to a place, which is the end of both or tells them apart
 pub record PartsAt (a b : Bytes) (place : ℕ) : Type 0 where
   pub within : place ≤ length a
   pub equal : place ≡ length a → place ≡ length b → a ≡ b
   pub ended : byteCode a place ≡ byteCode b place → (place ≡ length a) × (place ≡ length b)
+
+-- nothing but guesses has changed, and nothing rests on a guess
+pub record Guessed (t t' : List ℕ) : Type 0 where
+  pub places : length t' ≡ length t
+  pub kept : (i : ℕ) → i < GUESSES → getD t' i 0 ≡ getD t i 0
 
 -- from the last door back to the first: a door that holds a fork leads to that of its doors which is on the name's side
 pub data Way (t : List ℕ) (m : ℕ) (name : Bytes) (last : ℕ) : ℕ → Type 0 where

@@ -1,7 +1,7 @@
 // Whether a name of a header came before in it, where each name is compared with one earlier name at most, whatever the names are. A name leaves its line's
 // number as a stamp, at a place that its bytes give. From the stamp's door the names of that stamp go apart by forks, each of which asks for four bits. Names
-// made to pass many forks mostly go on as others did before them: so each fork has a guess of what the next door holds, and the processor need not wait for
-// the name's bits before it looks there.
+// made to pass many forks mostly go on as the one before them did: so each fork has a guess of what the next door holds, that of the last name which passed
+// it, and the processor need not wait for the name's bits before it looks there.
 use text_bytes::both;
 use text_bytes::wide;
 ghost use mathlib.Core.Path.{_≡_};
@@ -11,7 +11,7 @@ ghost use lib.ListN.{length, getD};
 ghost use Rattle.text_bytes.specs.Places.{part};
 ghost use Rattle.text.specs.Lines.{LIMIT};
 ghost use Rattle.line_head_stamps.specs.Stamps.{ROOM as room, SAME as same, IsDoor, BRANCHES as branches, hashOf, byteCode, sideOf, covered, entered, forked};
-ghost use Rattle.line_head_stamps.specs.Ways.{PartsAt, Astray, Doors, Goes, FindsDoor, Noted, Adds};
+ghost use Rattle.line_head_stamps.specs.Ways.{PartsAt, Guessed, Astray, Doors, Goes, FindsDoor, Noted, Adds};
 
 // The list that is lent has so many places: the stamps, and from the places below on their doors, the doors of each fork, what each fork asks, where each
 // name begins and ends, and the guess of each fork.
@@ -42,9 +42,6 @@ const STAMPS: usize = 4096;
 
 // A fork has so many doors, one for each side that four bits can give.
 const SIDES: usize = 16;
-
-// There are fewer forks.
-const FORKS: usize = 256;
 
 // What no fork asks.
 const SAME: u32 = 4294967295;
@@ -108,21 +105,24 @@ fn is_live(stamp: u32, line_no: u32, held: u32, count: u32) -> bool
     held % FORK < count
 }
 
-// A door further on the way of the name, from one that leads to a fork of the first `count` names: it ends the way, or holds something else than was guessed.
-// While the guesses are right, what comes next is read from them, and the name's bits are only compared with it.
-fn further(stamps: &[u32], count: u32, from: usize, name: &[u8]) -> usize
+// A door further on the way of the name, from one that leads to a fork of the first `count` names: it ends the way, or holds something else than was guessed,
+// which is guessed from then on. While the guesses are right, what comes next is read from them, and the name's bits are only compared with it.
+fn further(stamps: &mut [u32], count: u32, from: usize, name: &[u8]) -> usize
     requires { ⌜ length (now stamps) ≡ room ⌝ }
-    requires { ⌜ (count ≤ 254) × (from < room) ⌝ }
+    requires { ⌜ (count ≤ 254) × (from < 12288) ⌝ }
     requires { ⌜ Doors (now stamps) count ⌝ }
     requires { ⌜ (256 ≤ getD (now stamps) from 0) × IsDoor count (getD (now stamps) from 0) ⌝ }
-    ensures { λ r. ⌜ Goes (now (stamps .entry)) count (now (name .entry)) from r ⌝ }
+    ensures { λ r. ⌜ Guessed (now (stamps .entry)) (now (stamps .exit)) ⌝ }
+    ensures { λ r. ⌜ Goes (now (stamps .exit)) count (now (name .entry)) from r ⌝ }
 {
     let mut held = stamps[from];
     loop {
         let fork = index(held - FORK);
         let guess = stamps[GUESSES + fork];
         let door = BRANCHES + SIDES * fork + side(name, stamps[ASKS + fork]);
-        if stamps[door] != guess {
+        let there = stamps[door];
+        if there != guess {
+            stamps[GUESSES + fork] = there;
             return door;
         }
         if guess < FORK {
@@ -133,11 +133,12 @@ fn further(stamps: &[u32], count: u32, from: usize, name: &[u8]) -> usize
 }
 
 // The door where the way of the name ends, which holds the number of an earlier name; 0 where there is none with its stamp, which stands at h.
-fn last_door(stamps: &[u32], line_no: u32, count: u32, h: usize, name: &[u8]) -> usize
+fn last_door(stamps: &mut [u32], line_no: u32, count: u32, h: usize, name: &[u8]) -> usize
     requires { ⌜ length (now stamps) ≡ room ⌝ }
     requires { ⌜ (count ≤ 254) × (h < 4096) ⌝ }
     requires { ⌜ Doors (now stamps) count ⌝ }
-    ensures { λ r. ⌜ FindsDoor (now (stamps .entry)) «line_no» count h (now (name .entry)) r ⌝ }
+    ensures { λ r. ⌜ Guessed (now (stamps .entry)) (now (stamps .exit)) ⌝ }
+    ensures { λ r. ⌜ FindsDoor (now (stamps .exit)) «line_no» count h (now (name .entry)) r ⌝ }
 {
     let mut door = DOORS + h;
     if !is_live(stamps[h], line_no, stamps[door], count) {
@@ -218,18 +219,16 @@ fn enter(stamps: &mut [u32], count: usize, at: usize, end: usize)
     fill_doors(stamps, count);
 }
 
-// The door leads to the fork of name number `count`. On side `their` is what the door held; all others hold the name already. The fork whose door it is
-// guesses it from now on; that of a stamp is no fork's, and some fork then guesses wrong, which costs a look.
+// The door leads to the fork of name number `count`. On side `their` is what the door held; all others hold the name already.
 fn put_fork(stamps: &mut [u32], door: usize, count: usize, ask: u32, their: usize)
     requires { ⌜ length (now stamps) ≡ room ⌝ }
-    requires { ⌜ (door < 12288) × (count ≤ 254) × (their < 16) ⌝ }
+    requires { ⌜ (door < room) × (count ≤ 254) × (their < 16) ⌝ }
     ensures { λ r. ⌜ now (stamps .exit) ≡ forked (now (stamps .entry)) door count ask their ⌝ }
 {
     let held = stamps[door];
     stamps[ASKS + count] = ask;
     stamps[BRANCHES + SIDES * count + their] = held;
     stamps[door] = FORK + (count as u32);
-    stamps[GUESSES + door / SIDES % FORKS] = FORK + (count as u32);
 }
 
 // Whether the name behind a door of a fork is of another side than the door. No way of an earlier name ends there then.

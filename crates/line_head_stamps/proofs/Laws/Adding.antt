@@ -11,7 +11,7 @@ use lib.ListN.{length, getD, set, length-set}
 use borrow.Author.Tests.{eqb-true, eqb-false}
 use Rattle.text_bytes.specs.Bytes.{Bytes}
 use Rattle.text_bytes.specs.Places.{part}
-use Rattle.line_head_stamps.specs.Stamps.{DOORS, BRANCHES, ASKS, GUESSES, ROOM, IsDoor, branch, nameAt, hashOf, sideOf, entered, forked}
+use Rattle.line_head_stamps.specs.Stamps.{DOORS, BRANCHES, ASKS, ROOM, IsDoor, branch, nameAt, hashOf, sideOf, entered, forked}
 use Rattle.line_head_stamps.specs.Ways.{Way, here, Astray, Known, Noted, Adds}
 use Rattle.line_head_stamps.proofs.Laws.Asking.{hash-below, side-below}
 use Rattle.line_head_stamps.proofs.Laws.Passing.{way-first, way-one, way-range, way-side, way-on}
@@ -54,7 +54,7 @@ module _ {t : List ℕ} {n : ℕ} {line : Bytes} {m : ℕ} (noted : Noted t n li
     fresh-grows =
         record {
           places = fresh-length;
-          rest = λ i l h ne. fresh-other i (omega (arith, hash-below x)) (omega (arith, hash-below x));
+          rest = λ i l ne. fresh-other i (omega (arith, hash-below x)) (omega (arith, hash-below x));
           own = λ s l. omega (arith, fresh-other (branch m s) (omega (arith, hash-below x)) (omega (arith, hash-below x)), entered-own t m start end (noted .places) few s l);
           stamps = λ h l q. stamps h l q (eqb h (hashOf x)) refl;
           doors = λ f s l k. inl (fresh-other (branch f s) (omega (arith, hash-below x)) (omega (arith, hash-below x)) ∙ entered-old (branch f s) (omega arith));
@@ -96,7 +96,7 @@ module _ {t : List ℕ} {n : ℕ} {line : Bytes} {m : ℕ} (noted : Noted t n li
     entered-grows =
         record {
           places = entered-length t m start end ∙ noted .places;
-          rest = λ i l h ne. refl;
+          rest = λ i l ne. refl;
           own = λ s l. omega (arith, entered-own t m start end (noted .places) few s l);
           stamps = λ h l q. entered-old h (omega arith) ∙ q;
           doors = λ f s l k. inl (entered-old (branch f s) (omega arith));
@@ -156,7 +156,7 @@ module _ {t : List ℕ} {n : ℕ} {line : Bytes} {m : ℕ} (noted : Noted t n li
       over-grows =
           record {
             places = over-length;
-            rest = λ i l h ne. over-other i (omega (arith, door-range .1));
+            rest = λ i l ne. over-other i (omega (arith, door-range .1));
             own = λ s l. omega (arith, over-other (branch m s) (omega (arith, door-range .1)), entered-own t m start end (noted .places) few s l);
             stamps = λ h l q. over-other h (omega (arith, door-range .0)) ∙ entered-old h (omega arith) ∙ q;
             doors = λ f s l k. over-turned (branch f s) (omega arith);
@@ -195,7 +195,7 @@ module _ {t : List ℕ} {n : ℕ} {line : Bytes} {m : ℕ} (noted : Noted t n li
 
       grown-old : (i : ℕ) → i < branch m 0 → (i ≡ d → ⊥) → getD grown i 0 ≡ getD t i 0
       unfolding grown
-      grown-old i l ne = forked-other (entered t m start end) d m ask their i (omega arith) (omega arith) (omega arith) ne ∙ entered-old i l
+      grown-old i l ne = forked-other (entered t m start end) d m ask their i (omega arith) (omega arith) ne ∙ entered-old i l
 
       grown-ask : getD grown (ASKS + m) 0 ≡ ask
       unfolding grown
@@ -213,7 +213,7 @@ module _ {t : List ℕ} {n : ℕ} {line : Bytes} {m : ℕ} (noted : Noted t n li
       grown-side : (s : ℕ) → s < 16 → (s ≡ their → ⊥) → getD grown (branch m s) 0 ≡ m
       unfolding grown
       grown-side s l ne =
-          forked-other (entered t m start end) d m ask their (branch m s) (omega arith) (omega arith) (λ e. ne (omega (arith, e))) (omega (arith, door-range .1))
+          forked-other (entered t m start end) d m ask their (branch m s) (omega arith) (λ e. ne (omega (arith, e))) (omega (arith, door-range .1))
           ∙ entered-own t m start end (noted .places) few s l
 
       grown-own : getD grown (branch m (sideOf ask x)) 0 ≡ m
@@ -242,8 +242,8 @@ module _ {t : List ℕ} {n : ℕ} {line : Bytes} {m : ℕ} (noted : Noted t n li
           places : length grown ≡ ROOM
           places = forked-length (entered t m start end) d m ask their ∙ long
 
-          rest : (i : ℕ) → ASKS ≤ i → i < GUESSES → (i ≡ ASKS + m → ⊥) → getD grown i 0 ≡ getD (entered t m start end) i 0
-          rest i l h ne = forked-other (entered t m start end) d m ask their i h ne (omega (arith, their-below)) (omega (arith, door-range .1))
+          rest : (i : ℕ) → ASKS ≤ i → (i ≡ ASKS + m → ⊥) → getD grown i 0 ≡ getD (entered t m start end) i 0
+          rest i l ne = forked-other (entered t m start end) d m ask their i ne (omega (arith, their-below)) (omega (arith, door-range .1))
 
           side : (s : ℕ) → s < 16 → (b : Bool) → eqb s their ≡ b → getD grown (branch m s) 0 ≤ m
           side s l true e = rw (eqb-true s their e) (omega (arith, grown-their, ends))

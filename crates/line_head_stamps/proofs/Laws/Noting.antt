@@ -8,7 +8,7 @@ use native.Mathlib.Omega.{arith}
 use lib.ListN.{length, getD}
 use Rattle.text_bytes.specs.Bytes.{Bytes}
 use Rattle.text_bytes.specs.Places.{part}
-use Rattle.line_head_stamps.specs.Stamps.{DOORS, ASKS, STARTS, ENDS, GUESSES, ROOM, IsDoor, branch, nameAt, hashOf, sideOf, entered}
+use Rattle.line_head_stamps.specs.Stamps.{DOORS, ASKS, STARTS, ENDS, ROOM, IsDoor, branch, nameAt, hashOf, sideOf, entered}
 use Rattle.line_head_stamps.specs.Ways.{Way, Known, Noted}
 use Rattle.line_head_stamps.proofs.Laws.Asking.{hash-below}
 use Rattle.line_head_stamps.proofs.Laws.Passing.{way-last, way-on, way-stays}
@@ -44,30 +44,30 @@ Turned t t' n line m i = (getD t' i 0 ≡ getD t i 0) ⊎ (Split t t' line m i �
 -- name number m is entered, and of the first m no more is changed than doors that lead to fork m or hold name m
 pub record Grows (t t' : List ℕ) (n : ℕ) (line : Bytes) (m start end : ℕ) : Type 0 where
   pub places : length t' ≡ ROOM
-  pub rest : (i : ℕ) → ASKS ≤ i → i < GUESSES → (i ≡ ASKS + m → ⊥) → getD t' i 0 ≡ getD (entered t m start end) i 0
+  pub rest : (i : ℕ) → ASKS ≤ i → (i ≡ ASKS + m → ⊥) → getD t' i 0 ≡ getD (entered t m start end) i 0
   pub own : (s : ℕ) → s < 16 → getD t' (branch m s) 0 ≤ m
   pub stamps : (h : ℕ) → h < DOORS → getD t h 0 ≡ n → getD t' h 0 ≡ n
   pub doors : (f s : ℕ) → f < m → s < 16 → Turned t t' n line m (branch f s)
 
 module _ {t t' : List ℕ} {n : ℕ} {line : Bytes} {m start end : ℕ} (noted : Noted t n line m) (few : m ≤ 254) (grows : Grows t t' n line m start end) where
   starts-stay : (j : ℕ) → j < m → getD t' (STARTS + j) 0 ≡ getD t (STARTS + j) 0
-  starts-stay j l = grows .rest (STARTS + j) (omega arith) (omega arith) (omega arith) ∙ entered-other t m start end (STARTS + j) (omega arith) (omega arith) (λ k. omega arith)
+  starts-stay j l = grows .rest (STARTS + j) (omega arith) (omega arith) ∙ entered-other t m start end (STARTS + j) (omega arith) (omega arith) (λ k. omega arith)
 
   ends-stay : (j : ℕ) → j < m → getD t' (ENDS + j) 0 ≡ getD t (ENDS + j) 0
-  ends-stay j l = grows .rest (ENDS + j) (omega arith) (omega arith) (omega arith) ∙ entered-other t m start end (ENDS + j) (omega arith) (omega arith) (λ k. omega arith)
+  ends-stay j l = grows .rest (ENDS + j) (omega arith) (omega arith) ∙ entered-other t m start end (ENDS + j) (omega arith) (omega arith) (λ k. omega arith)
 
   asks-stay : (f : ℕ) → f < m → getD t' (ASKS + f) 0 ≡ getD t (ASKS + f) 0
-  asks-stay f l = grows .rest (ASKS + f) (omega arith) (omega arith) (omega arith) ∙ entered-other t m start end (ASKS + f) (omega arith) (omega arith) (λ k. omega arith)
+  asks-stay f l = grows .rest (ASKS + f) (omega arith) (omega arith) ∙ entered-other t m start end (ASKS + f) (omega arith) (omega arith) (λ k. omega arith)
 
   pub names-stay : (j : ℕ) → j < m → nameAt t' line j ≡ nameAt t line j
   unfolding nameAt
   names-stay j l = rw (starts-stay j l, ends-stay j l)
 
   start-new : getD t' (STARTS + m) 0 ≡ start
-  start-new = grows .rest (STARTS + m) (omega arith) (omega arith) (omega arith) ∙ entered-start t m start end (noted .places) few
+  start-new = grows .rest (STARTS + m) (omega arith) (omega arith) ∙ entered-start t m start end (noted .places) few
 
   end-new : getD t' (ENDS + m) 0 ≡ end
-  end-new = grows .rest (ENDS + m) (omega arith) (omega arith) (omega arith) ∙ entered-end t m start end (noted .places) few
+  end-new = grows .rest (ENDS + m) (omega arith) (omega arith) ∙ entered-end t m start end (noted .places) few
 
   pub name-new : nameAt t' line m ≡ part start end line
   unfolding nameAt

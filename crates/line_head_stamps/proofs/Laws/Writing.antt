@@ -8,7 +8,7 @@ use native.Mathlib.Numerals.{add-one}
 use native.Mathlib.Omega.{arith}
 use lib.Seq.{getD-set-same, getD-set-other}
 use lib.ListN.{length, getD, set, length-set}
-use Rattle.line_head_stamps.specs.Stamps.{BRANCHES, ASKS, STARTS, ENDS, GUESSES, ROOM, branch, guessAt, covered, entered, forked}
+use Rattle.line_head_stamps.specs.Stamps.{BRANCHES, ASKS, STARTS, ENDS, ROOM, branch, covered, entered, forked}
 
 -- PLACES FILLED
 module _ (t : List ℕ) (from held : ℕ) where
@@ -78,44 +78,38 @@ module _ (t : List ℕ) (m start end : ℕ) where
 
 -- A FORK PUT at a door that is none of its own
 module _ (t : List ℕ) (d m ask their : ℕ) where
-  asked : List ℕ
-  asked = set t (ASKS + m) ask
-
-  sided : List ℕ
-  sided = set asked (branch m their) (getD t d 0)
-
-  led : List ℕ
-  led = set sided d (256 + m)
-
-  led-length : length led ≡ length t
-  unfolding asked sided led
-  led-length = length-set sided d (256 + m) ∙ length-set asked (branch m their) (getD t d 0) ∙ length-set t (ASKS + m) ask
-
   pub forked-length : length (forked t d m ask their) ≡ length t
-  unfolding forked asked sided led
-  forked-length = length-set led (guessAt d) (256 + m) ∙ led-length
+  unfolding forked
+  forked-length =
+      let t1 = set t (ASKS + m) ask in
+      let t2 = set t1 (branch m their) (getD t d 0) in
+      length-set t2 d (256 + m) ∙ length-set t1 (branch m their) (getD t d 0) ∙ length-set t (ASKS + m) ask
 
-  -- a guess is all that stands above
-  below-guesses : (i : ℕ) → i < GUESSES → getD (forked t d m ask their) i 0 ≡ getD led i 0
-  unfolding forked asked sided led
-  below-guesses i l = getD-set-other led (guessAt d) i (256 + m) 0 (omega arith)
-
-  pub forked-other : (i : ℕ) → i < GUESSES → (i ≡ ASKS + m → ⊥) → (i ≡ branch m their → ⊥) → (i ≡ d → ⊥) → getD (forked t d m ask their) i 0 ≡ getD t i 0
-  unfolding asked sided led
-  forked-other i l a b c = below-guesses i l ∙ getD-set-other sided d i (256 + m) 0 c ∙ getD-set-other asked (branch m their) i (getD t d 0) 0 b ∙ getD-set-other t (ASKS + m) i ask 0 a
+  pub forked-other : (i : ℕ) → (i ≡ ASKS + m → ⊥) → (i ≡ branch m their → ⊥) → (i ≡ d → ⊥) → getD (forked t d m ask their) i 0 ≡ getD t i 0
+  unfolding forked
+  forked-other i a b c =
+      let t1 = set t (ASKS + m) ask in
+      let t2 = set t1 (branch m their) (getD t d 0) in
+      getD-set-other t2 d i (256 + m) 0 c ∙ getD-set-other t1 (branch m their) i (getD t d 0) 0 b ∙ getD-set-other t (ASKS + m) i ask 0 a
 
   module _ (room : length t ≡ ROOM) (few : m ≤ 254) (before : d < branch m 0) (sixteen : their < 16) where
     pub forked-ask : getD (forked t d m ask their) (ASKS + m) 0 ≡ ask
-    unfolding asked sided led
+    unfolding forked
     forked-ask =
-        below-guesses (ASKS + m) (omega arith) ∙ getD-set-other sided d (ASKS + m) (256 + m) 0 (omega arith) ∙ getD-set-other asked (branch m their) (ASKS + m) (getD t d 0) 0 (omega arith) ∙ getD-set-same t (ASKS + m) ask 0 (omega arith)
+        let t1 = set t (ASKS + m) ask in
+        let t2 = set t1 (branch m their) (getD t d 0) in
+        getD-set-other t2 d (ASKS + m) (256 + m) 0 (omega arith) ∙ getD-set-other t1 (branch m their) (ASKS + m) (getD t d 0) 0 (omega arith) ∙ getD-set-same t (ASKS + m) ask 0 (omega arith)
 
     pub forked-their : getD (forked t d m ask their) (branch m their) 0 ≡ getD t d 0
-    unfolding asked sided led
+    unfolding forked
     forked-their =
-        below-guesses (branch m their) (omega arith) ∙ getD-set-other sided d (branch m their) (256 + m) 0 (omega arith) ∙ getD-set-same asked (branch m their) (getD t d 0) 0 (omega (arith, length-set t (ASKS + m) ask))
+        let t1 = set t (ASKS + m) ask in
+        let t2 = set t1 (branch m their) (getD t d 0) in
+        getD-set-other t2 d (branch m their) (256 + m) 0 (omega arith) ∙ getD-set-same t1 (branch m their) (getD t d 0) 0 (omega (arith, length-set t (ASKS + m) ask))
 
     pub forked-door : getD (forked t d m ask their) d 0 ≡ 256 + m
-    unfolding asked sided led
+    unfolding forked
     forked-door =
-        below-guesses d (omega arith) ∙ getD-set-same sided d (256 + m) 0 (omega (arith, length-set asked (branch m their) (getD t d 0), length-set t (ASKS + m) ask))
+        let t1 = set t (ASKS + m) ask in
+        let t2 = set t1 (branch m their) (getD t d 0) in
+        getD-set-same t2 d (256 + m) 0 (omega (arith, length-set t1 (branch m their) (getD t d 0), length-set t (ASKS + m) ask))
