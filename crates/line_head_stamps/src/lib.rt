@@ -43,6 +43,9 @@ const STAMPS: usize = 4096;
 // A fork has so many doors, one for each side that four bits can give.
 const SIDES: usize = 16;
 
+// So many forks are passed without a guess.
+const NEAR: usize = 4;
+
 // What no fork asks.
 const SAME: u32 = 4294967295;
 
@@ -105,6 +108,29 @@ fn is_live(stamp: u32, line_no: u32, held: u32, count: u32) -> bool
     held % FORK < count
 }
 
+// A door on the way of the name, from one on: the way ends there, or four forks are passed. Most ways are no longer, and of these no guess is made: a wrong one
+// costs more than a right one saves.
+fn nearby(stamps: &[u32], count: u32, from: usize, name: &[u8]) -> usize
+    requires { ⌜ length (now stamps) ≡ room ⌝ }
+    requires { ⌜ (count ≤ 254) × (4096 ≤ from) × (from < 12288) ⌝ }
+    requires { ⌜ Doors (now stamps) count ⌝ }
+    requires { ⌜ IsDoor count (getD (now stamps) from 0) ⌝ }
+    ensures { λ r. ⌜ Goes (now (stamps .entry)) count (now (name .entry)) from r ⌝ }
+{
+    let mut door = from;
+    let mut passed = 0;
+    while passed < NEAR {
+        let held = stamps[door];
+        if held < FORK {
+            return door;
+        }
+        let fork = index(held - FORK);
+        door = BRANCHES + SIDES * fork + side(name, stamps[ASKS + fork]);
+        passed += 1;
+    }
+    door
+}
+
 // A door further on the way of the name, from one that leads to a fork of the first `count` names: it ends the way, or holds something else than was guessed,
 // which is guessed from then on. While the guesses are right, what comes next is read from them, and the name's bits are only compared with it.
 fn further(stamps: &mut [u32], count: u32, from: usize, name: &[u8]) -> usize
@@ -140,10 +166,11 @@ fn last_door(stamps: &mut [u32], line_no: u32, count: u32, h: usize, name: &[u8]
     ensures { λ r. ⌜ Guessed (now (stamps .entry)) (now (stamps .exit)) ⌝ }
     ensures { λ r. ⌜ FindsDoor (now (stamps .exit)) «line_no» count h (now (name .entry)) r ⌝ }
 {
-    let mut door = DOORS + h;
-    if !is_live(stamps[h], line_no, stamps[door], count) {
+    let root = DOORS + h;
+    if !is_live(stamps[h], line_no, stamps[root], count) {
         return 0;
     }
+    let mut door = nearby(stamps, count, root, name);
     while FORK <= stamps[door] {
         door = further(stamps, count, door, name);
     }

@@ -118,3 +118,18 @@ module _ {t : List ℕ} {m from held : ℕ} {name : Bytes} (fork side : ℕ) (do
         rises = λ h. omega (arith, door-rises h, leads .2);
         way = λ e w. leads .3 e (rw (s, f) at w);
       }
+
+-- SOME FORKS are passed from a door on
+abbrev pub Near : List ℕ → ℕ → Bytes → ℕ → ℕ → ℕ → Type 0
+Near t m name from door passed =
+    (DOORS ≤ door) × (door < ASKS) × IsDoor m (getD t door 0) × ((e : ℕ) → Way t m name e door → Way t m name e from) × (256 ≤ getD t door 0 → getD t from 0 ≤ getD t door 0) × (0 < passed → 256 ≤ getD t door 0 → getD t from 0 < getD t door 0)
+
+module _ {t : List ℕ} {m from : ℕ} {name : Bytes} where
+  pub near-first : DOORS ≤ from → from < ASKS → IsDoor m (getD t from 0) → Near t m name from from 0
+  near-first l h d = (l, h, d, λ e w. w, λ f. omega arith, λ z f. absurd (omega (arith, z)))
+
+  pub near-next : {door next passed : ℕ} → Near t m name from door passed → 256 ≤ getD t door 0 → Goes t m name door next → Near t m name from next (passed + 1)
+  near-next n f g = (g .low, g .high, g .holds, λ e w. n .3 e (g .way e w), λ h. omega (arith, g .rises h, n .4 f), λ z h. omega (arith, g .rises h, n .4 f))
+
+  pub near-goes : {door passed : ℕ} → Near t m name from door passed → (256 ≤ getD t door 0 → 0 < passed) → Goes t m name from door
+  near-goes n f = record { low = n .0; high = n .1; holds = n .2; rises = λ h. n .5 (f h) h; way = n .3 }
