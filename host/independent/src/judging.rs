@@ -1,7 +1,8 @@
-//! "The 21 rules", rule 22 of request 2026-01, and rules 23 and 24 of request
-//! 2026-05. Each rule has a function named after it.
+//! "The 21 rules", rule 22 of request 2026-01, rules 23 and 24 of request
+//! 2026-05, and the fourth number of request 2026-08. Each rule has a function
+//! named after it.
 
-use std::collections::HashSet;
+use std::collections::{HashMap, HashSet};
 
 use crate::demands::{self, Field, Of, Sort, Type};
 use crate::kinds::{self, Bad};
@@ -9,12 +10,22 @@ use crate::lines::{cells, code, key_and_value, lines, Code};
 use crate::names::{self, Family, Kind, Known};
 use crate::LIMIT;
 
-/// "A break is a line, a cell and a rule."
-#[derive(Clone, Copy, Debug, PartialEq, Eq, PartialOrd, Ord, Hash)]
+/// "A break is a line, a cell and a rule." "The fault record gets a fourth
+/// number: for rules 6 and 9 the line of the earliest equal key or same header,
+/// for 13 the cell of the first equal name, 0 for all others."
+#[derive(Clone, Copy, Debug, PartialEq, Eq, Hash)]
 pub struct Break {
     pub line: u32,
     pub cell: u32,
     pub rule: u32,
+    pub first: u32,
+}
+
+impl Break {
+    /// What a break is known and ordered by: line, cell and rule.
+    pub fn place(&self) -> (u32, u32, u32) {
+        (self.line, self.cell, self.rule)
+    }
 }
 
 /// "A header has over 256 cells" breaks rule 11.
@@ -45,8 +56,8 @@ pub fn judge(file: &[u8]) -> Option<Vec<Break>> {
     };
     rule_21(&above, &mut report);
     rule_22(&whole, &above, &mut report);
-    breaks.sort();
-    breaks.dedup();
+    breaks.sort_by_key(Break::place);
+    breaks.dedup_by_key(|at| at.place());
     Some(breaks)
 }
 
@@ -57,14 +68,25 @@ struct Report<'r> {
 }
 
 impl Report<'_> {
+    /// A break whose fourth number is 0: "0 for all others".
     fn add(&mut self, cell: usize, rule: u32) {
-        let cell = u32::try_from(cell).expect("a line has fewer cells than a file has bytes");
+        self.add_again(cell, rule, 0);
+    }
+
+    /// A break of what comes again, and where it was first.
+    fn add_again(&mut self, cell: usize, rule: u32, first: u32) {
         self.breaks.push(Break {
             line: self.line,
-            cell,
+            cell: number_of(cell),
             rule,
+            first,
         });
     }
+}
+
+/// The number of a cell in 32 bits.
+fn number_of(cell: usize) -> u32 {
+    u32::try_from(cell).expect("a line has fewer cells than a file has bytes")
 }
 
 /// What all lines of the file say together, the late ones too.
@@ -123,12 +145,13 @@ impl Ids {
 /// What the lines above the one now judged hold.
 #[derive(Default)]
 struct Above<'a> {
-    /// The keys of the three-cell MTD lines.
-    keys: HashSet<&'a [u8]>,
+    /// The keys of the three-cell MTD lines, each with the earliest line that
+    /// has it.
+    keys: HashMap<&'a [u8], u32>,
     /// A header or row of any section.
     table_line: bool,
-    /// The sections that have a header.
-    headers: [bool; 4],
+    /// The line of the earliest header of each section that has one.
+    headers: [Option<u32>; 4],
     /// The sections that have a header or a row.
     sections: [bool; 4],
     /// The nearest header.
@@ -190,7 +213,7 @@ fn judge_metadata<'a>(line: &'a [u8], ids: &Ids, above: &mut Above<'a>, report: 
                     rules_7_and_8(&known, value, ids, report);
                 }
             }
-            note_key(key, above);
+            note_key(key, report.line, above);
         }
     }
 }
@@ -241,10 +264,13 @@ fn rule_24(at: usize, report: &mut Report) {
 }
 
 /// rule 6: "key, a `colunit` one apart, already on an earlier three-cell MTD
-/// line; cell 2"
+/// line; cell 2"; its fourth number is "the line of the earliest equal key".
 fn rule_6(key: &[u8], above: &Above, report: &mut Report) {
-    if !key.starts_with(b"colunit") && above.keys.contains(key) {
-        report.add(2, 6);
+    if key.starts_with(b"colunit") {
+        return;
+    }
+    if let Some(first) = above.keys.get(key) {
+        report.add_again(2, 6, *first);
     }
 }
 
@@ -315,9 +341,10 @@ fn ids_of_value(kind: Kind, value: &[u8]) -> Vec<(Family, u32)> {
     indices.into_iter().map(|index| (family, index)).collect()
 }
 
-/// Notes the key of a three-cell MTD line for rules 6 and 21.
-fn note_key<'a>(key: &'a [u8], above: &mut Above<'a>) {
-    above.keys.insert(key);
+/// Notes the key of a three-cell MTD line for rules 6, 21 and 22. Of a key that
+/// is noted the earliest line stays.
+fn note_key<'a>(key: &'a [u8], line: u32, above: &mut Above<'a>) {
+    above.keys.entry(key).or_insert(line);
     if let Some(place) = required_place(key) {
         above.required[place] = true;
     }
@@ -367,7 +394,7 @@ fn judge_header(section: u32, line: &[u8], whole: &Whole, above: &mut Above, rep
         kinds = known.into_iter().map(kind_of_column).collect();
     }
     note_section(section, above);
-    above.headers[section as usize - 1] = true;
+    note_header(section, report.line, above);
     above.nearest = Some(Header {
         section,
         cells: count,
@@ -382,17 +409,23 @@ fn note_section(section: u32, above: &mut Above) {
     above.sections[section as usize - 1] = true;
 }
 
-/// rule 9: "an earlier line is a header of the same section"
+/// Notes a header of a section. Where it has one above, the earliest stays.
+fn note_header(section: u32, line: u32, above: &mut Above) {
+    above.headers[section as usize - 1].get_or_insert(line);
+}
+
+/// rule 9: "an earlier line is a header of the same section"; its fourth number
+/// is "the line of the earliest [...] same header".
 fn rule_9(section: u32, above: &Above, report: &mut Report) {
-    if above.headers[section as usize - 1] {
-        report.add(1, 9);
+    if let Some(first) = above.headers[section as usize - 1] {
+        report.add_again(1, 9, first);
     }
 }
 
 /// rule 10: "an earlier header is of a later section"
 fn rule_10(section: u32, above: &Above, report: &mut Report) {
     let later = &above.headers[section as usize..];
-    if later.iter().any(|there| *there) {
+    if later.iter().any(Option::is_some) {
         report.add(1, 10);
     }
 }
@@ -420,12 +453,16 @@ fn rule_12(at: usize, report: &mut Report) {
     report.add(at, 12);
 }
 
-/// rule 13: "column name already in this header; its cell"
+/// rule 13: "column name already in this header; its cell"; its fourth number is
+/// "the cell of the first equal name".
 fn rule_13(columns: &[&[u8]], report: &mut Report) {
-    let mut seen = HashSet::new();
+    let mut firsts: HashMap<&[u8], usize> = HashMap::new();
     for (k, name) in columns.iter().enumerate() {
-        if !seen.insert(*name) {
-            report.add(k + 2, 13);
+        match firsts.get(name) {
+            Some(first) => report.add_again(k + 2, 13, number_of(*first)),
+            None => {
+                firsts.insert(name, k + 2);
+            }
         }
     }
 }
@@ -589,7 +626,7 @@ fn rule_22(whole: &Whole, above: &Above, report: &mut Report) {
 fn each_has(field: &Field, family: Family, whole: &Whole, above: &Above, report: &mut Report) {
     for index in whole.ids.of(family) {
         let key = field.key.replace("[n]", &format!("[{index}]"));
-        if !above.keys.contains(key.as_bytes()) {
+        if !above.keys.contains_key(key.as_bytes()) {
             report.add((field.cell + index) as usize, 22);
         }
     }
@@ -598,7 +635,7 @@ fn each_has(field: &Field, family: Family, whole: &Whole, above: &Above, report:
 /// A field of no id family: "index 0 [...] where any one line will do".
 fn some_line_has(field: &Field, above: &Above, report: &mut Report) {
     let serves = |key: &&[u8]| names::fits(field.key, key).is_some();
-    if !above.keys.iter().any(serves) {
+    if !above.keys.keys().any(serves) {
         report.add(field.cell as usize, 22);
     }
 }

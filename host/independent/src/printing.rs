@@ -12,7 +12,8 @@ pub const END: u8 = 30;
 /// "It reads standard input up to 65,536 bytes; beyond, it prints `TOO LONG`."
 pub const JUDGE_INPUT: usize = 65_536;
 
-/// "for each of the first 4,096 breaks line, cell and rule"
+/// "for each of the first 4,096 breaks line, cell and rule"; since request
+/// 2026-08 where it was first is "a fourth field".
 pub const SHOWN: usize = 4_096;
 
 /// What each place of a share holds before the call.
@@ -40,10 +41,22 @@ pub fn verdict(file: &[u8]) -> String {
 
 fn faults(breaks: &[Break]) -> String {
     let mut out = format!("FAULTS {}\n", breaks.len());
-    for Break { line, cell, rule } in breaks.iter().take(SHOWN) {
-        out += &format!("{line} {cell} {rule}\n");
+    for at in breaks.iter().take(SHOWN) {
+        out += &fields(at);
+        out += "\n";
     }
     out
+}
+
+/// Line, cell, rule and where it was first.
+fn fields(at: &Break) -> String {
+    let Break {
+        line,
+        cell,
+        rule,
+        first,
+    } = at;
+    format!("{line} {cell} {rule} {first}")
 }
 
 /// Several files, each ended by the byte 30; a line `.` after each verdict.

@@ -12,7 +12,6 @@ fn show(file: &[u8]) -> String {
 
 fn check(case: &judging::Case) {
     let found = judge(&case.file).expect("within the limit");
-    let found: Vec<_> = found.iter().map(|b| (b.line, b.cell, b.rule)).collect();
     assert_eq!(found, case.breaks, "{}:\n{}", case.label, show(&case.file));
 }
 
@@ -60,6 +59,9 @@ rules! {
     rule_23 "rule 23:" 35;
     rule_24 "rule 24:" 25;
     rules_23_and_24_with_the_others "rules 23 and 24:" 50;
+    where_rule_6_was_first "first of rule 6:" 30;
+    where_rule_9_was_first "first of rule 9:" 14;
+    where_rule_13_was_first "first of rule 13:" 20;
 }
 
 /// The fields of rule 22 are known keys, and their cells hundreds in order.
@@ -82,9 +84,9 @@ fn every_field_is_missing_somewhere() {
     let mut missing = BTreeSet::new();
     for case in judging::all() {
         let sort = demands::sort_of(&case.file).map(|sort| (sort.mode, sort.kind));
-        for (_, cell, rule) in case.breaks {
-            if rule == 22 {
-                missing.insert(format!("{} {sort:?}", cell / 100));
+        for at in case.breaks {
+            if at.rule == 22 {
+                missing.insert(format!("{} {sort:?}", at.cell / 100));
             }
         }
     }
@@ -106,7 +108,7 @@ fn every_rule_is_broken_and_kept_somewhere() {
     for rule in 1..=24 {
         let broken = all
             .iter()
-            .filter(|c| c.breaks.iter().any(|b| b.2 == rule))
+            .filter(|c| c.breaks.iter().any(|b| b.rule == rule))
             .count();
         assert!(broken >= 3, "rule {rule}");
     }
@@ -615,10 +617,10 @@ fn the_limit_of_weights() {
 #[test]
 fn the_limit_of_the_program() {
     let long = vec![b'\n'; 65_536];
-    assert!(printing::judged(&long).starts_with("FAULTS 5\n65537 1 21\n"));
+    assert!(printing::judged(&long).starts_with("FAULTS 5\n65537 1 21 0\n"));
     let longer = vec![b'\n'; 65_537];
     assert_eq!(printing::judged(&longer), "TOO LONG\n");
-    assert!(printing::verdict(&longer).starts_with("FAULTS 5\n65538 1 21\n"));
+    assert!(printing::verdict(&longer).starts_with("FAULTS 5\n65538 1 21 0\n"));
 }
 
 /// Seven lines of metadata in which nothing is wrong.
@@ -636,9 +638,19 @@ fn what_the_program_prints() {
     assert_eq!(example.label, "the paper's example");
     assert_eq!(
         printing::judged(&example.file),
-        "FAULTS 6\n7 6 15\n8 6 19\n9 2 20\n10 500 22\n10 900 22\n10 1000 22\n"
+        "FAULTS 6\n7 6 15 0\n8 6 19 0\n9 2 20 0\n10 500 22 0\n10 900 22 0\n10 1000 22 0\n"
     );
     assert_eq!(printing::judged(&fine()), "OK\n");
+}
+
+/// "The program prints it as a fourth field."
+#[test]
+fn where_it_was_first_is_printed() {
+    let again = b"MTD\ttitle\ta\nMTD\ttitle\tb\nSMH\tcharge\tidentifier\tcharge\n\nSMH\tidentifier\tcharge\n";
+    assert_eq!(
+        printing::judged(&[fine(), again.to_vec()].concat()),
+        "FAULTS 4\n9 2 6 8\n10 4 13 2\n12 1 9 10\n13 800 22 0\n"
+    );
 }
 
 #[test]
@@ -648,46 +660,39 @@ fn the_first_4096_are_shown() {
     let lines: Vec<&str> = printed.lines().collect();
     assert_eq!(lines[0], "FAULTS 5005");
     assert_eq!(lines.len(), 4_097);
-    assert_eq!(lines[4_096], "4096 1 2");
+    assert_eq!(lines[4_096], "4096 1 2 0");
 }
 
 #[test]
 fn several_files_in_one_input() {
     assert_eq!(printing::judges(b""), "");
-    let one = "FAULTS 5\n1 1 21\n1 2 21\n1 3 21\n1 4 21\n1 5 21\n.\n";
+    let one = "FAULTS 5\n1 1 21 0\n1 2 21 0\n1 3 21 0\n1 4 21 0\n1 5 21 0\n.\n";
     assert_eq!(printing::judges(b"\x1e"), one);
     assert_eq!(printing::judges(b"\x1e\x1e"), one.repeat(2));
-    let two = "FAULTS 5\n2 1 21\n2 2 21\n2 3 21\n2 4 21\n2 5 21\n.\n";
+    let two = "FAULTS 5\n2 1 21 0\n2 2 21 0\n2 3 21 0\n2 4 21 0\n2 5 21 0\n.\n";
     assert_eq!(printing::judges(b"\x1e\n"), format!("{one}{two}"));
     assert_eq!(printing::judges(b"\n\x1eCOM"), two.repeat(2));
 }
 
+/// By line, then cell, then rule: what was first has no part in it.
 #[test]
 fn breaks_have_an_order() {
-    let a = Break {
-        line: 1,
-        cell: 9,
-        rule: 20,
-    };
-    let b = Break {
-        line: 2,
-        cell: 1,
-        rule: 2,
-    };
-    let c = Break {
-        line: 2,
-        cell: 1,
-        rule: 4,
-    };
-    let d = Break {
-        line: 2,
-        cell: 2,
-        rule: 1,
-    };
-    assert!(a < b && b < c && c < d);
+    let places = [(1, 9, 20), (2, 1, 2), (2, 1, 4), (2, 2, 1)];
+    for (k, (line, cell, rule)) in places.into_iter().enumerate() {
+        let at = Break {
+            line,
+            cell,
+            rule,
+            first: 9 - k as u32,
+        };
+        assert_eq!(at.place(), places[k]);
+    }
+    assert!(places.windows(2).all(|pair| pair[0] < pair[1]));
     for case in judging::all() {
         let found = judge(&case.file).unwrap();
-        assert!(found.windows(2).all(|pair| pair[0] < pair[1]));
+        assert!(found
+            .windows(2)
+            .all(|pair| pair[0].place() < pair[1].place()));
     }
 }
 

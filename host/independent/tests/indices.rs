@@ -3,15 +3,15 @@
 use std::collections::HashSet;
 
 use independent::cases::judging;
-use independent::judge;
 use independent::kinds::Bad;
 use independent::lines::{cells, lines};
 use independent::names::{self, bad_column, bad_key};
+use independent::{judge, Break};
 
 /// The breaks of a file, but for those of rule 21.
 fn breaks(file: &[u8]) -> Vec<(u32, u32, u32)> {
     let found = judge(file).expect("within the limit");
-    let breaks = found.iter().map(|b| (b.line, b.cell, b.rule));
+    let breaks = found.iter().map(Break::place);
     breaks.filter(|(_, _, rule)| *rule != 21).collect()
 }
 
@@ -186,7 +186,7 @@ fn rule_of_list(rules: &[u32]) -> Option<u32> {
 fn bad_ones() -> HashSet<(Vec<u8>, u32)> {
     let mut all = HashSet::new();
     for case in judging::all() {
-        for (line, cell, rule) in case.breaks {
+        for (line, cell, rule) in case.breaks.iter().map(Break::place) {
             if rule == 23 || rule == 24 {
                 let line = lines(&case.file).nth(line as usize - 1);
                 let cell = line.and_then(|line| cells(line).nth(cell as usize - 1));

@@ -1,7 +1,9 @@
-//! The files written by hand from the paper: every rule, stop and kind on either side; and the exports.
+//! The files written by hand from the paper: every rule, stop and kind on either side; the exports; and keys, headers and names that come again.
 
 use independent::cases;
 use mztab::format::SECTIONS;
+
+use crate::by_hand_again;
 
 /// A label and a file each.
 pub fn files() -> Vec<(String, Vec<u8>)> {
@@ -23,6 +25,9 @@ pub fn files() -> Vec<(String, Vec<u8>)> {
             format!("value b\"{}\"", value.escape_ascii()),
             value_everywhere(&value),
         ));
+    }
+    for (label, file) in by_hand_again::files() {
+        all.push((label.to_string(), file));
     }
     for names in cases::names::all().chunks(100) {
         all.push(("names as keys".to_string(), as_keys(names)));
@@ -82,7 +87,8 @@ fn as_columns(header: &[u8], names: &[Vec<u8>]) -> Vec<u8> {
     file
 }
 
-fn line(file: &mut Vec<u8>, cells: &[&[u8]]) {
+/// Writes a line of the cells.
+pub fn line(file: &mut Vec<u8>, cells: &[&[u8]]) {
     file.extend(cells.join(&b'\t'));
     file.push(b'\n');
 }

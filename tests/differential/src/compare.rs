@@ -8,6 +8,7 @@ use independent::Reading;
 use mztab::{raw, Break, Value};
 use samples::Draws;
 
+use crate::firsts::{self, Mistaken};
 use crate::weights;
 
 /// What a place holds that no break fills.
@@ -16,6 +17,8 @@ const MARK: u32 = 0xdead_beef;
 const QUESTIONS: usize = 300;
 /// A file of so few breaks is judged with every length of list.
 const FEW: usize = 6;
+/// A break fills so many places: rule, line, cell and first.
+const FOUR: usize = 4;
 
 /// So many rules there are.
 const RULES: usize = 24;
@@ -38,6 +41,8 @@ pub struct Tried {
     pub rules: [u64; RULES + 1],
     /// How many breaks of rules 23 and 24 by the rule and what has the bad index.
     pub indices: BTreeMap<(u32, &'static str), u64>,
+    /// How many breaks of rules 6, 9 and 13 by the rule and what their first could be mistaken for; in the end of the drawn files alone.
+    pub firsts: BTreeMap<(u32, Mistaken), u64>,
     /// How many breaks of rule 22 by the field, and how many accepted files by mode and type.
     pub fields: BTreeMap<u32, u64>,
     pub sorts: BTreeMap<String, u64>,
@@ -66,6 +71,9 @@ impl Tried {
             }
         }
         self.note_indices(file, breaks);
+        for (rule, mistaken) in firsts::mistaken(file, breaks) {
+            *self.firsts.entry((rule, mistaken)).or_default() += 1;
+        }
         if breaks.is_empty() {
             self.accepted += 1;
             let sort = format!("{:?}", demands::sort_of(file));
@@ -116,7 +124,7 @@ fn judging(file: &[u8], draws: &mut Draws, tried: &mut Tried) -> Result<(), Stri
     };
     let places: Vec<u32> = expected
         .iter()
-        .flat_map(|at| [at.rule, at.line, at.cell])
+        .flat_map(|at| [at.rule, at.line, at.cell, at.first])
         .collect();
     for length in lengths(expected.len(), draws) {
         tried.lists += 1;
@@ -126,13 +134,19 @@ fn judging(file: &[u8], draws: &mut Draws, tried: &mut Tried) -> Result<(), Stri
         mztab::judge_all(file).map_err(|refusal| format!("judging is refused: {refusal:?}"))?;
     let found: Vec<u32> = judged
         .breaks()
-        .flat_map(|at| [at.rule, at.line, at.cell])
+        .flat_map(|at| [at.rule, at.line, at.cell, at.first])
         .collect();
-    if found != places {
+    if found.len() != places.len() {
         return Err(format!(
             "the list of all has {} places, not {}",
             found.len(),
             places.len()
+        ));
+    }
+    let mut fours = found.chunks_exact(FOUR).zip(places.chunks_exact(FOUR));
+    if let Some((found, expected)) = fours.find(|(found, expected)| found != expected) {
+        return Err(format!(
+            "the list of all has {found:?}, not {expected:?} (rule, line, cell, first)"
         ));
     }
     tried.note_breaks(file, &expected);
@@ -141,29 +155,29 @@ fn judging(file: &[u8], draws: &mut Draws, tried: &mut Tried) -> Result<(), Stri
 
 /// The lengths of the lists that are lent: from none to more than enough where the breaks are few.
 fn lengths(breaks: usize, draws: &mut Draws) -> Vec<usize> {
-    let enough = 3 * breaks;
+    let enough = FOUR * breaks;
     if breaks <= FEW && draws.once_in(4) {
-        return (0..=enough + 4).collect();
+        return (0..=enough + FOUR + 1).collect();
     }
-    vec![draws.below(enough + 1), enough + draws.below(5)]
+    vec![draws.below(enough + 1), enough + draws.below(FOUR + 2)]
 }
 
 fn with_list(file: &[u8], expected: &[u32], length: usize) -> Result<(), String> {
     let mut places = vec![MARK; length].into_boxed_slice();
     let answer = raw::judge(file, &mut places);
-    if answer.number != 0 || answer.count as usize * 3 != expected.len() {
+    if answer.number != 0 || answer.count as usize * FOUR != expected.len() {
         return Err(format!(
             "a list of {length}: the library answers number {} and {} breaks, {:?}; the independent reading {} breaks, {:?}",
             answer.number,
             answer.count,
             places,
-            expected.len() / 3,
+            expected.len() / FOUR,
             expected
         ));
     }
-    let filled = (length / 3 * 3).min(expected.len());
+    let filled = (length / FOUR * FOUR).min(expected.len());
     if places[..filled] != expected[..filled] {
-        return Err(format!("a list of {length}: the library lists {:?}; the independent reading {:?} (rule, line, cell)", &places[..filled], &expected[..filled]));
+        return Err(format!("a list of {length}: the library lists {:?}; the independent reading {:?} (rule, line, cell, first)", &places[..filled], &expected[..filled]));
     }
     if places[filled..].iter().any(|place| *place != MARK) {
         return Err(format!(
@@ -180,31 +194,33 @@ fn with_records(file: &[u8], expected: &[u32], length: usize) -> Result<(), Stri
         rule: MARK,
         line: MARK,
         cell: MARK,
+        first: MARK,
     };
     let mut list = vec![marked; length].into_boxed_slice();
     let answer = raw::faults(file, &mut list);
-    let wanted = expected.chunks_exact(3).map(|three| Break {
-        rule: three[0],
-        line: three[1],
-        cell: three[2],
+    let wanted = expected.chunks_exact(FOUR).map(|four| Break {
+        rule: four[0],
+        line: four[1],
+        cell: four[2],
+        first: four[3],
     });
     let as_wanted = list
         .iter()
         .copied()
         .eq(wanted.chain(std::iter::repeat(marked)).take(length));
-    if answer.number == 0 && answer.count as usize * 3 == expected.len() && as_wanted {
+    if answer.number == 0 && answer.count as usize * FOUR == expected.len() && as_wanted {
         return Ok(());
     }
-    Err(format!("a list of {length} records: the library answers {answer:?}, {list:?}; the independent reading {expected:?} (rule, line, cell)"))
+    Err(format!("a list of {length} records: the library answers {answer:?}, {list:?}; the independent reading {expected:?} (rule, line, cell, first)"))
 }
 
 fn too_long(file: &[u8]) -> Result<(), String> {
-    let mut places = [MARK; 30];
+    let mut places = [MARK; 40];
     let answer = raw::judge(file, &mut places);
     let mut list = [Break::default(); 5];
     let records = raw::faults(file, &mut list);
     let refused = (answer.number, answer.count) == (1, 0) && answer == records;
-    if refused && places == [MARK; 30] && list == [Break::default(); 5] {
+    if refused && places == [MARK; 40] && list == [Break::default(); 5] {
         return Ok(());
     }
     Err(format!(

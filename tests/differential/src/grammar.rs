@@ -8,6 +8,7 @@ use independent::names::{self, Kind, COLUMNS};
 use mztab::format::{Section, SECTIONS};
 use samples::Draws;
 
+use crate::again::repeat;
 use crate::complete::completed;
 use crate::damage::damage;
 
@@ -22,7 +23,7 @@ pub fn near_values() -> Vec<Vec<u8>> {
         .collect()
 }
 
-/// A file of any sort. One in seven is right and has abundances of study variables.
+/// A file of any sort. One in seven is right and has abundances of study variables; in a third of the others something comes again.
 pub fn file(near: &[Vec<u8>], draws: &mut Draws) -> Vec<u8> {
     let weighed = draws.once_in(7);
     let mut source = Source::new(near, draws);
@@ -39,6 +40,9 @@ pub fn file(near: &[Vec<u8>], draws: &mut Draws) -> Vec<u8> {
     if source.complete {
         file = completed(&file, source.draws);
     }
+    if !weighed && source.draws.once_in(AGAIN) {
+        repeat(&mut file, source.draws);
+    }
     if !weighed && !source.draws.once_in(3) {
         damage(&mut file, draws);
     }
@@ -54,6 +58,9 @@ struct Column {
 
 /// How often cells are `null` where nothing else is said.
 const NULL: usize = 6;
+
+/// Of the files that may be wrong one in so many has keys, headers and names that come again.
+const AGAIN: usize = 3;
 
 /// In a file that may be wrong a metadata line in so many stands below the tables.
 const LATE: usize = 40;

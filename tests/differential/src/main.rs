@@ -8,11 +8,14 @@
 
 #![forbid(unsafe_code)]
 
+mod again;
 mod by_hand;
+mod by_hand_again;
 mod compare;
 mod complete;
 mod damage;
 mod fees;
+mod firsts;
 mod grammar;
 mod shrink;
 mod weights;
@@ -23,6 +26,7 @@ use std::ops::RangeInclusive;
 use std::process::ExitCode;
 
 use compare::{compare, Tried, INDEX_RULES, WITH_INDEX};
+use firsts::{AGAIN, MISTAKEN};
 use samples::Draws;
 
 const SEED: u64 = 1;
@@ -77,6 +81,7 @@ fn main() -> ExitCode {
     if options.count >= MANY {
         run.every_rule();
         run.every_index();
+        run.every_first();
         run.every_demand();
         run.every_reading();
         run.every_number();
@@ -158,6 +163,7 @@ impl Run {
         let near = grammar::near_values();
         let from = options.from.unwrap_or(0);
         let weighed_before = self.tried.weighed;
+        self.tried.firsts.clear();
         for k in from..from.saturating_add(options.count) {
             let mut draws = draws_of(options.seed, k);
             let file = grammar::file(&near, &mut draws);
@@ -184,6 +190,13 @@ impl Run {
         let splits: Vec<String> = (self.tried.splits.iter())
             .map(|(number, count)| format!("{count} with {number}"))
             .collect();
+        let firsts: Vec<String> = (self.tried.firsts.iter())
+            .map(|((rule, such), count)| format!("{count} of rule {rule} ({such:?})"))
+            .collect();
+        println!(
+            "differential: firsts that could be mistaken in drawn files: {}",
+            firsts.join(", ")
+        );
         println!(
             "differential: {files} files tried (seed {seed}, drawn from {from} on), {accepted} accepted, {weighed} of them with weights, {} of these drawn; \
              {breaks} breaks, {lists} lists and {cells} cells compared; splits {}, and {sums} sums; {} differences",
@@ -250,6 +263,20 @@ impl Run {
                 if !self.tried.indices.contains_key(&(rule, what)) {
                     println!(
                         "differential: no {what} breaks rule {rule}, so the files show too little"
+                    );
+                    self.different += 1;
+                }
+            }
+        }
+    }
+
+    /// The same of the firsts that the drawn files have: of each rule some are not the nearest, and some have above them what is near to them.
+    fn every_first(&mut self) {
+        for rule in AGAIN {
+            for such in MISTAKEN {
+                if !self.tried.firsts.contains_key(&(rule, such)) {
+                    println!(
+                        "differential: no first of rule {rule} can be mistaken for {such:?}, so the files show too little"
                     );
                     self.different += 1;
                 }

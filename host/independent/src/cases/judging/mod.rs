@@ -11,17 +11,22 @@ mod rules_17_to_19;
 mod rules_1_2;
 mod rules_23_24;
 mod rules_3_to_6;
+mod rules_6_9_13;
 mod rules_7_8;
 mod rules_9_to_11;
 mod several;
 
 use super::tabs;
+use crate::Break;
 
 pub struct Case {
     pub label: &'static str,
     pub file: Vec<u8>,
-    pub breaks: Vec<(u32, u32, u32)>,
+    pub breaks: Vec<Break>,
 }
+
+/// The rules of what comes again. Their breaks have a fourth number.
+pub const AGAIN: [u32; 3] = [6, 9, 13];
 
 /// The five pieces of required metadata, one a line.
 const VERSION: &str = "MTD→mzTab-version→1.0";
@@ -61,16 +66,39 @@ type Triples<'a> = &'a [(u32, u32, u32)];
 
 struct Cases {
     list: Vec<Case>,
+    /// How many lines of the last case are not counted in its breaks.
+    above: u32,
 }
 
 impl Cases {
-    /// A whole file; an arrow is a tab.
+    /// A whole file; an arrow is a tab. The fourth number of each break is 0
+    /// unless `first` is called after it.
     fn whole(&mut self, label: &'static str, file: impl AsRef<[u8]>, breaks: Triples) {
+        let place = |&(line, cell, rule): &(u32, u32, u32)| Break {
+            line,
+            cell,
+            rule,
+            first: 0,
+        };
         self.list.push(Case {
             label,
             file: tabs(file),
-            breaks: breaks.to_vec(),
+            breaks: breaks.iter().map(place).collect(),
         });
+        self.above = 0;
+    }
+
+    /// The fourth numbers of the last case: one for each break of rules 6, 9
+    /// and 13, in their order. Lines are counted as they are in its breaks.
+    fn first(&mut self, firsts: &[u32]) {
+        let above = self.above;
+        let case = self.list.last_mut().expect("a case stands above");
+        let mut rest = firsts.iter();
+        for at in case.breaks.iter_mut().filter(|at| AGAIN.contains(&at.rule)) {
+            let first = rest.next().expect(case.label);
+            at.first = if at.rule == 13 { *first } else { first + above };
+        }
+        assert_eq!(rest.next(), None, "{}", case.label);
     }
 
     /// A file whose lines 1 to 5 are the required metadata; an arrow is a tab.
@@ -86,6 +114,7 @@ impl Cases {
             .map(|(line, cell, rule)| (line + above, *cell, *rule))
             .collect();
         self.whole(label, file, &breaks);
+        self.above = above;
     }
 
     /// One more metadata line, line 6, after the five.
@@ -168,7 +197,10 @@ fn wide_row(cells: usize) -> String {
 }
 
 pub fn all() -> Vec<Case> {
-    let mut c = Cases { list: Vec::new() };
+    let mut c = Cases {
+        list: Vec::new(),
+        above: 0,
+    };
     paper::the_papers_own(&mut c);
     paper::lines_and_cells(&mut c);
     rules_1_2::rule_1(&mut c);
@@ -196,5 +228,6 @@ pub fn all() -> Vec<Case> {
     rule_22::rule_22(&mut c);
     rules_23_24::rules_23_and_24(&mut c);
     several::several_at_once(&mut c);
+    rules_6_9_13::where_it_was_first(&mut c);
     c.list
 }

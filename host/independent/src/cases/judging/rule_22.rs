@@ -205,6 +205,7 @@ fn the_line_of_a_field(c: &mut Cases) {
         format!("{SOFTWARE}\n{METHOD}\n"),
         &[(10, 2, 6), (11, 2, 6)],
     );
+    c.first(&[6, 9]);
     c.whole(
         "rule 22: two cells or four do not serve",
         five(SI) + "MTD→fixed_mod[1]\nMTD→variable_mod[1]→[,,a,]→\n",
@@ -725,12 +726,14 @@ fn two_modes_or_types(c: &mut Cases) {
             (7, 1000, 22),
         ],
     );
+    c.first(&[2]);
     c.whole(
         "rule 22: a second type after one that is not valid",
         five(("Summary", ""))
             + &format!("MTD→mzTab-type→Quantification\n{RUN_REF}\n{FIXED}\n{VARIABLE}\n"),
         &[(3, 3, 7), (6, 2, 6), (10, 1501, 22)],
     );
+    c.first(&[3]);
     c.whole(
         "rule 22: a third mode after two that are not valid",
         five(("x", "Quantification"))
@@ -739,6 +742,7 @@ fn two_modes_or_types(c: &mut Cases) {
             ),
         &[(2, 3, 7), (6, 2, 6), (6, 3, 7), (7, 2, 6), (11, 1501, 22)],
     );
+    c.first(&[2, 2]);
 }
 
 fn two_valid_ones(c: &mut Cases) {
@@ -747,6 +751,7 @@ fn two_valid_ones(c: &mut Cases) {
         five(SI) + &format!("MTD→mzTab-mode→Complete\nMTD→mzTab-type→Quantification\n{REAGENT}\n"),
         &[(6, 2, 6), (7, 2, 6), (9, 900, 22), (9, 1000, 22)],
     );
+    c.first(&[2, 3]);
     c.whole(
         "rule 22: the first of two modes and of two types",
         five(CQ) + &format!("MTD→mzTab-mode→Summary\nMTD→mzTab-type→Identification\n{REAGENT}\n"),
@@ -760,6 +765,7 @@ fn two_valid_ones(c: &mut Cases) {
             (9, 1100, 22),
         ],
     );
+    c.first(&[2, 3]);
     c.whole(
         "rule 22: a second mode that is not valid",
         five(CI) + "MTD→mzTab-mode→summary\nMTD→mzTab-type→x\n",
@@ -773,6 +779,7 @@ fn two_valid_ones(c: &mut Cases) {
             (8, 1000, 22),
         ],
     );
+    c.first(&[2, 3]);
     c.whole(
         "rule 22: a mode after one on a line of four cells",
         format!("MTD→mzTab-mode→Complete→\n{}", five(SI)),

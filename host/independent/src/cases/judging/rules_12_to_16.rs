@@ -139,11 +139,13 @@ pub(super) fn rule_12(c: &mut Cases) {
 
 pub(super) fn rule_13(c: &mut Cases) {
     c.headed("rule 13: twice", format!("{PH}→accession\n"), &[(6, 6, 13)]);
+    c.first(&[2]);
     c.headed(
         "rule 13: three times",
         format!("{PH}→taxid→taxid→uri→taxid\n"),
         &[(6, 7, 13), (6, 9, 13)],
     );
+    c.first(&[6, 6]);
     c.headed(
         "rule 13: unknown ones too",
         format!("{PH}→foo→foo→→\n"),
@@ -156,11 +158,13 @@ pub(super) fn rule_13(c: &mut Cases) {
             (6, 9, 13),
         ],
     );
+    c.first(&[6, 8]);
     c.headed(
         "rule 13: opt_ ones too",
         format!("{PH}→opt_a→opt_A→opt_a\n"),
         &[(6, 8, 13)],
     );
+    c.first(&[6]);
     c.headed(
         "rule 13: another index is another name",
         format!("{PH}→best_search_engine_score[1]→best_search_engine_score[2]\n"),
@@ -176,21 +180,25 @@ pub(super) fn rule_13(c: &mut Cases) {
         format!("{PH}→num_psms_ms_run[3]→opt_a→num_psms_ms_run[3]\n"),
         &[(6, 6, 15), (6, 8, 13), (6, 8, 14), (6, 8, 15)],
     );
+    c.first(&[6]);
     c.headed(
         "rule 13: required ones twice",
         "SMH→identifier→identifier\n",
         &[(6, 1, 16), (6, 3, 13)],
     );
+    c.first(&[2]);
     c.headed(
         "rule 13: the code is no column name",
         format!("{PH}→PRH→PRH\n"),
         &[(6, 6, 12), (6, 7, 12), (6, 7, 13)],
     );
+    c.first(&[6]);
     c.headed(
         "rule 13: rows are judged by each",
         format!("{MH}→taxid→taxid\n{MR}→x→1.5\n"),
         &[(6, 5, 13), (7, 4, 20), (7, 5, 20)],
     );
+    c.first(&[4]);
 }
 
 pub(super) fn rule_14(c: &mut Cases) {
@@ -423,12 +431,14 @@ fn near_peptide_headers(c: &mut Cases) {
         &format!("{EH}→modifications→modifications→retention_time"),
         &[(12, 1, 16), (12, 7, 13)],
     );
+    c.first(&[6]);
     c.peptides(
         "rule 16: a second peptide header",
         SQ,
         &format!("{QH}\n{EH}"),
         &[(13, 1, 9), (13, 1, 16)],
     );
+    c.first(&[12]);
     c.peptides(
         "rule 16: 11 stops the three",
         CQ,
@@ -490,14 +500,17 @@ fn late_or_second_type(c: &mut Cases) {
         format!("{VERSION}\n{MODE}\nMTD→mzTab-type→x\n{QUANTIFICATION}\n{rest}"),
         &[(3, 3, 7), (4, 2, 6), (11, 1, 16)],
     );
+    c.first(&[3]);
     c.whole(
         "rule 16: the three go by the first type",
         format!("{VERSION}\n{MODE}\n{TYPE}\n{QUANTIFICATION}\n{rest}"),
         &[(4, 2, 6)],
     );
+    c.first(&[3]);
     c.whole(
         "rule 16: the three go by the first type",
         format!("{VERSION}\n{MODE}\n{QUANTIFICATION}\n{TYPE}\n{rest}"),
         &[(4, 2, 6), (11, 1, 16)],
     );
+    c.first(&[3]);
 }

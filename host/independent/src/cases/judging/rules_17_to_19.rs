@@ -19,6 +19,7 @@ pub(super) fn rule_17(c: &mut Cases) {
         format!("{PH}\n{EH}\n{PR}\n{PH}\n{PR}\n"),
         &[(8, 1, 17), (9, 1, 9), (9, 1, 10)],
     );
+    c.first(&[6]);
     c.headed(
         "rule 17: 17 stops 18",
         format!("{EH}\nPRT→a\nPRT\n"),

@@ -692,6 +692,7 @@ fn other_rules_of_a_header(c: &mut Cases) {
             (6, 10, 24),
         ],
     );
+    c.first(&[6, 9]);
     c.headed(
         "rules 23 and 24: a bad column after opt_ breaks 14 too",
         format!("{SH}→opt_a→search_engine_score[65]→opt_b→search_engine_score[0]\n"),
@@ -702,11 +703,13 @@ fn other_rules_of_a_header(c: &mut Cases) {
         format!("{SH}→search_engine_score[65]→opt_a→search_engine_score[65]\n"),
         &[(6, 7, 24), (6, 9, 13), (6, 9, 14), (6, 9, 24)],
     );
+    c.first(&[7]);
     c.headed(
         "rules 23 and 24: 9 and 10 do not stop them",
         format!("{SH}\n{PH}→num_psms_ms_run[01]\n{SH}→search_engine_score[65]\n"),
         &[(7, 1, 10), (7, 6, 23), (8, 1, 9), (8, 7, 24)],
     );
+    c.first(&[6]);
     c.headed(
         "rules 23 and 24: with 16",
         "SMH→identifier→best_search_engine_score[0]→best_search_engine_score[65]\n",
@@ -796,6 +799,7 @@ fn stopped_at_a_value(c: &mut Cases) {
          MTD→assay[1]-ms_run_ref→ms_run[65]\n",
         &[(7, 2, 6), (7, 3, 23), (8, 2, 6), (8, 3, 24)],
     );
+    c.first(&[6, 6]);
     c.headed(
         "rules 23 and 24: a key whose value breaks them declares still",
         "MTD→assay[3]-sample_ref→sample[03]\nMTD→assay[4]-ms_run_ref→ms_run[65]\n\
@@ -807,6 +811,7 @@ fn stopped_at_a_value(c: &mut Cases) {
         "MTD→assay[1]-ms_run_ref→ms_run[01]\nMTD→assay[1]-ms_run_ref→ms_run[1]\n",
         &[(6, 3, 23), (7, 2, 6)],
     );
+    c.first(&[6]);
 }
 
 fn not_stopped(c: &mut Cases) {
@@ -1019,4 +1024,5 @@ fn many_in_one_file(c: &mut Cases) {
             (22, 1502, 22),
         ],
     );
+    c.first(&[17, 7]);
 }

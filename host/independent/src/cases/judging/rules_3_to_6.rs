@@ -91,6 +91,7 @@ pub(super) fn rule_4(c: &mut Cases) {
             (10, 3, 8),
         ],
     );
+    c.first(&[4]);
     c.whole(
         "rule 4: late metadata counts for rule 21 and rule 6",
         format!("{MH}\n{}{VERSION}\n", head()),
@@ -107,6 +108,7 @@ pub(super) fn rule_4(c: &mut Cases) {
             (8, 1000, 22),
         ],
     );
+    c.first(&[2]);
 }
 
 pub(super) fn rule_5(c: &mut Cases) {
@@ -231,17 +233,20 @@ MTD→colunit-small_molecule→retention_time=[UO,UO:0000031, minute,]
 
 pub(super) fn rule_6(c: &mut Cases) {
     c.headed("rule 6: twice", "MTD→title→a\nMTD→title→b\n", &[(7, 2, 6)]);
+    c.first(&[6]);
     c.headed(
         "rule 6: three times",
         "MTD→title→a\nMTD→title→a\n\nMTD→title→a\n",
         &[(7, 2, 6), (9, 2, 6)],
     );
+    c.first(&[6, 6]);
     c.headed(
         "rule 6: another index is another key",
         "MTD→uri[1]→a\nMTD→uri[2]→a\nMTD→software[1]-setting[1]→a\nMTD→software[1]-setting[2]→a\n\
          MTD→software[2]-setting[1]→a\nMTD→software[1]→[,,a,]\nMTD→uri[1]→a\n",
         &[(12, 2, 6)],
     );
+    c.first(&[6]);
     c.headed(
         "rule 6: colunit apart",
         "MTD→colunit-protein→a\nMTD→colunit-protein→a\nMTD→colunit-peptide→a\n\
@@ -254,17 +259,20 @@ pub(super) fn rule_6(c: &mut Cases) {
         "MTD→uri[1]→\nMTD→uri[1]→a\n",
         &[(6, 3, 7), (7, 2, 6)],
     );
+    c.first(&[6]);
     c.headed(
         "rule 6: does not stop 7",
         "MTD→uri[1]→a\nMTD→uri[1]→\n",
         &[(7, 2, 6), (7, 3, 7)],
     );
+    c.first(&[6]);
     c.headed(
         "rule 6: does not stop 8",
         "MTD→assay[1]-sample_ref→sample[1]\nMTD→assay[1]-sample_ref→sample[2]\n\
          MTD→sample[1]-description→a\n",
         &[(7, 2, 6), (7, 3, 8)],
     );
+    c.first(&[6]);
     c.headed(
         "rule 6: a comment is no earlier line",
         "COM→title→a\nMTD→title→a\n",
@@ -275,4 +283,5 @@ pub(super) fn rule_6(c: &mut Cases) {
         format!("{RUN}\n{VERSION}\n"),
         &[(6, 2, 6), (7, 2, 6)],
     );
+    c.first(&[5, 1]);
 }

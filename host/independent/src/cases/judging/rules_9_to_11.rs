@@ -8,11 +8,13 @@ pub(super) fn rules_9_and_10(c: &mut Cases) {
         format!("{PH}\n{PR}\n{PH}\n{PR}\n"),
         &[(8, 1, 9)],
     );
+    c.first(&[6]);
     c.headed(
         "rule 9: three times",
         format!("{MH}\n{MH}\n{MH}\n"),
         &[(7, 1, 9), (8, 1, 9)],
     );
+    c.first(&[6, 6]);
     c.headed(
         "rule 9: each section once",
         format!("{PH}\n{EH}\n{SH}\n{MH}\n"),
@@ -36,21 +38,25 @@ pub(super) fn rules_9_and_10(c: &mut Cases) {
             (7, 6, 15),
         ],
     );
+    c.first(&[6, 2]);
     c.headed(
         "rule 9: does not stop 11",
         format!("{PH}\n{}\n", wide(257)),
         &[(7, 1, 9), (7, 1, 11)],
     );
+    c.first(&[6]);
     c.headed(
         "rule 9: of a header of rule 11",
         format!("{}\n{PH}\n", wide(257)),
         &[(6, 1, 11), (7, 1, 9)],
     );
+    c.first(&[6]);
     c.headed(
         "rule 9: rows go by the second header",
         format!("{MH}\n{MR}\n{MH}→taxid\n{MR}\n{MR}→9606\n{MR}→x\n"),
         &[(8, 1, 9), (9, 1, 18), (11, 4, 20)],
     );
+    c.first(&[6]);
     c.headed(
         "rule 10: in order, some left out",
         format!("{EH}\n{MH}\n"),
@@ -76,6 +82,7 @@ pub(super) fn rules_9_and_10(c: &mut Cases) {
         format!("{PH}\n{EH}\n{PH}\n"),
         &[(8, 1, 9), (8, 1, 10)],
     );
+    c.first(&[6]);
     c.headed(
         "rule 10: a row is no header",
         format!("{MR}\n{PH}\n"),
@@ -86,6 +93,7 @@ pub(super) fn rules_9_and_10(c: &mut Cases) {
         format!("{}\n{EH}\n{}\n", wide(257), wide(257)),
         &[(6, 1, 11), (8, 1, 9), (8, 1, 10), (8, 1, 11)],
     );
+    c.first(&[6]);
     c.headed(
         "rule 10: does not stop 16",
         format!("{SH}\nPEH→sequence\n"),
@@ -123,6 +131,7 @@ pub(super) fn rule_11(c: &mut Cases) {
             (6, 256, 15),
         ],
     );
+    c.first(&[2]);
     c.headed(
         "rule 11: 11 stops 16",
         format!("SMH{}\n", "→".repeat(256)),
@@ -143,6 +152,7 @@ pub(super) fn rule_11(c: &mut Cases) {
         format!("{}\nPRT\n{PH}\nPRT\n", wide(257)),
         &[(6, 1, 11), (8, 1, 9), (9, 1, 18)],
     );
+    c.first(&[6]);
     c.headed(
         "rule 11: does not stop 1",
         format!("{}→\u{1}\n", wide(256)),

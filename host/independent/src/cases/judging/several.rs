@@ -39,6 +39,7 @@ pub(super) fn several_at_once(c: &mut Cases) {
             (12, 5, 21),
         ],
     );
+    c.first(&[2, 4]);
     c.headed(
         "a break more than a list of 4,096 holds",
         format!("{}\n", "x\n".repeat(4_097)),
