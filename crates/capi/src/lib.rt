@@ -24,7 +24,7 @@ ghost use Rattle.rows.specs.Counted.{counted, rowsIn};
 ghost use Rattle.weights.specs.Weights.{outcome as weighedAs, weighed};
 ghost use Rattle.capi.specs.Answers.{CellAt, CellOrAt, ReadAs};
 
-// The judging call over plain places: answers the count of all breaks, and writes those that fit, three places each: rule, line, cell.
+// The judging call over plain places: answers the count of all breaks, and writes those that fit, four places each: rule, line, cell, first.
 #[no_mangle]
 pub extern "C" fn mztab_judge(file: &[u8], places: &mut [u32], number: &mut u32) -> u32
     ensures { λ r. ⌜ outcome (now (number .exit)) r (now (places .exit)) ≡ judged (now (file .entry)) (now (places .entry)) ⌝ }

@@ -3,4 +3,4 @@ use Rattle.rules.specs.Breaks.{Break}
 use Rattle.fault_steps.specs.declared.Fault.{Fault}
 
 abbrev pub faultOf : Break → Fault
-faultOf b = record { rule = b .rule; line = b .line; cell = b .cell }
+faultOf b = record { rule = b .rule; line = b .line; cell = b .cell; first = b .first }

@@ -1,25 +1,26 @@
 // A record of a break, and the steps of the judging call over records from part to part: each judges as many lines as a part has room for.
-use book::slots::SLOTS;
 use judging::calls::Carried;
 use judging::calls::next_part;
+use scan::state::FIRSTS;
 ghost use mathlib.Core.Path.{_≡_};
-ghost use mathlib.Core.Bool.{true, false};
+ghost use mathlib.Core.Bool.{true};
 ghost use Prim.Native.Nat.{min};
 ghost use lib.ListN.{length, replicate};
-ghost use Rattle.book.specs.Book.{SLOTS as all-slots};
+ghost use Rattle.scan.specs.Machine.{FIRSTS as all-firsts};
 ghost use Rattle.book.specs.Text.{IsBook};
 ghost use Rattle.fault_steps.specs.Steps.{PLACES, Between, Moves};
 
-// A break: its rule, and its line and cell in the file.
+// A break: its rule, its line and cell in the file, and where what it repeats stands first: a line for rules 6 and 9, a cell for 13, 0 for all others.
 #[repr(C)]
 pub struct Fault {
     pub rule: u32,
     pub line: u32,
     pub cell: u32,
+    pub first: u32,
 }
 
-// The places of a part: three for each of 4,096 breaks.
-pub const PLACES: usize = 12288;
+// The places of a part: four for each of 4,096 breaks.
+pub const PLACES: usize = 16384;
 
 // The breaks that a part holds before its last line: with that line's and those at the end they are at most 4,096.
 const FULL: u32 = 2524;
@@ -39,7 +40,7 @@ pub struct Progress {
 // Before the first line; nothing is to judge of a file over the limit.
 pub fn begin(book: &[u8], file: &[u8], cap: usize) -> Progress
     requires { ⌜ IsBook (now book) ⌝ }
-    ensures { λ r. ⌜ Between (now (file .entry)) r (replicate all-slots false) ⌝ }
+    ensures { λ r. ⌜ Between (now (file .entry)) r (replicate all-firsts 0) ⌝ }
     ensures { λ r. ⌜ (r .cap ≡ cap) × (r .count ≡ 0) ⌝ }
 {
     let carried = judging::calls::begin(book, file);
@@ -66,7 +67,7 @@ pub fn next(
     book: &[u8],
     file: &[u8],
     s: Progress,
-    slots: &mut [bool; SLOTS],
+    slots: &mut [u32; FIRSTS],
     places: &mut [u32; PLACES],
 ) -> Progress
     requires { ⌜ IsBook (now book) ⌝ }

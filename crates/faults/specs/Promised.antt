@@ -21,8 +21,8 @@ pub record Promised (file : Bytes) (bs : List Break) (ys : List Fault) (n k : �
   pub reports : Reports file bs
   pub number : n ≡ 0
   pub count : k ≡ length bs
-  pub none-broken : k ≡ 0 → (l c r : ℕ) → IsBroken file l c r → ⊥
-  pub accepted : ((l c r : ℕ) → IsBroken file l c r → ⊥) → k ≡ 0
+  pub none-broken : k ≡ 0 → (l c r f : ℕ) → IsBroken file l c r f → ⊥
+  pub accepted : ((l c r f : ℕ) → IsBroken file l c r f → ⊥) → k ≡ 0
   pub long : length zs ≡ length ys
   pub stands : (i : ℕ) → i < k → i < length ys → getD zs i (faultOf (breakAt 0 0 0)) ≡ faultOf (getD bs i (breakAt 0 0 0))
   pub untouched : (d : Fault) (i : ℕ) → k ≤ i → getD zs i d ≡ getD ys i d

@@ -22,6 +22,6 @@ outcome n k ys = record { number = n; count = k; places = ys }
 abbrev pub ended : Lent → Outcome
 ended o = outcome 0 (o .count) (o .places)
 
--- a file that is too long is refused, and nothing is written; else all breaks are counted, and those that fit are written, three places each
+-- a file that is too long is refused, and nothing is written; else all breaks are counted, and those that fit are written, four places each
 unfoldable pub judged : Bytes → List ℕ → Outcome
 judged file ys = cond (ltb LIMIT (length file)) (outcome TOO-LONG 0 ys) (ended (putAll (lent ys 0) (breaks file)))

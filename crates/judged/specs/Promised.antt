@@ -18,15 +18,15 @@ pub record Refused (ys : List ℕ) (n k : ℕ) (zs : List ℕ) : Type 0 where
 
 -- the places of break i are there, and it is one of k
 abbrev pub HasPlaces : ℕ → List ℕ → ℕ → Type 0
-HasPlaces k ys i = (i < k) × (3 * i + 3 ≤ length ys)
+HasPlaces k ys i = (i < k) × (4 * i + 4 ≤ length ys)
 
 -- of one within the limit, whose breaks are bs
 pub record Promised (file : Bytes) (bs : List Break) (ys : List ℕ) (n k : ℕ) (zs : List ℕ) : Type 0 where
   pub reports : Reports file bs
   pub number : n ≡ 0
   pub count : k ≡ length bs
-  pub none-broken : k ≡ 0 → (l c r : ℕ) → IsBroken file l c r → ⊥
-  pub accepted : ((l c r : ℕ) → IsBroken file l c r → ⊥) → k ≡ 0
+  pub none-broken : k ≡ 0 → (l c r f : ℕ) → IsBroken file l c r f → ⊥
+  pub accepted : ((l c r f : ℕ) → IsBroken file l c r f → ⊥) → k ≡ 0
   pub long : length zs ≡ length ys
-  pub stands : (i : ℕ) → HasPlaces k ys i → Written zs (3 * i) (getD bs i (breakAt 0 0 0))
-  pub untouched : (j : ℕ) → ((i : ℕ) → HasPlaces k ys i → (j < 3 * i) ⊎ (3 * i + 3 ≤ j)) → getD zs j 0 ≡ getD ys j 0
+  pub stands : (i : ℕ) → HasPlaces k ys i → Written zs (4 * i) (getD bs i (breakAt 0 0 0))
+  pub untouched : (j : ℕ) → ((i : ℕ) → HasPlaces k ys i → (j < 4 * i) ⊎ (4 * i + 4 ≤ j)) → getD zs j 0 ≡ getD ys j 0

@@ -1,7 +1,7 @@
 -- Judging a file in parts: where it stands between two of them, and what a part puts. No public contract cites this file. Assumes nothing.
 use Prim.Native.Nat.{ℕ, _+_, _≤_, _<_}
 use mathlib.Core.Path.{_≡_}
-use mathlib.Core.Bool.{Bool, true, false}
+use mathlib.Core.Bool.{true, false}
 use mathlib.Core.List.{List, _++_}
 use lib.ListN.{length, take, drop}
 use Rattle.text_bytes.specs.Bytes.{Bytes}
@@ -23,7 +23,7 @@ abbrev pub beginning : Asking → Stand
 beginning a = record { more = true; at = 0; lines = 0; before = 0; held = 0; state = initial a }
 
 -- in the middle of a file: what is carried stands for the lines passed, and all of their breaks were put
-pub record Midway (b : Book) (file : Bytes) (s : Stand) (kinds : List ℕ) (slots : List Bool) : Type 0 where
+pub record Midway (b : Book) (file : Bytes) (s : Stand) (kinds slots : List ℕ) : Type 0 where
   pub scan : Scan b file (s .at) (s .lines) (s .state) kinds slots
   pub asking : AskingOf b (lines file) (s .state .asking)
   pub most : putSoFar s ≤ length (breaksBy b (lines file))

@@ -71,7 +71,7 @@ pub fn next_part(
     book: &[u8],
     file: &[u8],
     s: Carried,
-    slots: &mut [bool],
+    slots: &mut [u32],
 ) -> Carried
     requires { ⌜ 1 ≤ room ⌝ }
     requires { ⌜ IsBook (now book) ⌝ }

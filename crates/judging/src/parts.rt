@@ -17,7 +17,7 @@ ghost use lib.ListN.{length};
 ghost use Rattle.text.specs.Lines.{LIMIT};
 ghost use Rattle.book.specs.Text.{bookIn, IsBook};
 ghost use Rattle.book_ids.specs.Ids.{Declared};
-ghost use Rattle.book.specs.Book.{SLOTS};
+ghost use Rattle.scan.specs.Machine.{FIRSTS};
 ghost use Rattle.judging.specs.Parts.{beginning as first, Midway, Parts};
 
 // Where the judging of a file stands: whether there is more to judge, the place of the next line and how many lines are passed, the breaks of the parts
@@ -55,7 +55,7 @@ pub fn judge_part(
     stand: Stand,
     flags: &[[bool; INDICES]; FAMILIES],
     kinds: &mut [u8; MOST_CELLS],
-    slots: &mut [bool],
+    slots: &mut [u32],
 ) -> Stand
     requires { ⌜ 1 ≤ room ⌝ }
     requires { ⌜ IsBook (now book) ⌝ }
@@ -63,10 +63,10 @@ pub fn judge_part(
     requires { ⌜ Midway (bookIn (now book)) (now file) stand (now kinds) (now slots) ⌝ }
     requires { ⌜ Declared (bookIn (now book)) (now flags) (now file) ⌝ }
     requires { ⌜ length (now kinds) ≡ 256 ⌝ }
-    requires { ⌜ length (now slots) ≡ SLOTS ⌝ }
+    requires { ⌜ length (now slots) ≡ FIRSTS ⌝ }
     ensures { λ r. ⌜ Parts (bookIn (now (book .entry))) (now (file .entry)) room stand r (now (places .entry)) (now (places .exit)) ⌝ }
     ensures { λ r. ⌜ (r .more ≡ true → Midway (bookIn (now (book .entry))) (now (file .entry)) r (now (kinds .exit)) (now (slots .exit))) ⌝ }
-    ensures { λ r. ⌜ (length (now (kinds .exit)) ≡ 256) × (length (now (slots .exit)) ≡ SLOTS) ⌝ }
+    ensures { λ r. ⌜ (length (now (kinds .exit)) ≡ 256) × (length (now (slots .exit)) ≡ FIRSTS) ⌝ }
 {
     let mut stamps = [0u32; ROOM];
     let before = stand.before + stand.held;

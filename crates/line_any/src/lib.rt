@@ -11,6 +11,8 @@ use scan::state::MOST_CELLS;
 use scan::state::State;
 use scan::state::after_header;
 use scan::state::after_row;
+use scan::state::first_kept;
+use scan::state::header_slot;
 use text::cells::count_cells;
 use value_references::FAMILIES;
 use value_references::INDICES;
@@ -23,8 +25,7 @@ ghost use Rattle.scan.specs.Places.{CEILING, LINE-MOST, lent, Puts};
 ghost use Rattle.book.specs.Text.{bookIn, IsBook};
 ghost use Rattle.book_ids.specs.Ids.{Flags};
 ghost use Rattle.line_head_stamps.specs.Stamps.{ROOM};
-ghost use Rattle.book.specs.Book.{SLOTS};
-ghost use Rattle.scan.specs.Machine.{idsOf, unknownBreaks};
+ghost use Rattle.scan.specs.Machine.{FIRSTS, idsOf, unknownBreaks};
 ghost use Rattle.scan.specs.Carried.{lineBreaks, Follows};
 
 // The number of the first cell with a control byte, 0 where there is none.
@@ -52,7 +53,7 @@ pub struct Step {
     pub state: State,
 }
 
-// A line, whatever its sort, under what is carried of the lines above it: the step, the kinds of the nearest header's columns, the slots of the keys that came,
+// A line, whatever its sort, under what is carried of the lines above it: the step, the kinds of the nearest header's columns, the first lines of the keys and headers that came,
 // and stamps that make the search for equal names short; `flags` are the ids that the whole file declares. The answer is the step after it.
 pub fn judge_line(
     places: &mut [u32],
@@ -61,7 +62,7 @@ pub fn judge_line(
     line: &[u8],
     flags: &[[bool; INDICES]; FAMILIES],
     kinds: &mut [u8; MOST_CELLS],
-    slots: &mut [bool],
+    slots: &mut [u32],
     stamps: &mut [u32],
 ) -> Step
     requires { ⌜ step .count + LINE-MOST ≤ CEILING ⌝ }
@@ -69,10 +70,10 @@ pub fn judge_line(
     requires { ⌜ length (now line) ≤ LIMIT ⌝ }
     requires { ⌜ Flags (now flags) ⌝ }
     requires { ⌜ length (now kinds) ≡ 256 ⌝ }
-    requires { ⌜ length (now slots) ≡ SLOTS ⌝ }
+    requires { ⌜ length (now slots) ≡ FIRSTS ⌝ }
     requires { ⌜ length (now stamps) ≡ ROOM ⌝ }
     ensures { λ r. ⌜ Puts (lineBreaks (bookIn (now (book .entry))) (idsOf (now (flags .entry))) (step .state) (now (kinds .entry)) (now (slots .entry)) (step .line) (now (line .entry))) LINE-MOST (lent (now (places .entry)) (step .count)) (lent (now (places .exit)) (r .count)) ⌝ }
-    ensures { λ r. ⌜ Follows (bookIn (now (book .entry))) (step .state) (now (kinds .entry)) (now (slots .entry)) (now (line .entry)) (r .state) (now (kinds .exit)) (now (slots .exit)) ⌝ }
+    ensures { λ r. ⌜ Follows (bookIn (now (book .entry))) (step .state) (now (kinds .entry)) (now (slots .entry)) (step .line) (now (line .entry)) (r .state) (now (kinds .exit)) (now (slots .exit)) ⌝ }
     ensures { λ r. ⌜ length (now (stamps .exit)) ≡ ROOM ⌝ }
 {
     let sort = sort_of(book, line);
@@ -100,18 +101,19 @@ pub fn judge_line(
             }
         }
         Sort::Header(h) => {
-            let seen = state.seen;
-            let again = seen[h as usize];
+            let slot = header_slot(h);
+            let first = slots[slot];
             let asking = state.asking;
             let head = Head {
                 tag,
                 section: h,
                 asking,
-                again,
+                first,
                 later: h < state.highest,
             };
             let width = count_cells(line);
             let k = judge_head(places, count, book, line, head, flags, kinds, stamps);
+            slots[slot] = first_kept(first, tag.line);
             let next = after_header(state, h, width);
             Step {
                 line: tag.line,

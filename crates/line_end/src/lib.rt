@@ -1,4 +1,4 @@
-// Required metadata, read off the slots of the keys that the file has: the book's demands, one after the other.
+// Required metadata, read off the slots of the keys, which have the first lines of those that the file has: the book's demands, one after the other.
 use book::SECTIONS;
 use book::demands::Demand;
 use book::demands::ONCE;
@@ -7,7 +7,6 @@ use book::demands::nth_demand;
 use book::slots::start_of;
 use book_facts::Asking;
 use book_facts::is_asked;
-use book_ids::any_marked;
 use scan::places::put_if;
 use scan::state::State;
 use text_bytes::both;
@@ -19,9 +18,9 @@ ghost use Prim.Native.Nat.{_+_, _≤_, _<_};
 ghost use lib.ListN.{length, getD};
 ghost use Rattle.book.specs.Book.{noDemand, wantsOf, upFrom};
 ghost use Rattle.book.specs.Text.{bookIn, IsBook};
-ghost use Rattle.book_ids.specs.Ids.{Flags};
+ghost use Rattle.book_ids.specs.Ids.{Flags, isMarked};
 ghost use Rattle.scan.specs.Places.{CEILING, END-MOST, lent, Puts};
-ghost use Rattle.scan.specs.Machine.{wantBreaks, endBreaks};
+ghost use Rattle.scan.specs.Machine.{marks, wantBreaks, endBreaks};
 ghost use Rattle.line_end.specs.Ends.{seen, Whole, seenBy, idBreaks};
 
 // The line after the last, and what was found of the file: what decides whether something is asked of it, and the sections that are present, with 0 among
@@ -32,6 +31,21 @@ struct End {
     pub present: [bool; SECTIONS],
 }
 
+// Whether any key came that has one of the slots, from one up to another.
+fn any_came(slots: &[u32], from: usize, to: usize) -> bool
+    requires { ⌜ (from ≤ to) × (to ≤ length (now slots)) ⌝ }
+    ensures { λ r. ⌜ r ≡ isMarked (marks (now (slots .entry))) from to ⌝ }
+{
+    let mut i = from;
+    while i < to {
+        if slots[i] != 0 {
+            return true;
+        }
+        i += 1;
+    }
+    false
+}
+
 // A demand that is asked for each declared id of a family: its key with the id's index is absent. The slots of the key begin at `from`.
 fn judge_ids(
     places: &mut [u32],
@@ -40,7 +54,7 @@ fn judge_ids(
     d: Demand,
     from: usize,
     asked: bool,
-    slots: &[bool],
+    slots: &[u32],
     flags: &[[bool; INDICES]; FAMILIES],
 ) -> u32
     requires { ⌜ d .each < 4 ⌝ }
@@ -48,7 +62,7 @@ fn judge_ids(
     requires { ⌜ Flags (now flags) ⌝ }
     requires { ⌜ d .cell < 65536 ⌝ }
     requires { ⌜ count + 64 ≤ CEILING ⌝ }
-    ensures { λ r. ⌜ Puts (idBreaks d asked (now (slots .entry)) (getD (now (flags .entry)) (d .each) []) from «line_no» (upFrom 64 1)) 64 (lent (now (places .entry)) count) (lent (now (places .exit)) r) ⌝ }
+    ensures { λ r. ⌜ Puts (idBreaks d asked (marks (now (slots .entry))) (getD (now (flags .entry)) (d .each) []) from «line_no» (upFrom 64 1)) 64 (lent (now (places .entry)) count) (lent (now (places .exit)) r) ⌝ }
 {
     let f = d.each;
     let ids = flags[f];
@@ -57,7 +71,7 @@ fn judge_ids(
     let mut i = 0;
     while i < INDICES {
         cell += 1;
-        let lacking = both(both(asked, ids[i]), !slots[from + i]);
+        let lacking = both(both(asked, ids[i]), slots[from + i] == 0);
         c = put_if(places, c, lacking, d.rule, line_no, cell);
         i += 1;
     }
@@ -71,7 +85,7 @@ fn judge_demand(
     book: &[u8],
     k: usize,
     end: End,
-    slots: &[bool],
+    slots: &[u32],
     flags: &[[bool; INDICES]; FAMILIES],
 ) -> u32
     requires { ⌜ IsBook (now book) ⌝ }
@@ -90,7 +104,7 @@ fn judge_demand(
         return judge_ids(places, count, end.line, d, from, asked, slots, flags);
     }
     let to = start_of(book, entry + 1);
-    let lacking = both(asked, !any_marked(slots, from, to));
+    let lacking = both(asked, !any_came(slots, from, to));
     put_if(places, count, lacking, d.rule, end.line, d.cell)
 }
 
@@ -100,7 +114,7 @@ fn judge_demands(
     count: u32,
     book: &[u8],
     end: End,
-    slots: &[bool],
+    slots: &[u32],
     flags: &[[bool; INDICES]; FAMILIES],
 ) -> u32
     requires { ⌜ IsBook (now book) ⌝ }
@@ -118,14 +132,14 @@ fn judge_demands(
     c
 }
 
-// What of the demanded metadata is absent, at the line after the last: by the slots of the keys that came, the ids that are declared, and what the state has of
+// What of the demanded metadata is absent, at the line after the last: by the first lines of the keys that came, the ids that are declared, and what the state has of
 // the file: what decides whether something is asked, and the sections that are present.
 pub fn judge_end(
     places: &mut [u32],
     count: u32,
     book: &[u8],
     line_no: u32,
-    slots: &[bool],
+    slots: &[u32],
     flags: &[[bool; INDICES]; FAMILIES],
     state: State,
 ) -> u32

@@ -4,6 +4,7 @@ use line_head_names::Names;
 use line_head_names::head_cells;
 use line_head_required::lacks;
 use scan::places::Tag;
+use scan::places::put_again;
 use scan::places::put_if;
 use scan::state::MOST_CELLS;
 use text::cells::cell_end;
@@ -23,22 +24,22 @@ ghost use Rattle.scan.specs.Machine.{idsOf, headBreaks, headFirst, nameBreaks};
 ghost use Rattle.line_head_stamps.specs.Stamps.{ROOM as room};
 ghost use Rattle.line_head.specs.Heads.{Kept, KeepsKinds};
 
-// A header, beside its bytes: its line, its section, what decides which columns are asked, and whether a header of its section, of a later one, stands above.
+// A header, beside its bytes: its line, its section, what decides which columns are asked, the line of the first header of its section above (0 for none), and whether one of a later section stands above.
 pub struct Head {
     pub tag: Tag,
     pub section: u32,
     pub asking: Asking,
-    pub again: bool,
+    pub first: u32,
     pub later: bool,
 }
 
 // Cell 1 of a header: a header of its section (9), or of a later one (10), stands above, or it has over 256 cells (11).
 fn head_code(places: &mut [u32], count: u32, head: Head, wide: bool) -> u32
     requires { ⌜ count + 4 ≤ CEILING ⌝ }
-    ensures { λ r. ⌜ Puts (headFirst (head .again) (head .later) wide (head .tag .control) (head .tag .line)) 4 (lent (now (places .entry)) count) (lent (now (places .exit)) r) ⌝ }
+    ensures { λ r. ⌜ Puts (headFirst (head .first) (head .later) wide (head .tag .control) (head .tag .line)) 4 (lent (now (places .entry)) count) (lent (now (places .exit)) r) ⌝ }
 {
     let k1 = put_if(places, count, head.tag.control == 1, 1, head.tag.line, 1);
-    let k2 = put_if(places, k1, head.again, 9, head.tag.line, 1);
+    let k2 = put_again(places, k1, 9, head.tag.line, 1, head.first);
     let k3 = put_if(places, k2, head.later, 10, head.tag.line, 1);
     put_if(places, k3, wide, 11, head.tag.line, 1)
 }
@@ -87,7 +88,7 @@ pub fn judge_head(
     requires { ⌜ length (now kinds) ≡ 256 ⌝ }
     requires { ⌜ length (now stamps) ≡ room ⌝ }
     requires { ⌜ length (now line) ≤ LIMIT ⌝ }
-    ensures { λ r. ⌜ Puts (headBreaks (bookIn (now (book .entry))) (askedBy (head .asking)) (head .section) (head .again) (head .later) (idsOf (now (flags .entry))) (head .tag .control) (head .tag .line) (cells (now (line .entry)))) LINE-MOST (lent (now (places .entry)) count) (lent (now (places .exit)) r) ⌝ }
+    ensures { λ r. ⌜ Puts (headBreaks (bookIn (now (book .entry))) (askedBy (head .asking)) (head .section) (head .first) (head .later) (idsOf (now (flags .entry))) (head .tag .control) (head .tag .line) (cells (now (line .entry)))) LINE-MOST (lent (now (places .entry)) count) (lent (now (places .exit)) r) ⌝ }
     ensures { λ r. ⌜ KeepsKinds (bookIn (now (book .entry))) (head .section) (now (line .entry)) (now (kinds .exit)) (now (stamps .exit)) ⌝ }
 {
     let wide = MOST_CELLS < count_cells(line);

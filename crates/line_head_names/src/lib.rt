@@ -8,6 +8,7 @@ use line_head_found::kind_in;
 use line_head_found::name_rule;
 use line_head_stamps::came_before;
 use scan::places::Tag;
+use scan::places::put_again;
 use scan::places::put_if;
 use scan::places::put_rule;
 use scan::state::MOST_CELLS;
@@ -35,24 +36,24 @@ pub struct Names {
     pub from: usize,
 }
 
-// A name among them: its cell, and whether it, and any `opt_` name, came before.
+// A name among them: its cell, the cell where it stands first if it comes again (0 for none), and whether any `opt_` name came before.
 struct Naming {
     tag: Tag,
     cell: u32,
-    again: bool,
+    first: u32,
     opt: bool,
 }
 
 // A name: the book has none like it (12), or it came before (13).
 fn name_known(places: &mut [u32], count: u32, found: Found, at: Naming) -> u32
     requires { ⌜ count + 3 ≤ CEILING ⌝ }
-    ensures { λ r. ⌜ Puts (knownBreaks (at .again) found (at .tag .control) (at .tag .line) (at .cell)) 3 (lent (now (places .entry)) count) (lent (now (places .exit)) r) ⌝ }
+    ensures { λ r. ⌜ Puts (knownBreaks (at .first) found (at .tag .control) (at .tag .line) (at .cell)) 3 (lent (now (places .entry)) count) (lent (now (places .exit)) r) ⌝ }
 {
     let strange = is_strange(found);
     let c = at.cell;
     let k1 = put_if(places, count, at.tag.control == c, 1, at.tag.line, c);
     let k2 = put_if(places, k1, strange, 12, at.tag.line, c);
-    put_if(places, k2, at.again, 13, at.tag.line, c)
+    put_again(places, k2, 13, at.tag.line, c, at.first)
 }
 
 // The same, or it is no `opt_` name after one (14), or names an undeclared id (15), or has a bad index (23, 24).
@@ -66,13 +67,13 @@ fn name_cell(
 ) -> u32
     requires { ⌜ count + NAME-MOST ≤ CEILING ⌝ }
     requires { ⌜ Within found ⌝ }
-    ensures { λ r. ⌜ Puts (nameCell (at .again) (at .opt) (idsOf (now (flags .entry))) found (at .tag .control) (at .tag .line) (at .cell) (now (name .entry))) NAME-MOST (lent (now (places .entry)) count) (lent (now (places .exit)) r) ⌝ }
+    ensures { λ r. ⌜ Puts (nameCell (at .first) (at .opt) (idsOf (now (flags .entry))) found (at .tag .control) (at .tag .line) (at .cell) (now (name .entry))) NAME-MOST (lent (now (places .entry)) count) (lent (now (places .exit)) r) ⌝ }
 {
     let late = both(!is_opt(name), at.opt);
     let rule = name_rule(flags, found);
     let k1 = name_known(places, count, found, at);
     let k2 = put_if(places, k1, late, 14, at.tag.line, at.cell);
-    put_rule(places, k2, rule, at.tag.line, at.cell)
+    put_rule(places, k2, rule, at.tag.line, at.cell, 0)
 }
 
 // A name of the section, looked up once: its breaks are put, and its kind is kept at the place before its cell's number.
@@ -90,7 +91,7 @@ fn head_cell(
     requires { ⌜ IsBook (now book) ⌝ }
     requires { ⌜ (0 < at .cell) × (at .cell ≤ 256) ⌝ }
     requires { ⌜ length (now kinds) ≡ 256 ⌝ }
-    ensures { λ r. ⌜ Puts (nameCell (at .again) (at .opt) (idsOf (now (flags .entry))) (columnOf (bookIn (now (book .entry))) section (now (name .entry))) (at .tag .control) (at .tag .line) (at .cell) (now (name .entry))) NAME-MOST (lent (now (places .entry)) count) (lent (now (places .exit)) r) ⌝ }
+    ensures { λ r. ⌜ Puts (nameCell (at .first) (at .opt) (idsOf (now (flags .entry))) (columnOf (bookIn (now (book .entry))) section (now (name .entry))) (at .tag .control) (at .tag .line) (at .cell) (now (name .entry))) NAME-MOST (lent (now (places .entry)) count) (lent (now (places .exit)) r) ⌝ }
     ensures { λ r. ⌜ now (kinds .exit) ≡ set (now (kinds .entry)) (at .cell - 1) (kindIn (columnOf (bookIn (now (book .entry))) section (now (name .entry)))) ⌝ }
 {
     let found = column(book, section as usize, name);
@@ -128,11 +129,11 @@ pub fn head_cells(
     let mut opt = false;
     loop {
         let e = cell_end(line, at);
-        let again = came_before(stamps, tag.line, line, (c - 2) as usize, at, e);
+        let first = came_before(stamps, tag.line, line, (c - 2) as usize, at, e);
         let naming = Naming {
             tag,
             cell: c,
-            again,
+            first,
             opt,
         };
         k = head_cell(

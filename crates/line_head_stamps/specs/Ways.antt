@@ -1,11 +1,10 @@
--- The way of a name from its stamp's door through forks to the number of a name, and that each name's way ends at its own number or that of an equal name.
+-- The way of a name from its stamp's door through forks to the number of a name, and that each name's way ends at the number of the first that is equal.
 -- No rule speaks of it. Assumes nothing.
 use Prim.Native.Nat.{ℕ, zero, suc, _+_, _-_, _/_, _%_, _≤_, _<_}
 use mathlib.Core.Path.{_≡_}
-use mathlib.Core.Bool.{Bool, false, _||_}
 use mathlib.Core.List.{List}
 use lib.ListN.{length, getD}
-use Rattle.text_bytes.specs.Bytes.{Bytes, same}
+use Rattle.text_bytes.specs.Bytes.{Bytes, same, firstKept}
 use Rattle.line_head_stamps.specs.Stamps.{ROOM, DOORS, BRANCHES, ASKS, STARTS, ENDS, GUESSES, IsDoor, branch, nameAt, hashOf, byteCode, sideOf}
 
 -- two names are the same up to a place, which is the end of both or tells them apart
@@ -49,13 +48,14 @@ pub record FindsDoor (t : List ℕ) (n m h : ℕ) (name : Bytes) (door : ℕ) : 
   pub way : (door ≡ 0 → ⊥) → Way t m name door (DOORS + h)
   pub ends : (door ≡ 0 → ⊥) → getD t door 0 < m
 
--- the way of a name ends at the number of an equal name
+-- the way of a name ends at the number of the first equal name
 pub record Known (t : List ℕ) (n : ℕ) (line : Bytes) (m : ℕ) (name : Bytes) : Type 0 where
   pub stamped : getD t (hashOf name) 0 ≡ n
   pub door : ℕ
   pub way : Way t m name door (DOORS + hashOf name)
   pub ends : getD t door 0 < m
   pub equal : nameAt t line (getD t door 0) ≡ name
+  pub first : (j : ℕ) → j < getD t door 0 → nameAt t line j ≡ name → ⊥
 
 -- the first m names of line n are noted
 pub record Noted (t : List ℕ) (n : ℕ) (line : Bytes) (m : ℕ) : Type 0 where
@@ -65,13 +65,13 @@ pub record Noted (t : List ℕ) (n : ℕ) (line : Bytes) (m : ℕ) : Type 0 wher
   pub doors : Doors t m
   pub known : (j : ℕ) → j < m → Known t n line m (nameAt t line j)
 
--- whether a name is one of the first m
-unfoldable pub isNamed : List ℕ → Bytes → Bytes → ℕ → Bool
-isNamed t line name zero = false
-isNamed t line name (suc m) = isNamed t line name m || same name (nameAt t line m)
+-- the cell of the first of m names that is equal, 0 for none; name number 0 stands in cell 2
+unfoldable pub firstNamed : List ℕ → Bytes → Bytes → ℕ → ℕ
+firstNamed t line name zero = 0
+firstNamed t line name (suc m) = firstKept (firstNamed t line name m) (same name (nameAt t line m)) (m + 2)
 
--- whether a name is one of the first m, which are noted, is answered, and it is noted as one more
-pub record Adds (t t' : List ℕ) (n : ℕ) (line : Bytes) (m : ℕ) (name : Bytes) (again : Bool) : Type 0 where
-  pub answer : again ≡ isNamed t line name m
+-- where a name stands first among m, which are noted, is answered, and it is noted as one more
+pub record Adds (t t' : List ℕ) (n : ℕ) (line : Bytes) (m : ℕ) (name : Bytes) (first : ℕ) : Type 0 where
+  pub answer : first ≡ firstNamed t line name m
   pub noted : Noted t' n line (m + 1)
-  pub names : (z : Bytes) → isNamed t' line z (m + 1) ≡ (isNamed t line z m || same z name)
+  pub names : (z : Bytes) → firstNamed t' line z (m + 1) ≡ firstKept (firstNamed t line z m) (same z name) (m + 2)

@@ -1,4 +1,4 @@
-// Whether a name of a header came before in it, where each name is compared with one earlier name at most, whatever the names are. A name leaves its line's
+// Where a name of a header stands first in it, where each name is compared with one earlier name at most, whatever the names are. A name leaves its line's
 // number as a stamp, at a place that its bytes give. From the stamp's door the names of that stamp go apart by forks, each of which asks for four bits. Names
 // made to pass many forks mostly go on as the one before them did: so each fork has a guess of what the next door holds, that of the last name which passed
 // it, and the processor need not wait for the name's bits before it looks there.
@@ -45,6 +45,9 @@ const SIDES: usize = 16;
 
 // So many forks are passed without a guess.
 const NEAR: usize = 4;
+
+// Name number 0 stands in this cell.
+const NAMES: u32 = 2;
 
 // What no fork asks.
 const SAME: u32 = 4294967295;
@@ -271,7 +274,7 @@ fn is_astray(stamps: &[u32], door: usize, other: &[u8]) -> bool
     side(other, stamps[ASKS + at / SIDES]) != at % SIDES
 }
 
-// Whether the name from `at` up to `end` is one of the first `count` of the line, which are noted. It is noted too.
+// The cell of the first name that is equal to the one from `at` up to `end`, of the first `count` of the line, which are noted; 0 for none. It is noted too.
 pub fn came_before(
     stamps: &mut [u32],
     line_no: u32,
@@ -279,7 +282,7 @@ pub fn came_before(
     count: usize,
     at: usize,
     end: usize,
-) -> bool
+) -> u32
     requires { ⌜ Noted (now stamps) «line_no» (now line) count ⌝ }
     requires { ⌜ length (now line) ≤ LIMIT ⌝ }
     requires { ⌜ (count ≤ 254) × (at ≤ end) × (end ≤ length (now line)) ⌝ }
@@ -292,9 +295,10 @@ pub fn came_before(
         enter(stamps, count, at, end);
         stamps[h] = line_no;
         stamps[DOORS + h] = count as u32;
-        return false;
+        return 0;
     }
-    let k = index(stamps[door]);
+    let held = stamps[door];
+    let k = index(held);
     let start = index(stamps[STARTS + k]);
     let stop = index(stamps[ENDS + k]);
     let other = &line[start..stop];
@@ -302,13 +306,13 @@ pub fn came_before(
     let astray = is_astray(stamps, door, other);
     enter(stamps, count, at, end);
     if ask == SAME {
-        return true;
+        return held + NAMES;
     }
     if astray {
         stamps[door] = count as u32;
-        return false;
+        return 0;
     }
     let their = side(other, ask);
     put_fork(stamps, door, count, ask, their);
-    false
+    0
 }

@@ -15,11 +15,11 @@ ghost use mathlib.Core.List.{[]};
 ghost use Prim.Native.Nat.{_+_, _≤_};
 ghost use lib.ListN.{length, getD, drop};
 ghost use Rattle.text.specs.Lines.{cells, isMeta};
-ghost use Rattle.book.specs.Book.{SLOTS, keyOf};
+ghost use Rattle.book.specs.Book.{keyOf};
 ghost use Rattle.book_ids.specs.Ids.{Flags};
 ghost use Rattle.book.specs.Text.{bookIn, IsBook};
 ghost use Rattle.scan.specs.Places.{CEILING, LINE-MOST, lent, Puts};
-ghost use Rattle.scan.specs.Machine.{controlAt, ruleAt, eachCell, metaCell, metaBreaks, idsOf};
+ghost use Rattle.scan.specs.Machine.{controlAt, ruleAt, eachCell, metaCell, metaBreaks, FIRSTS, idsOf};
 ghost use Rattle.line_meta_keys.specs.Keys.{slotted};
 ghost use Rattle.line_meta.specs.Metas.{KeepsKeys};
 
@@ -30,13 +30,13 @@ const KEY: u32 = 2;
 
 const VALUE: u32 = 3;
 
-// A key or its value: the cell has the line's first control byte (1), and it breaks a rule, 0 for none.
-fn put_field(places: &mut [u32], count: u32, tag: Tag, cell: u32, rule: u32) -> u32
+// A key or its value: the cell has the line's first control byte (1), and it breaks a rule, 0 for none; of a key that comes again, the line where it stands first.
+fn put_field(places: &mut [u32], count: u32, tag: Tag, cell: u32, rule: u32, first: u32) -> u32
     requires { ⌜ count + 2 ≤ CEILING ⌝ }
-    ensures { λ r. ⌜ Puts (λ rest. controlAt (tag .control) (tag .line) cell (ruleAt rule (tag .line) cell rest)) 2 (lent (now (places .entry)) count) (lent (now (places .exit)) r) ⌝ }
+    ensures { λ r. ⌜ Puts (λ rest. controlAt (tag .control) (tag .line) cell (ruleAt rule (tag .line) cell first rest)) 2 (lent (now (places .entry)) count) (lent (now (places .exit)) r) ⌝ }
 {
     let k = put_if(places, count, tag.control == cell, 1, tag.line, cell);
-    put_rule(places, k, rule, tag.line, cell)
+    put_rule(places, k, rule, tag.line, cell, first)
 }
 
 // The key and the value of a metadata line of three cells.
@@ -47,15 +47,15 @@ fn judge_three(
     line: &[u8],
     tag: Tag,
     flags: &[[bool; INDICES]; FAMILIES],
-    slots: &mut [bool],
+    slots: &mut [u32],
 ) -> u32
     requires { ⌜ IsBook (now book) ⌝ }
     requires { ⌜ Flags (now flags) ⌝ }
-    requires { ⌜ length (now slots) ≡ SLOTS ⌝ }
+    requires { ⌜ length (now slots) ≡ FIRSTS ⌝ }
     requires { ⌜ length (cells (now line)) ≡ 3 ⌝ }
     requires { ⌜ count + 4 ≤ CEILING ⌝ }
     ensures { λ r. ⌜ Puts (eachCell (metaCell (bookIn (now (book .entry))) (now (slots .entry)) (idsOf (now (flags .entry))) (getD (cells (now (line .entry))) 1 []) (getD (cells (now (line .entry))) 2 []) (tag .control) (tag .line)) 2 (drop 1 (cells (now (line .entry))))) 4 (lent (now (places .entry)) count) (lent (now (places .exit)) r) ⌝ }
-    ensures { λ r. ⌜ now (slots .exit) ≡ slotted (bookIn (now (book .entry))) (now (slots .entry)) (keyOf (bookIn (now (book .entry))) (getD (cells (now (line .entry))) 1 [])) ⌝ }
+    ensures { λ r. ⌜ now (slots .exit) ≡ slotted (bookIn (now (book .entry))) (now (slots .entry)) (keyOf (bookIn (now (book .entry))) (getD (cells (now (line .entry))) 1 [])) (tag .line) ⌝ }
 {
     let e = cell_end(line, 0);
     let a = e + 1;
@@ -63,13 +63,13 @@ fn judge_three(
     let b = f + 1;
     let found = key(book, &line[a..f]);
     let judged = judge_key(book, found, &line[a..f], &line[b..], flags, slots);
-    mark(slots, book, found);
-    let k = put_field(places, count, tag, KEY, judged.key);
-    put_field(places, k, tag, VALUE, judged.value)
+    mark(slots, book, found, tag.line);
+    let k = put_field(places, count, tag, KEY, judged.key, judged.first);
+    put_field(places, k, tag, VALUE, judged.value, 0)
 }
 
 // The breaks of a metadata line, put after the first `count`; the answer is how many there are then. `table` says whether a header or row stands above;
-// `flags` are the ids that the file declares; `slots` are those of the keys that came before, and of the line's own afterwards.
+// `flags` are the ids that the file declares; `slots` have the first lines of the keys that came before, and of the line's own afterwards.
 pub fn judge_meta(
     places: &mut [u32],
     count: u32,
@@ -78,15 +78,15 @@ pub fn judge_meta(
     tag: Tag,
     table: bool,
     flags: &[[bool; INDICES]; FAMILIES],
-    slots: &mut [bool],
+    slots: &mut [u32],
 ) -> u32
     requires { ⌜ IsBook (now book) ⌝ }
     requires { ⌜ Flags (now flags) ⌝ }
-    requires { ⌜ length (now slots) ≡ SLOTS ⌝ }
+    requires { ⌜ length (now slots) ≡ FIRSTS ⌝ }
     requires { ⌜ isMeta (now line) ≡ true ⌝ }
     requires { ⌜ count + LINE-MOST ≤ CEILING ⌝ }
     ensures { λ r. ⌜ Puts (metaBreaks (bookIn (now (book .entry))) table (now (slots .entry)) (idsOf (now (flags .entry))) (tag .control) (tag .line) (cells (now (line .entry)))) LINE-MOST (lent (now (places .entry)) count) (lent (now (places .exit)) r) ⌝ }
-    ensures { λ r. ⌜ KeepsKeys (bookIn (now (book .entry))) (now (line .entry)) (now (slots .entry)) (now (slots .exit)) ⌝ }
+    ensures { λ r. ⌜ KeepsKeys (bookIn (now (book .entry))) (now (line .entry)) (tag .line) (now (slots .entry)) (now (slots .exit)) ⌝ }
 {
     let n = count_cells(line);
     let k1 = put_if(places, count, tag.control == 1, 1, tag.line, 1);

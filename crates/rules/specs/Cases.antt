@@ -5,8 +5,8 @@ use mathlib.Core.List.{List, [], _∷_, _++_}
 use Prim.Native.Nat.{ℕ}
 use lib.Dec.{eqb}
 use Rattle.book_kinds.specs.Cases.{Case, isA, agrees, cases}
-use Rattle.text_bytes.specs.Bytes.{Bytes, bytes, same, begins, isEmpty, any, all, onFirst, splitOn, isSpace}
-use Rattle.text.specs.Lines.{lines, startsLf, coded, cell, isField, control, firstControl}
+use Rattle.text_bytes.specs.Bytes.{Bytes, bytes, same, begins, isEmpty, any, all, firstFrom, onFirst, splitOn, isSpace}
+use Rattle.text.specs.Lines.{lines, startsLf, coded, cell, isField, control}
 use Rattle.value_references.specs.Index.{written, digits, number, bracketed, indexAt}
 use Rattle.values.specs.Values.{areDigits, unsigned, unmarked, dotted, isE, mantissa, exponent, isExponent, isUnsigned, isText, isWhole, isNumeral, isDecimal, isDecimals, isWindow, isNull}
 use Rattle.value_parameters.specs.Parameters.{quotedAfter, cutOutside, hasFields, isParameter, isParameters}
@@ -20,12 +20,12 @@ use Rattle.book_facts.specs.Asked.{asks}
 use Rattle.value_references.specs.References.{refIn, refTo, refFlaw, trimmed, refsTo, isReferences, flawAmong, refsFlaw}
 use Rattle.book_kinds.specs.Kinds.{familyNumber, isKept, isFixed, ofKind, kindFlaw, cellOfKind}
 use Rattle.rules.specs.Sorts.{codeSort, sortOf, isSilent}
-use Rattle.rules.specs.Breaks.{Break, breakAt, each, atCell, atLine, inLines, atEnd}
+use Rattle.rules.specs.Breaks.{Break, breakWith, breakAt, each, atCell, atLine, inLines, atEnd}
 use Rattle.rules.specs.Rules.{sameKey, namedIn, isUndeclared, lacksColumn, nearestIn, flawAt, rules, isPresent, isAsked, hasKey, isUnmet, endRules, breaksBy, breaks}
 
 pub example : breaks (bytes "MTD\tmzTab-version\t1.0.0\nMTD\tmzTab-mode\tSummary\nMTD\tmzTab-type\tIdentification\nMTD\tdescription\tYeast check\nMTD\tms_run[1]-location\tfile:///a.mzML\n\nPRH\taccession\tdescription\tdatabase\tsearch_engine\tnum_psms_ms_run[2]\nPRT\tY1\tnull\tdb\tnull\t\nPRT\tnull\tx\tdb\tnull\t4\n")
     ≡ breakAt 7 6 15 ∷ breakAt 8 6 19 ∷ breakAt 9 2 20 ∷ breakAt 10 500 22 ∷ breakAt 10 900 22 ∷ breakAt 10 1000 22 ∷ []
-unfolding bytes same begins isEmpty any all onFirst splitOn lines startsLf coded cell isField control firstControl written digits number bracketed indexAt areDigits unsigned unmarked dotted isE mantissa exponent isExponent isUnsigned isText isWhole isNumeral isDecimal isDecimals isWindow isNull quotedAfter cutOutside isSpace hasFields isParameter isParameters piecesFrom entryOf fits firstOf keys isColunit proteinColumns peptideColumns psmColumns moleculeColumns proteinRequired peptideRequired psmRequired moleculeRequired mzTab demands bookOf isSection sectionOf codedFrom keyOf isOpt optOf columnOf declares refIn refTo refFlaw trimmed refsTo isReferences flawAmong refsFlaw familyNumber isKept isFixed namedIn ofKind kindFlaw cellOfKind codeSort sortOf isSilent each atCell atLine inLines atEnd sameKey isUndeclared lacksColumn nearestIn flawAt rules hasForm hasKey asks modeOf typeOf earliest isPresent isAsked upFrom wantsOf wantsIn isUnmet lastCell endRules breaksBy breaks
+unfolding bytes same begins isEmpty any all onFirst splitOn lines startsLf coded cell isField control firstFrom written digits number bracketed indexAt areDigits unsigned unmarked dotted isE mantissa exponent isExponent isUnsigned isText isWhole isNumeral isDecimal isDecimals isWindow isNull quotedAfter cutOutside isSpace hasFields isParameter isParameters piecesFrom entryOf fits firstOf keys isColunit proteinColumns peptideColumns psmColumns moleculeColumns proteinRequired peptideRequired psmRequired moleculeRequired mzTab demands bookOf isSection sectionOf codedFrom keyOf isOpt optOf columnOf declares refIn refTo refFlaw trimmed refsTo isReferences flawAmong refsFlaw familyNumber isKept isFixed namedIn ofKind kindFlaw cellOfKind codeSort sortOf isSilent each atCell atLine inLines atEnd sameKey isUndeclared lacksColumn nearestIn flawAt rules hasForm hasKey asks modeOf typeOf earliest isPresent isAsked upFrom wantsOf wantsIn isUnmet lastCell endRules breaksBy breaks
 example = refl
 
 -- the same breaks, one by one
@@ -33,7 +33,7 @@ unfoldable pub sameBreaks : List Break → List Break → Bool
 sameBreaks [] [] = true
 sameBreaks [] (d ∷ ds) = false
 sameBreaks (b ∷ bs) [] = false
-sameBreaks (b ∷ bs) (d ∷ ds) = eqb (b .line) (d .line) && (eqb (b .cell) (d .cell) && (eqb (b .rule) (d .rule) && sameBreaks bs ds))
+sameBreaks (b ∷ bs) (d ∷ ds) = eqb (b .line) (d .line) && (eqb (b .cell) (d .cell) && (eqb (b .rule) (d .rule) && (eqb (b .first) (d .first) && sameBreaks bs ds)))
 
 -- a file has just these breaks
 abbrev hasBreaks : List Break → Bytes → Bool
@@ -60,14 +60,25 @@ abbrev misnumbers : List Break
 misnumbers =
     breakAt 1 2 23 ∷ breakAt 2 2 24 ∷ breakAt 3 2 23 ∷ breakAt 4 2 24 ∷ breakAt 5 2 23 ∷ breakAt 6 3 23 ∷ breakAt 7 2 5 ∷ breakAt 8 3 24 ∷ breakAt 9 6 23 ∷ []
 
+-- a key, a header and a name that come again, of request 2026-08: the line of two cells and the key of another index are none of them, and the first stands
+-- above the nearest
+abbrev repeated : Bytes
+repeated = bytes "MTD\ttitle\nMTD\ttitle\ta\nMTD\tcontact[1]-name\ta\nMTD\ttitle\tb\nMTD\tcontact[2]-name\ta\nMTD\ttitle\tc\nPRH\topt_a\topt_b\topt_b\topt_a\topt_b\nPEH\topt_a\nPRH\topt_a\nPRH\topt_a\n"
+
+abbrev repeats : List Break
+repeats =
+    breakAt 1 1 3 ∷ breakWith 4 2 6 2 ∷ breakWith 6 2 6 2 ∷ breakAt 7 1 16 ∷ breakWith 7 4 13 3 ∷ breakWith 7 5 13 2 ∷ breakWith 7 6 13 3 ∷ breakAt 8 1 16
+    ∷ breakWith 9 1 9 7 ∷ breakAt 9 1 10 ∷ breakAt 9 1 16 ∷ breakWith 10 1 9 7 ∷ breakAt 10 1 10 ∷ breakAt 10 1 16 ∷ []
+
 unfoldable pub files : List Case
 files =
     isA (hasBreaks (allAbsent 1)) (bytes "")
     ∷ isA (hasBreaks (allAbsent 2)) (bytes "COM")
     ∷ isA (hasBreaks unmet) quantified
     ∷ isA (hasBreaks (misnumbers ++ allAbsent 11)) misnumbered
+    ∷ isA (hasBreaks (repeats ++ allAbsent 11)) repeated
     ∷ []
 
 pub all-hold : all agrees (cases ++ files) ≡ true
-unfolding cases files sameBreaks bytes same begins isEmpty any all onFirst splitOn lines startsLf coded cell isField control firstControl written digits number bracketed indexAt areDigits unsigned unmarked dotted isE mantissa exponent isExponent isUnsigned isText isWhole isNumeral isDecimal isDecimals isWindow isNull quotedAfter cutOutside isSpace hasFields isParameter isParameters piecesFrom entryOf fits firstOf keys isColunit proteinColumns peptideColumns psmColumns moleculeColumns proteinRequired peptideRequired psmRequired moleculeRequired mzTab demands bookOf isSection sectionOf codedFrom keyOf isOpt optOf columnOf declares refIn refTo refFlaw trimmed refsTo isReferences flawAmong refsFlaw familyNumber isKept isFixed namedIn ofKind kindFlaw cellOfKind codeSort sortOf isSilent each atCell atLine inLines atEnd sameKey isUndeclared lacksColumn nearestIn flawAt rules hasForm hasKey asks modeOf typeOf earliest isPresent isAsked upFrom wantsOf wantsIn isUnmet lastCell endRules breaksBy breaks
+unfolding cases files sameBreaks bytes same begins isEmpty any all onFirst splitOn lines startsLf coded cell isField control firstFrom written digits number bracketed indexAt areDigits unsigned unmarked dotted isE mantissa exponent isExponent isUnsigned isText isWhole isNumeral isDecimal isDecimals isWindow isNull quotedAfter cutOutside isSpace hasFields isParameter isParameters piecesFrom entryOf fits firstOf keys isColunit proteinColumns peptideColumns psmColumns moleculeColumns proteinRequired peptideRequired psmRequired moleculeRequired mzTab demands bookOf isSection sectionOf codedFrom keyOf isOpt optOf columnOf declares refIn refTo refFlaw trimmed refsTo isReferences flawAmong refsFlaw familyNumber isKept isFixed namedIn ofKind kindFlaw cellOfKind codeSort sortOf isSilent each atCell atLine inLines atEnd sameKey isUndeclared lacksColumn nearestIn flawAt rules hasForm hasKey asks modeOf typeOf earliest isPresent isAsked upFrom wantsOf wantsIn isUnmet lastCell endRules breaksBy breaks
 all-hold = refl

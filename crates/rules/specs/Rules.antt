@@ -1,11 +1,11 @@
 -- When a line breaks each of the 24 rules: paper 01, 'The 21 rules', one line each, in its words and order, with what stops it; rule 22 of request 2026-01;
--- and rules 23 and 24 of request 2026-05. Assumes nothing.
+-- and rules 23 and 24 of request 2026-05. Rules 6, 9 and 13 say where it stands first, as request 2026-08 asks. Assumes nothing.
 use Prim.Native.Nat.{ℕ, _+_, _-_}
-use mathlib.Core.Bool.{Bool, true, false, cond, not, _&&_, _||_}
+use mathlib.Core.Bool.{Bool, false, cond, not, _&&_, _||_}
 use mathlib.Core.List.{List, [], _∷_, _++_, map}
 use lib.ListN.{length, getD, take, drop}
 use lib.Dec.{eqb, leb, ltb}
-use Rattle.text_bytes.specs.Bytes.{Bytes, bytes, same, isEmpty, any, all}
+use Rattle.text_bytes.specs.Bytes.{Bytes, bytes, same, isEmpty, any, all, firstFrom}
 use Rattle.text.specs.Lines.{lines, cells, cell, width, isMeta, isThree, isField}
 use Rattle.book.specs.Keys.{isColunit}
 use Rattle.book.specs.Book.{Demand, ONCE, Want, want, wants, lastCell, Book, hasForm, sectionOf, keyOf, isOpt, columnOf, bookOf}
@@ -21,7 +21,7 @@ use Rattle.book_kinds.specs.Kinds.{ofKind, kindFlaw, cellOfKind, familyNumber, 
 use Rattle.book_names.specs.declared.Found.{Found}
 use Rattle.book_names.specs.declared.Found.the-variants.{Unknown, Known}
 use Rattle.rules.specs.Sorts.{header, row, isHeader, isRow, isTable, isUnknown, controlCell}
-use Rattle.rules.specs.Breaks.{Break, Spot, Rule, rule, inLines, atEnd}
+use Rattle.rules.specs.Breaks.{Break, Spot, Rule, again, rule, inLines, atEnd}
 
 -- METADATA LINES
 
@@ -138,7 +138,7 @@ flawAt b p c =
     (cond (leb 2 c && isJudged b p) (whyNot (columnFound b (header b (p .here)) (p .here) c))
     Form))
 
--- THE RULES of a line, by a book
+-- THE RULES of a line, by a book; of what comes again also the line where it stands first, and of a name the cell, where names begin at cell 2
 unfoldable pub rules : Book → List Rule
 rules b =
     rule 1 (λ p c. eqb (controlCell (p .here)) c)
@@ -146,14 +146,17 @@ rules b =
     ∷ rule 3 (λ p c. eqb c 1 && (isMeta (p .here) && not (isThree (p .here))))
     ∷ rule 4 (λ p c. eqb c 1 && (isMeta (p .here) && any (isTable b) (p .above)))
     ∷ rule 5 (λ p c. isMeta (p .here) && (eqb c 2 && (isThree (p .here) && isStrange (keyFound b (p .here)))))
-    ∷ rule 6 (λ p c. isMeta (p .here) && (eqb c 2 && (isThree (p .here) && (isKnown (keyFound b (p .here)) && (not (isColunit (cell 2 (p .here))) && any (sameKey (p .here)) (p .above))))))
+    ∷ again 6 (λ p c. isMeta (p .here) && (eqb c 2 && (isThree (p .here) && (isKnown (keyFound b (p .here)) && (not (isColunit (cell 2 (p .here))) && any (sameKey (p .here)) (p .above))))))
+    (λ p c. firstFrom 1 (sameKey (p .here)) (p .above))
     ∷ rule 7 (λ p c. isMeta (p .here) && (eqb c 3 && (isThree (p .here) && isWrong (keyFound b (p .here)) (cell 3 (p .here)))))
     ∷ rule 8 (λ p c. isMeta (p .here) && (eqb c 3 && (isThree (p .here) && namesUndeclared b (p .file) (keyFound b (p .here)) (cell 3 (p .here)))))
-    ∷ rule 9 (λ p c. eqb c 1 && (isHeader b (p .here) && any (ofSection b (header b (p .here))) (p .above)))
+    ∷ again 9 (λ p c. eqb c 1 && (isHeader b (p .here) && any (ofSection b (header b (p .here))) (p .above)))
+    (λ p c. firstFrom 1 (ofSection b (header b (p .here))) (p .above))
     ∷ rule 10 (λ p c. eqb c 1 && (isHeader b (p .here) && any (ofLater b (header b (p .here))) (p .above)))
     ∷ rule 11 (λ p c. eqb c 1 && (isHeader b (p .here) && isWide (p .here)))
     ∷ rule 12 (λ p c. leb 2 c && (isJudged b p && isStrange (columnFound b (header b (p .here)) (p .here) c)))
-    ∷ rule 13 (λ p c. leb 2 c && (isJudged b p && any (same (cell c (p .here))) (namesBefore (p .here) c)))
+    ∷ again 13 (λ p c. leb 2 c && (isJudged b p && any (same (cell c (p .here))) (namesBefore (p .here) c)))
+    (λ p c. firstFrom 2 (same (cell c (p .here))) (namesBefore (p .here) c))
     ∷ rule 14 (λ p c. leb 2 c && (isJudged b p && (not (isOpt (cell c (p .here))) && any isOpt (namesBefore (p .here) c))))
     ∷ rule 15 (λ p c. leb 2 c && (isJudged b p && columnUndeclared b (p .file) (columnFound b (header b (p .here)) (p .here) c)))
     ∷ rule 16 (λ p c. eqb c 1 && (isJudged b p && lacksColumn b (askedOf b (p .file)) (header b (p .here)) (names (p .here))))

@@ -3,10 +3,10 @@
 use Prim.Native.Nat.{ℕ, suc, _+_, _-_, _≤_, _<_}
 use mathlib.Core.Path.{_≡_}
 use mathlib.Core.Bool.{Bool, true, false, cond, not, _&&_, _||_}
-use mathlib.Core.List.{List, [], _∷_}
+use mathlib.Core.List.{List, [], _∷_, map}
 use lib.ListN.{length, getD, take, drop}
 use lib.Dec.{eqb, leb, ltb}
-use Rattle.text_bytes.specs.Bytes.{Bytes, same, isEmpty, any}
+use Rattle.text_bytes.specs.Bytes.{Bytes, same, isEmpty, any, firstFrom}
 use Rattle.book.specs.Letters.{NONE, ASSAYS}
 use Rattle.book.specs.Keys.{isColunit}
 use Rattle.book.specs.Book.{SECTIONS, SLOTS, Demand, Want, cellOf, wants, Book, keyOf, keyEntries, isOpt, columnOf}
@@ -23,8 +23,8 @@ use Rattle.book_names.specs.declared.Found.{Found}
 use Rattle.book_names.specs.declared.Found.the-variants.{Unknown, Known}
 use Rattle.text.specs.Lines.{width, isField}
 use Rattle.rules.specs.Sorts.{header}
-use Rattle.rules.specs.Breaks.{Break, breakAt, when}
-use Rattle.rules.specs.Rules.{keyFound, lastIndex, lacksColumn, names, kindIn, namedIn, isPresent}
+use Rattle.rules.specs.Breaks.{Break, breakWith, breakAt, when}
+use Rattle.rules.specs.Rules.{keyFound, ofSection, lastIndex, lacksColumn, names, kindIn, namedIn, isPresent}
 
 -- CELLS
 
@@ -41,9 +41,13 @@ controlAt cc n c rest = when (eqb cc c) (breakAt n c 1) rest
 abbrev pub plainRest : ℕ → ℕ → List Break → List Break
 plainRest cc n rest = when (ltb 1 cc) (breakAt n cc 1) rest
 
--- the rule r at cell c, where it is one: 0 is none
-abbrev pub ruleAt : ℕ → ℕ → ℕ → List Break → List Break
-ruleAt r n c rest = when (not (eqb r 0)) (breakAt n c r) rest
+-- the rule r at cell c, of what stands first at f, where there is a first: 0 is none
+abbrev pub againAt : ℕ → ℕ → ℕ → ℕ → List Break → List Break
+againAt r n c f rest = when (not (eqb f 0)) (breakWith n c r f) rest
+
+-- and where it is a rule: 0 is none
+abbrev pub ruleAt : ℕ → ℕ → ℕ → ℕ → List Break → List Break
+ruleAt r n c f rest = when (not (eqb r 0)) (breakWith n c r f) rest
 
 -- the rule that a bad index breaks; r where none is bad
 abbrev pub flawRule : Flaw → ℕ → ℕ
@@ -65,20 +69,21 @@ idsOf flags f i = getD (getD flags f []) (i - 1) false
 abbrev pub Asked : Type 0
 Asked = ℕ → Bool
 
--- METADATA LINES, by the slots of the keys that came before
+-- METADATA LINES, by the slots of keys, which have the first lines of those that came before
 
-abbrev pub againIn : Book → List Bool → Bytes → Found → Bool
-againIn b slots key (Unknown w) = false
-againIn b slots key (Known e k f i j) = not (isColunit key) && getD slots (slotOf (keyEntries b) e i j) false
+-- the line where a key stands first that may not come again
+abbrev pub firstIn : Book → List ℕ → Bytes → Found → ℕ
+firstIn b slots key (Unknown w) = 0
+firstIn b slots key (Known e k f i j) = cond (isColunit key) 0 (getD slots (slotOf (keyEntries b) e i j) 0)
 
 abbrev pub undeclaredIn : Ids → Found → Bytes → Bool
 undeclaredIn ids (Unknown w) v = false
 undeclaredIn ids (Known e k f i j) v = ofKind k f v && any (λ i. not (ids (familyNumber f) i)) (namedIn k f v)
 
 -- the one rule of 5, 6, 23 and 24 that a key breaks, and of 7, 8, 23 and 24 that its value breaks, 0 for none
-abbrev pub keyRule : Bool → Found → ℕ
-keyRule again (Unknown w) = flawRule w 5
-keyRule again (Known e k f i j) = cond again 6 0
+abbrev pub keyRule : ℕ → Found → ℕ
+keyRule first (Unknown w) = flawRule w 5
+keyRule first (Known e k f i j) = cond (not (eqb first 0)) 6 0
 
 abbrev pub kindRule : Ids → ℕ → ℕ → Bytes → ℕ
 kindRule ids k f v = cond (ofKind k f v) (cond (any (λ i. not (ids (familyNumber f) i)) (namedIn k f v)) 8 0) (flawRule (kindFlaw k f v) 7)
@@ -88,16 +93,20 @@ valueRule ids (Unknown w) v = 0
 valueRule ids (Known e k f i j) v = kindRule ids k f v
 
 -- the key and the value, cells 2 and 3
-abbrev pub fieldRule : Book → List Bool → Ids → Bytes → Bytes → ℕ → ℕ
+abbrev pub fieldRule : Book → List ℕ → Ids → Bytes → Bytes → ℕ → ℕ
 fieldRule b slots ids key value c =
-    cond (eqb c 2) (keyRule (againIn b slots key (keyOf b key)) (keyOf b key))
+    cond (eqb c 2) (keyRule (firstIn b slots key (keyOf b key)) (keyOf b key))
     (cond (eqb c 3) (valueRule ids (keyOf b key) value) 0)
 
-abbrev pub metaCell : Book → List Bool → Ids → Bytes → Bytes → ℕ → ℕ → ℕ → Bytes → List Break → List Break
-metaCell b slots ids key value cc n c x rest = controlAt cc n c (ruleAt (fieldRule b slots ids key value c) n c rest)
+-- only a key stands first somewhere
+abbrev pub fieldFirst : Book → List ℕ → Bytes → ℕ → ℕ
+fieldFirst b slots key c = cond (eqb c 2) (firstIn b slots key (keyOf b key)) 0
+
+abbrev pub metaCell : Book → List ℕ → Ids → Bytes → Bytes → ℕ → ℕ → ℕ → Bytes → List Break → List Break
+metaCell b slots ids key value cc n c x rest = controlAt cc n c (ruleAt (fieldRule b slots ids key value c) n c (fieldFirst b slots key c) rest)
 
 -- an MTD line of the cells xs; `table` says whether a header or row stands above
-unfoldable pub metaBreaks : Book → Bool → List Bool → Ids → ℕ → ℕ → List Bytes → List Break → List Break
+unfoldable pub metaBreaks : Book → Bool → List ℕ → Ids → ℕ → ℕ → List Bytes → List Break → List Break
 metaBreaks b table slots ids cc n xs rest =
     controlAt cc n 1
     (when (not (eqb (length xs) 3)) (breakAt n 1 3)
@@ -115,9 +124,9 @@ abbrev pub Within : Found → Type 0
 Within (Unknown w) = Unit
 Within (Known e k f i j) = eqb f NONE ≡ false → (familyNumber f < 4) × (1 ≤ lastIndex i j) × (lastIndex i j ≤ 64)
 
--- a column name that the book answers so, by whether it came before: what its bytes and the ids do not decide
-abbrev pub knownBreaks : Bool → Found → ℕ → ℕ → ℕ → List Break → List Break
-knownBreaks again found cc n c rest = controlAt cc n c (when (isStrange found) (breakAt n c 12) (when again (breakAt n c 13) rest))
+-- a column name that the book answers so, by the cell where it stands first, 0 where it did not come before: what its bytes and the ids do not decide
+abbrev pub knownBreaks : ℕ → Found → ℕ → ℕ → ℕ → List Break → List Break
+knownBreaks first found cc n c rest = controlAt cc n c (when (isStrange found) (breakAt n c 12) (againAt 13 n c first rest))
 
 -- the one rule of 15, 23 and 24 that it breaks, 0 for none
 abbrev pub nameRule : Ids → Found → ℕ
@@ -125,28 +134,29 @@ nameRule ids (Unknown w) = flawRule w 0
 nameRule ids (Known e k f i j) = cond (columnIn ids (Known e k f i j)) 15 0
 
 -- and by whether an optional one came before
-abbrev pub nameCell : Bool → Bool → Ids → Found → ℕ → ℕ → ℕ → Bytes → List Break → List Break
-nameCell again opt ids found cc n c x rest =
-    knownBreaks again found cc n c
+abbrev pub nameCell : ℕ → Bool → Ids → Found → ℕ → ℕ → ℕ → Bytes → List Break → List Break
+nameCell first opt ids found cc n c x rest =
+    knownBreaks first found cc n c
     (when (not (isOpt x) && opt) (breakAt n c 14)
-    (ruleAt (nameRule ids found) n c rest))
+    (ruleAt (nameRule ids found) n c 0 rest))
 
 abbrev pub headCell : Book → ℕ → List Bytes → Ids → ℕ → ℕ → ℕ → Bytes → List Break → List Break
-headCell b section ns ids cc n c x rest = nameCell (any (same x) (take (c - 2) ns)) (any isOpt (take (c - 2) ns)) ids (columnOf b section x) cc n c x rest
+headCell b section ns ids cc n c x rest = nameCell (firstFrom 2 (same x) (take (c - 2) ns)) (any isOpt (take (c - 2) ns)) ids (columnOf b section x) cc n c x rest
 
--- cell 1, where the names do not decide; `again` and `later` say whether a header of its section, of a later one stands above
-abbrev pub headFirst : Bool → Bool → Bool → ℕ → ℕ → List Break → List Break
-headFirst again later wide cc n rest = controlAt cc n 1 (when again (breakAt n 1 9) (when later (breakAt n 1 10) (when wide (breakAt n 1 11) rest)))
+-- cell 1, where the names do not decide; `first` is the line of the first header of its section above, 0 for none, `later` says whether one of a later section
+-- stands there
+abbrev pub headFirst : ℕ → Bool → Bool → ℕ → ℕ → List Break → List Break
+headFirst first later wide cc n rest = controlAt cc n 1 (againAt 9 n 1 first (when later (breakAt n 1 10) (when wide (breakAt n 1 11) rest)))
 
 -- the names: one rule at cell 1, and those at each
 abbrev pub nameBreaks : Book → Asked → ℕ → Ids → ℕ → ℕ → List Bytes → List Break → List Break
 nameBreaks b asked section ids cc n ns rest = when (lacksColumn b asked section ns) (breakAt n 1 16) (eachCell (headCell b section ns ids cc n) 2 ns rest)
 
 -- a header of the cells xs
-unfoldable pub headBreaks : Book → Asked → ℕ → Bool → Bool → Ids → ℕ → ℕ → List Bytes → List Break → List Break
-headBreaks b asked section again later ids cc n xs rest =
+unfoldable pub headBreaks : Book → Asked → ℕ → ℕ → Bool → Ids → ℕ → ℕ → List Bytes → List Break → List Break
+headBreaks b asked section first later ids cc n xs rest =
     let wide = ltb 256 (length xs) in
-    headFirst again later wide cc n (cond wide (plainRest cc n rest) (nameBreaks b asked section ids cc n (drop 1 xs) rest))
+    headFirst first later wide cc n (cond wide (plainRest cc n rest) (nameBreaks b asked section ids cc n (drop 1 xs) rest))
 
 -- the kinds of a header's columns, cell c's at place c - 1
 abbrev pub KindsOf : Book → ℕ → List Bytes → List ℕ → Type 0
@@ -195,15 +205,33 @@ isSlot b s (Known e k f i j) = eqb (slotOf (keyEntries b) e i j) s
 unfoldable pub hasSlot : Book → ℕ → Bytes → Bool
 hasSlot b s m = isField m && isSlot b s (keyFound b m)
 
--- the slots say which keys came before
-abbrev pub Slots : Book → List Bytes → List Bool → Type 0
-Slots b above slots = (s : ℕ) → s < SLOTS → getD slots s false ≡ any (hasSlot b s) above
+-- THE FIRST LINES stand in a list: a slot for each key, and behind them one for the headers of each section
+abbrev pub FIRSTS : ℕ
+FIRSTS = 43284
+
+abbrev pub headerSlot : ℕ → ℕ
+headerSlot section = SLOTS + section
+
+-- the slots have the first lines of the keys that came before, and 0 of others
+abbrev pub Slots : Book → List Bytes → List ℕ → Type 0
+Slots b above slots = (s : ℕ) → s < SLOTS → getD slots s 0 ≡ firstFrom 1 (hasSlot b s) above
+
+-- and those of the headers
+abbrev pub Headers : Book → List Bytes → List ℕ → Type 0
+Headers b above slots = (i : ℕ) → 0 < i → i < SECTIONS → getD slots (headerSlot i) 0 ≡ firstFrom 1 (ofSection b i) above
+
+-- the slots of keys say which came
+abbrev pub marks : List ℕ → List Bool
+marks slots = map (λ n. not (eqb n 0)) slots
+
+abbrev pub Marks : Book → List Bytes → List Bool → Type 0
+Marks b above came = (s : ℕ) → s < SLOTS → getD came s false ≡ any (hasSlot b s) above
 
 -- the ids say what the file declares
 abbrev pub Declares : Book → List Bytes → Ids → Type 0
 Declares b file ids = (f i : ℕ) → f < 4 → 1 ≤ i → i ≤ 64 → ids f i ≡ any (declares b f i) file
 
--- REQUIRED METADATA, by the slots of all lines, the ids, the facts and the sections present
+-- REQUIRED METADATA, by the slots that all lines marked, the ids, the facts and the sections present
 
 -- what was found of the file
 pub record Seen : Type 0 where
@@ -215,7 +243,7 @@ pub record Seen : Type 0 where
 
 -- it says what the file has
 pub record SeenOf (b : Book) (file : List Bytes) (x : Seen) : Type 0 where
-  pub slots : Slots b file (x .slots)
+  pub slots : Marks b file (x .slots)
   pub ids : Declares b file (idsOf (x .flags))
   pub mode : x .mode ≡ modeOf file
   pub typed : x .typed ≡ typeOf file

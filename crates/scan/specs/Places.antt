@@ -1,4 +1,4 @@
--- The lent list of places, three for each break: rule, line, cell. Assumes nothing.
+-- The lent list of places, four for each break: rule, line, cell, first. Assumes nothing.
 use Prim.Native.Nat.{ℕ, _+_, _*_, _≤_}
 use mathlib.Core.Path.{_≡_}
 use mathlib.Core.Bool.{cond}
@@ -16,23 +16,24 @@ pub record Lent : Type 0 where
 abbrev pub lent : List ℕ → ℕ → Lent
 lent ys k = record { places = ys; count = k }
 
-abbrev pub three : List ℕ → ℕ → ℕ → ℕ → ℕ → List ℕ
-three ys at r n c = set (set (set ys at r) (at + 1) n) (at + 2) c
+abbrev pub four : List ℕ → ℕ → Break → List ℕ
+four ys at b = set (set (set (set ys at (b .rule)) (at + 1) (b .line)) (at + 2) (b .cell)) (at + 3) (b .first)
 
 -- one break more: counted in any case, and written where all of its places are there
 unfoldable pub put : Lent → Break → Lent
 put o b =
-    lent (cond (leb (3 * o .count + 3) (length (o .places))) (three (o .places) (3 * o .count) (b .rule) (b .line) (b .cell)) (o .places)) (o .count + 1)
+    lent (cond (leb (4 * o .count + 4) (length (o .places))) (four (o .places) (4 * o .count) b) (o .places)) (o .count + 1)
 
 unfoldable pub putAll : Lent → List Break → Lent
 putAll o [] = o
 putAll o (b ∷ bs) = putAll (put o b) bs
 
--- rule, line and cell of a break stand from place a on
+-- rule, line, cell and first of a break stand from place a on
 pub record Written (ys : List ℕ) (a : ℕ) (f : Break) : Type 0 where
   pub rule : getD ys a 0 ≡ f .rule
   pub line : getD ys (a + 1) 0 ≡ f .line
   pub cell : getD ys (a + 2) 0 ≡ f .cell
+  pub first : getD ys (a + 3) 0 ≡ f .first
 
 -- HOW MANY AT MOST
 

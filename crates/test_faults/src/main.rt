@@ -17,13 +17,14 @@ const SHOWN: usize = 4096;
 
 // A list of records, as the judging call leaves it, and the count that it answers.
 fn listed(file: &[u8], count: &mut u32) -> [Fault; 4096]
-    ensures { λ r. ⌜ r ≡ judged (now (file .entry)) (replicate 4096 (fault 0 0 0)) .faults ⌝ }
-    ensures { λ r. ⌜ now (count .exit) ≡ judged (now (file .entry)) (replicate 4096 (fault 0 0 0)) .count ⌝ }
+    ensures { λ r. ⌜ r ≡ judged (now (file .entry)) (replicate 4096 (fault 0 0 0 0)) .faults ⌝ }
+    ensures { λ r. ⌜ now (count .exit) ≡ judged (now (file .entry)) (replicate 4096 (fault 0 0 0 0)) .count ⌝ }
 {
     let mut list = [Fault {
         rule: 0,
         line: 0,
         cell: 0,
+        first: 0,
     }; 4096];
     let mut number: u32 = 0;
     *count = judge(file, &mut list, &mut number);
@@ -38,7 +39,7 @@ fn print_records(list: [Fault; 4096], count: usize) {
             return;
         }
         let f = list[k];
-        print_break(f.line, f.cell, f.rule);
+        print_break(f.line, f.cell, f.rule, f.first);
         k += 1;
     }
 }

@@ -7,3 +7,4 @@ pub mod Each
 pub mod Same
 pub mod Begins
 pub mod Blocks
+pub mod Firsts

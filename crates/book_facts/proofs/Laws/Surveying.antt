@@ -1,5 +1,5 @@
 -- Facts with one line more: what was found before stays, and the lines that are left decide the rest. Assumes nothing.
-use Prim.Native.Nat.{ℕ, zero, suc, _+_, _-_, _≤_, _<_}
+use Prim.Native.Nat.{ℕ, zero, suc, _+_, _-_, _≤_}
 use Prim.Native.String.{String}
 use mathlib.Core.Path.{_≡_, refl, sym, ap, subst, _∙_}
 use mathlib.Core.Bool.{Bool, true, false, cond, _&&_, _||_, and-false}
@@ -7,11 +7,9 @@ use mathlib.Core.List.{List, [], _∷_}
 use mathlib.Core.Option.{none as nothing, some}
 use native.Mathlib.Omega.{arith}
 use lib.Dec.{eqb}
-use lib.ListN.{length, getD, getElem?, take, drop}
-use lib.Seq.{drop-cons}
+use lib.ListN.{length, getD, getElem?}
 use borrow.Author.Tests.{eqb-true, ne-eqb, eq-eqb}
 use Rattle.text_bytes.specs.Bytes.{Bytes, bytes, same, begins, splitOn, onFirst}
-use Rattle.text_bytes.specs.Places.{part}
 use Rattle.text_bytes.proofs.Laws.Same.{same-equal}
 use Rattle.text_bytes.proofs.Laws.Tests.{absurd-bool}
 use Rattle.text.specs.Lines.{cells, cell, coded, isMeta, isField}

@@ -1,18 +1,16 @@
 -- `book_facts::survey`: the flags and the facts so far, and the lines that are left, decide. Assumes nothing.
 use borrow.Author.Needs.{needs}
 use native.Mathlib.Omega.{arith}
-use mathlib.Core.Path.{_≡_, refl, sym, ap, subst⁻¹}
+use mathlib.Core.Path.{refl, subst⁻¹}
 use mathlib.Core.List.{List}
 use mathlib.Core.Bool.{Bool}
-use Prim.Native.Nat.{ℕ, _+_, _-_, _≤_}
+use Prim.Native.Nat.{_+_, _-_, _≤_}
 use lib.ListN.{length, drop}
 use Rattle.text_bytes.specs.Places.{part}
 use Rattle.text.specs.Lines.{lines}
 use Rattle.text.proofs.Laws.Lines.{lines-done}
-use Rattle.book.specs.Book.{Book}
 use Rattle.book.specs.Text.{bookIn}
-use Rattle.book_facts.specs.Facts.{noted}
-use Rattle.book_ids.specs.Ids.{Flags, lineId, marked}
+use Rattle.book_ids.specs.Ids.{Flags, lineId}
 use Rattle.book_ids.proofs.Laws.Marks.{Left as IdsLeft, start-flags, left-start as ids-start, left-next as ids-next, left-done as ids-done, marked-flags, line-range}
 use Rattle.book_facts.specs.declared.Facts.{Facts}
 use Rattle.book_facts.proofs.Laws.Surveying.{Left, left-start, left-next, left-passed, ids-passed, left-done}

@@ -3,7 +3,7 @@ use mathlib.Core.Path.{_≡_, refl, sym, ap, _∙_}
 use mathlib.Core.Bool.{Bool, true, false, cond}
 use mathlib.Core.List.{List, [], _∷_, _++_, map, map-append}
 use Prim.Native.Nat.{ℕ, zero, suc, _+_, _-_, _*_, _≤_, _<_, min}
-use native.Mathlib.Nat.{not-suc-le-zero, zero-min, min-zero, suc-min-suc}
+use native.Mathlib.Nat.{zero-min, min-zero, suc-min-suc}
 use native.Mathlib.Omega.{arith}
 use lib.Dec.{leb}
 use lib.Seq.{sets, set-out, drop-drop, drop-cons, length-take-le}
@@ -62,19 +62,19 @@ records-take ps j zero m = ap (records ps j) (zero-min m) ∙ none m
     none zero = refl
     none (suc m) = refl
 records-take ps j (suc k) zero = ap (records ps j) (min-zero (suc k))
-records-take ps j (suc k) (suc m) = ap (records ps j) (suc-min-suc k m) ∙ ap (λ (fs : List Fault). recordAt ps j ∷ fs) (records-take ps (j + 3) k m)
+records-take ps j (suc k) (suc m) = ap (records ps j) (suc-min-suc k m) ∙ ap (λ (fs : List Fault). recordAt ps j ∷ fs) (records-take ps (j + 4) k m)
 
 -- the breaks that were put are read back as records
-records-put : (bs : List Break) (ys : List ℕ) (t i : ℕ) → i + t ≡ length bs → 3 * length bs ≤ length ys → records (putAll (lent ys 0) bs .places) (3 * i) t ≡ map faultOf (drop i bs)
+records-put : (bs : List Break) (ys : List ℕ) (t i : ℕ) → i + t ≡ length bs → 4 * length bs ≤ length ys → records (putAll (lent ys 0) bs .places) (4 * i) t ≡ map faultOf (drop i bs)
 records-put bs ys zero i e h = ap (map faultOf) (sym (drop-of-length-le bs {i = i} (omega arith)))
 records-put bs ys (suc t) i e h =
     let z : 0 + i ≡ i = omega arith in
-    let w : 3 * i + 3 ≡ 3 * suc i = omega arith in
+    let w : 4 * i + 4 ≡ 4 * suc i = omega arith in
     let ps = putAll (lent ys 0) bs .places in
     let b = getD bs i (breakAt 0 0 0) in
-    let held : Written ps (3 * i) b = rw z at (placed-at bs ys 0 i (omega arith) (omega arith)) in
-    let first : recordAt ps (3 * i) ≡ faultOf b = rw (held .rule, held .line, held .cell) in
-    ap (λ (f : Fault). f ∷ records ps (3 * i + 3) t) first ∙ ap (λ (j : ℕ). faultOf b ∷ records ps j t) w ∙ ap (λ (fs : List Fault). faultOf b ∷ fs) (records-put bs ys t (suc i) (omega arith) h)
+    let held : Written ps (4 * i) b = rw z at (placed-at bs ys 0 i (omega arith) (omega arith)) in
+    let first : recordAt ps (4 * i) ≡ faultOf b = rw (held .rule, held .line, held .cell, held .first) in
+    ap (λ (f : Fault). f ∷ records ps (4 * i + 4) t) first ∙ ap (λ (j : ℕ). faultOf b ∷ records ps j t) w ∙ ap (λ (fs : List Fault). faultOf b ∷ fs) (records-put bs ys t (suc i) (omega arith) h)
     ∙ ap (map faultOf) (sym (drop-cons bs i (breakAt 0 0 0) (omega arith)))
 
 -- WHAT IS REPORTED of a file, by the limit
@@ -91,7 +91,7 @@ module _ (file : Bytes) where
 
 -- A STEP: the places hold the breaks of a part
 
-module _ {file : Bytes} {room : ℕ} {s r : Stand} {ps ps' : List ℕ} (p : Parts (bookOf (lines file)) file room s r ps ps') (fits : 3 * r .held ≤ length ps) where
+module _ {file : Bytes} {room : ℕ} {s r : Stand} {ps ps' : List ℕ} (p : Parts (bookOf (lines file)) file room s r ps ps') (fits : 4 * r .held ≤ length ps) where
   -- the breaks of the part, and those after it
   abbrev now : List Break
   now = take (r .held) (drop (putSoFar s) (breaksBy (bookOf (lines file)) (lines file)))

@@ -43,7 +43,7 @@ all-is : (file : Bytes) (ys : List Fault) → outcome (lengthNumber file) (lengt
 unfolding reported lengthNumber judged
 all-is file ys = by-limit (ltb LIMIT (length file)) (breaks file) ys
 
-pub ended : (file : Bytes) (s : Progress) (slots : List Bool) (cur ys : List Fault) → Between file s slots → s .more ≡ false → sets cur (s .count) (remaining file s) ≡ whole file ys → outcome (s .number) (s .count) cur ≡ judged file ys
+pub ended : (file : Bytes) (s : Progress) (slots : List ℕ) (cur ys : List Fault) → Between file s slots → s .more ≡ false → sets cur (s .count) (remaining file s) ≡ whole file ys → outcome (s .number) (s .count) cur ≡ judged file ys
 ended file s slots cur ys g e ahead =
     ap (λ (n : ℕ). outcome n (s .count) cur) (g .number) ∙ ap (λ (k : ℕ). outcome (lengthNumber file) k cur) (g .done e)
     ∙ ap (outcome (lengthNumber file) (length (reported file))) (sym (ap (sets cur (s .count)) (none-left (reported file) (s .count) (g .done e))) ∙ ahead) ∙ all-is file ys

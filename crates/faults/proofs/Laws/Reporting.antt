@@ -43,7 +43,7 @@ module _ (file : Bytes) (ys : List Fault) {n k : ℕ} {zs : List Fault} (call : 
           reports = breaks-reported file;
           number = ap (λ (x : Outcome). x .number) whole;
           count = many;
-          none-broken = λ z l c r h. accepted-whole file (length-none (breaks file) (sym many ∙ z)) h;
+          none-broken = λ z l c r f h. accepted-whole file (length-none (breaks file) (sym many ∙ z)) h;
           accepted = λ h. many ∙ ap length (whole-accepted file h);
           long = ap length records ∙ recorded-length (breaks file) ys;
           stands = λ i f l. ap (λ (r : List Fault). getD r i (faultOf (breakAt 0 0 0))) records ∙ recorded-at (breaks file) ys i (omega (arith, f, many)) l;

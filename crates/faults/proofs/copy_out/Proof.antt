@@ -106,7 +106,7 @@ module _ {M : Type 1} (𝓤 : URA M) (H : Heap 𝓤) (A : Atoms 𝓤) (W : Given
     abbrev to-put : Put 𝓤 H A mem run .Ghost
     to-put = (((κ, (β ∷ [], tt)), (q, (fullShare, tt)), tt, put-args, by-slices.vals u32 T.the-row κ (β ∷ []) p b o ζ cur j k), tt)
 
-    ask-put : j < 2 ^ 64 → k < 2 ^ 64 → j + 2 < length (p .now) → k < length cur
+    ask-put : j < 2 ^ 64 → k < 2 ^ 64 → j + 3 < length (p .now) → k < length cur
         → ent 𝓤 (⋆ 𝓤 H A (‵ (flft κ q) ∷ ‵ Own ∷ ‵ (flft (β ∷ []) fullShare) ∷ ‵ Again ∷ [])) (sep 𝓤 (Put 𝓤 H A mem run .pre to-put) (sem 𝓤 H A Own))
     ask-put j-fits k-fits enough within =
         qed W (‵ (flft κ q) ∷ ‵ Own ∷ ‵ (flft (β ∷ []) fullShare) ∷ ‵ Again ∷ []) ∵
@@ -126,7 +126,7 @@ module _ {M : Type 1} (𝓤 : URA M) (H : Heap 𝓤) (A : Atoms 𝓤) (W : Given
     pub k : ℕ
     pub cur : List Fault
     pub k-is : k + t ≡ at + n
-    pub j-is : j + t * 3 ≤ length (p .now)
+    pub j-is : j + t * 4 ≤ length (p .now)
     pub long : length cur ≡ length ys
     pub ahead : sets cur k (records (p .now) j t) ≡ final
 
@@ -136,7 +136,7 @@ module _ {M : Type 1} (𝓤 : URA M) (H : Heap 𝓤) (A : Atoms 𝓤) (W : Given
   less-wf : WellFounded less
   less-wf = InvImage·wf (λ (y : Turn). y .t) (Nat·lt-wfRel .wf)
 
-  module _ (𝓣 : Tables 𝓤 H) (known : Triple 𝓤 (𝓣 .C #faults·put-record) (Put 𝓤 H A mem run)) (F : Passed u32 T.the-row κ κ′ p b o γ ys at n) (enough : n * 3 ≤ length (p .now)) (within : at + n ≤ length ys) where
+  module _ (𝓣 : Tables 𝓤 H) (known : Triple 𝓤 (𝓣 .C #faults·put-record) (Put 𝓤 H A mem run)) (F : Passed u32 T.the-row κ κ′ p b o γ ys at n) (enough : n * 4 ≤ length (p .now)) (within : at + n ≤ length ys) where
     abbrev C : Calls 𝓤 H
     C = 𝓣 .C
 
@@ -160,8 +160,8 @@ module _ {M : Type 1} (𝓤 : URA M) (H : Heap 𝓤) (A : Atoms 𝓤) (W : Given
       Left = afterBlock 𝓤 H (afterSeq 𝓤 H (Wp 𝓤 H C Λ En M′.t-5 (atReturn 𝓤 H En Post)) (atReturn 𝓤 H En Post))
 
       -- a turn that writes one record
-      more : (j k : ℕ) (cur : List Fault) (X : SProp 𝓤) → k < at + n → k < length cur → j + 3 ≤ length (p .now) → length cur ≡ length ys
-          → ((zs : List Fault) → length zs ≡ length cur → Stored j k cur zs → ent 𝓤 (⋆ 𝓤 H A (At (j + 3) (k + 1) zs)) X) → ent 𝓤 (⋆ 𝓤 H A (At j k cur)) (Wp 𝓤 H C Λ En M′.turn-1 (afterTurn 𝓤 H X Left))
+      more : (j k : ℕ) (cur : List Fault) (X : SProp 𝓤) → k < at + n → k < length cur → j + 4 ≤ length (p .now) → length cur ≡ length ys
+          → ((zs : List Fault) → length zs ≡ length cur → Stored j k cur zs → ent 𝓤 (⋆ 𝓤 H A (At (j + 4) (k + 1) zs)) X) → ent 𝓤 (⋆ 𝓤 H A (At j k cur)) (Wp 𝓤 H C Λ En M′.turn-1 (afterTurn 𝓤 H X Left))
       unfolding afterTurn
       more j k cur X small inside room-j l next =
           qed W (At j k cur) ∵ exec ! C Λ En M′.turn-1 (anyQ (afterTurn 𝓤 H X Left)) $
@@ -200,13 +200,13 @@ module _ {M : Type 1} (𝓤 : URA M) (H : Heap 𝓤) (A : Atoms 𝓤) (W : Given
           rooms : Room T.the-row (length cur)
           rooms = subst (Room T.the-row) (sym l) (F .rooms)
 
-          j-next : j + 3 < 2 ^ 64
+          j-next : j + 4 < 2 ^ 64
           j-next = omega (arith, room-j, p-fits)
 
           j-fits : j < 2 ^ 64
           j-fits = omega (arith, room-j, p-fits)
 
-          j-small : j + 2 < length (p .now)
+          j-small : j + 3 < length (p .now)
           j-small = omega (arith, room-j)
 
           k-next : k + 1 < 2 ^ 64
@@ -230,13 +230,13 @@ module _ {M : Type 1} (𝓤 : URA M) (H : Heap 𝓤) (A : Atoms 𝓤) (W : Given
           by ! (by-slices.exits u32 T.the-row κ κ′ p b o γ ys at n 𝓤 H A W q q′ (f′.clauses 𝓤 H A mem run) tt F cur l (factI 𝓤 _ (emp 𝓤) e))
 
       -- a turn leaves the loop, or ends in the invariant with one record less to write
-      turn-at : (t j k : ℕ) (cur : List Fault) (k-is : k + t ≡ at + n) (j-is : j + t * 3 ≤ length (p .now)) (l : length cur ≡ length ys) (e : sets cur k (records (p .now) j t) ≡ final)
+      turn-at : (t j k : ℕ) (cur : List Fault) (k-is : k + t ≡ at + n) (j-is : j + t * 4 ≤ length (p .now)) (l : length cur ≡ length ys) (e : sets cur k (records (p .now) j t) ≡ final)
           → ent 𝓤 (⋆ 𝓤 H A (At j k cur)) (Wp 𝓤 H C Λ En M′.turn-1 (afterTurn 𝓤 H (Below 𝓤 H A less I (record { t = t; j = j; k = k; cur = cur; k-is = k-is; j-is = j-is; long = l; ahead = e })) Left))
       turn-at zero j k cur k-is j-is l e = ends j k cur _ (omega (arith, k-is)) l e
       turn-at (suc t) j k cur k-is j-is l e =
           more j k cur _ (omega (arith, k-is)) (omega (arith, k-is, l, within)) (omega (arith, j-is)) l
           (λ zs l′ e′. again {K = Unit {0}} {W = W} tt less I (record { t = suc t; j = j; k = k; cur = cur; k-is = k-is; j-is = j-is; long = l; ahead = e })
-          (record { t = t; j = j + 3; k = k + 1; cur = zs; k-is = omega (arith, k-is); j-is = omega (arith, j-is); long = l′ ∙ l; ahead = ap (λ (m : ℕ). sets zs m (records (p .now) (j + 3) t)) (add-one k) ∙ ap (λ (z : List Fault). sets z (suc k) (records (p .now) (j + 3) t)) e′ ∙ e }) (lt-suc-self t) .prf)
+          (record { t = t; j = j + 4; k = k + 1; cur = zs; k-is = omega (arith, k-is); j-is = omega (arith, j-is); long = l′ ∙ l; ahead = ap (λ (m : ℕ). sets zs m (records (p .now) (j + 4) t)) (add-one k) ∙ ap (λ (z : List Fault). sets z (suc k) (records (p .now) (j + 4) t)) e′ ∙ e }) (lt-suc-self t) .prf)
 
       looped : (y : Turn) → ent 𝓤 (⋆ 𝓤 H A (I y)) (Wp 𝓤 H C Λ En (loop M′.turn-1) Left)
       looped y = loops {K = Unit {0}} {W = W} tt 𝓣 less less-wf I {E = En} {b = M′.turn-1} {q = anyQ Left} (λ z. record { prf = turn-at (z .t) (z .j) (z .k) (z .cur) (z .k-is) (z .j-is) (z .long) (z .ahead) }) y .prf
@@ -267,7 +267,7 @@ copy-out-meets : {M : Type 1} (𝓤 : URA M) (H : Heap 𝓤) (A : Atoms 𝓤) �
     → Meets 𝓤 H A f′.signature (WpFn 𝓤 H (𝓣 .C) (𝓣 .Λ) code.function) (f′.spec 𝓤 H A mem run)
 copy-out-meets 𝓤 H A W mem run 𝓣 known =
     by-slices.meets u32 T.the-row 𝓤 H A W (f′.clauses 𝓤 H A mem run) (WpFn 𝓤 H (𝓣 .C) (𝓣 .Λ) code.function) (WpFn-mono 𝓤 H (W .laws) 𝓣 code.function)
-    (λ κ κ′ q q′ p b o γ ys at n g F. needs 𝓤 ((n * 3 ≤ length (p .now)) × (at + n ≤ length ys)) _ (λ ok. walk 𝓤 H A W mem run κ κ′ q q′ p b o γ ys at n 𝓣 known F (ok .0) (ok .1)))
+    (λ κ κ′ q q′ p b o γ ys at n g F. needs 𝓤 ((n * 4 ≤ length (p .now)) × (at + n ≤ length ys)) _ (λ ok. walk 𝓤 H A W mem run κ κ′ q q′ p b o γ ys at n 𝓣 known F (ok .0) (ok .1)))
 
 pub copy-out-spec : {M : Type 1} → stated.statement M
 unfolding code.routine tablesOf

@@ -25,7 +25,7 @@ use contract.Lifetimes.{Lfts}
 use contract.Monad.{Fun, fact}
 use contract.Running.{givenOf, tables, tablesOf}
 use types.Kit.{Given, Item, ‵, raw, _⊛_, some, later, ⋆, anyQ, atRet, _$_, _∵_, !, qed, by, move, group, drop, use0, use1, use2, use3, pick, split, join, rewrite, fsplit, fsplit3, fjoin, fjoin3, feqL, feqI, suffices, frame, await, done}
-use types.Run.{look, init, store, forget, stop, hop, fld, from, load, lit, false-lit, addr, of-opd, and-then, no-more, assigns, stays, leaves-loop, land, land-last, returns, enter, alloc1, alloc0, params1, pass1, pass0, free1, free0, exec, Below, again, loops}
+use types.Run.{look, init, store, forget, stop, hop, fld, from, load, lit, addr, of-opd, and-then, no-more, assigns, stays, leaves-loop, land, land-last, returns, enter, alloc1, alloc0, params1, pass1, pass0, free1, free0, exec, Below, again, loops}
 use types.Part.{agg, rep, whole, sub, look-in}
 use types.SemTy.{Body}
 use types.Share.{arr-parts}
@@ -36,8 +36,8 @@ use denote.Array.{Array, array-lawful}
 use borrow.Table.OneValue.{part-in}
 use denote.Laws.{Is, shows}
 use denote.Memory.{mem, partAt, shares, pointee}
-use denote.Plain.{uint-makes, uint-vals, uint-tells, uint-lawful, uint-copy, bool-makes, bool-lawful, bool-copy}
-use denote.Builtin.{u8, u32, usize, bool, unit}
+use denote.Plain.{uint-makes, uint-vals, uint-tells, uint-lawful, uint-copy}
+use denote.Builtin.{u8, u32, usize, unit}
 use denote.Ref.{RefT, MutRef, ptr-vals, mut-tells}
 use denote.Signature.{plain}
 use denote.Slice.{sliceTy, sliceVal, MutSlice, ShrSlice, Room, slice-vals, mut-slice-tells, shr-slice-tells, shr-slice-copy, shr-slice-lawful}
@@ -53,7 +53,7 @@ use denote.Triple.Statement.{Contract, Triple}
 use denote.Triple.Table.{entered, cited}
 use denote.Triple.Walked.{says, Stays, stay-none-slice, stay-slice, stay-ref, walkOf, goes-none-slice, goes-slice, goes-ref, Walks, ends-at, walked, walk-meets}
 use denote.Exit.{yes}
-use Rattle.book.specs.Book.{SLOTS}
+use Rattle.scan.specs.Machine.{FIRSTS}
 use Rattle.book.specs.Text.{LINKS, IsBook}
 use Rattle.fault_steps.specs.declared.Fault.{Fault}
 use Rattle.fault_steps.specs.declared.Progress.{Progress}
@@ -96,7 +96,7 @@ abbrev Rows : RattleType
 Rows = Array u8 LINKS
 
 abbrev Slots : RattleType
-Slots = Array bool SLOTS
+Slots = Array u32 FIRSTS
 
 abbrev Places : RattleType
 Places = Array u32 PLACES
@@ -213,15 +213,15 @@ module _ {M : Type 1} (𝓤 : URA M) (H : Heap 𝓤) (A : Atoms 𝓤) (W : Given
         nothing ! $ owned ! usize (Is usize) (uint-makes 𝓤 H A W w64) (length ys) _ (refl, F .rooms .0) $ fjoin ! $ move ! (1 ∷ 0 ∷ []) $ fjoin ! $ move ! (1 ∷ 0 ∷ []) $ fjoin ! $ done !) $
         frame ! $ done !
 
-    said-begin : (r : Progress) → ent 𝓤 (ensured 𝓤 H A begin.ended (begin.clauses 𝓤 H A mem′ run) BeginLfts begin-args tt r) (sep 𝓤 (fact 𝓤 (Between (p .now) r (replicate SLOTS false))) (fact 𝓤 (Begun r)))
-    said-begin r = exE 𝓤 _ (λ ws. snd∗ 𝓤 (sem 𝓤 H A (lasts begin.ended BeginLfts begin-args ws)) (sep 𝓤 (fact 𝓤 (Between (p .now) r (replicate SLOTS false))) (fact 𝓤 (Begun r))))
+    said-begin : (r : Progress) → ent 𝓤 (ensured 𝓤 H A begin.ended (begin.clauses 𝓤 H A mem′ run) BeginLfts begin-args tt r) (sep 𝓤 (fact 𝓤 (Between (p .now) r (replicate FIRSTS 0))) (fact 𝓤 (Begun r)))
+    said-begin r = exE 𝓤 _ (λ ws. snd∗ 𝓤 (sem 𝓤 H A (lasts begin.ended BeginLfts begin-args ws)) (sep 𝓤 (fact 𝓤 (Between (p .now) r (replicate FIRSTS 0))) (fact 𝓤 (Begun r))))
 
   -- ---- the call of `next`: the book is lent as to `begin`; the slots at l₅ and the places at l₆ are lent for the lifetimes ν and ν′ under the names δ and δ′
   -- a state as the machine has it
   abbrev IsS : Progress → Type 0
   IsS t = Is S.the-row t (S′.lowered t ∷ [])
 
-  module _ (l₄ l₅ l₆ α ν ν′ : ℕ) (ε δ δ′ : GName) (rs : List ℕ) (t : Progress) (ls : List Bool) (lp : List ℕ) where
+  module _ (l₄ l₅ l₆ α ν ν′ : ℕ) (ε δ δ′ : GName) (rs : List ℕ) (t : Progress) (ls : List ℕ) (lp : List ℕ) where
     abbrev SlotsRef : Fml
     SlotsRef = MutRef (named 2) (ν ∷ []) Slots .own (record { ptr = (l₅, 0); name = δ; now = ls }) (vptr l₅ 0 ∷ [])
 
@@ -232,7 +232,7 @@ module _ {M : Type 1} (𝓤 : URA M) (H : Heap 𝓤) (A : Atoms 𝓤) (W : Given
     NextLfts = (α ∷ [], (κ, (ν ∷ [], (ν′ ∷ [], tt))))
 
     abbrev NextArg : Type 0
-    NextArg = RefT (List ℕ) × (RefT (List ℕ) × (Progress × (RefT (List Bool) × (RefT (List ℕ) × Unit {0}))))
+    NextArg = RefT (List ℕ) × (RefT (List ℕ) × (Progress × (RefT (List ℕ) × (RefT (List ℕ) × Unit {0}))))
 
     abbrev next-args : NextArg
     next-args = (rows l₄ α ε rs, (p, (t, (record { ptr = (l₅, 0); name = δ; now = ls }, (record { ptr = (l₆, 0); name = δ′; now = lp }, tt)))))
@@ -274,7 +274,7 @@ module _ {M : Type 1} (𝓤 : URA M) (H : Heap 𝓤) (A : Atoms 𝓤) (W : Given
     abbrev to-copy : Copy 𝓤 H A mem′ run .Ghost
     to-copy = ((CopyLfts, (fullShare, (fullShare, tt)), tt, copy-args, (sliceVal (l₅, 0) (length lp) ∷ [], (sliceVal (b, o) (length cur) ∷ [], (vint w64 (r .from) ∷ [], (vint w64 (r .fit) ∷ [], tt))))), tt)
 
-    ask-copy : r .from < 2 ^ 64 → r .fit < 2 ^ 64 → r .fit * 3 ≤ length lp → r .from + r .fit ≤ length cur
+    ask-copy : r .from < 2 ^ 64 → r .fit < 2 ^ 64 → r .fit * 4 ≤ length lp → r .from + r .fit ≤ length cur
         → ent 𝓤 (⋆ 𝓤 H A (‵ (flft (α ∷ []) fullShare) ∷ ‵ PlacesSlice ∷ ‵ (flft (β ∷ []) fullShare) ∷ ‵ FaultsSlice ∷ [])) (Copy 𝓤 H A mem′ run .pre to-copy)
     ask-copy from-fits fit-fits held inside =
         qed W (‵ (flft (α ∷ []) fullShare) ∷ ‵ PlacesSlice ∷ ‵ (flft (β ∷ []) fullShare) ∷ ‵ FaultsSlice ∷ []) ∵ says ! (held, inside) $
@@ -285,7 +285,7 @@ module _ {M : Type 1} (𝓤 : URA M) (H : Heap 𝓤) (A : Atoms 𝓤) (W : Given
   -- ---- the loop: the state, the two arrays, and the list as it is now
   record Turn : Type 0 where
     pub st : Progress
-    pub slots : List Bool
+    pub slots : List ℕ
     pub places : List ℕ
     pub cur : List Fault
     pub is : IsS st
@@ -302,7 +302,7 @@ module _ {M : Type 1} (𝓤 : URA M) (H : Heap 𝓤) (A : Atoms 𝓤) (W : Given
   less-wf = InvImage·wf (λ (z : Turn). away (p .now) (z .st)) (Nat·lt-wfRel .wf)
 
   -- the next turn, once a part is judged and written
-  abbrev moved : (z : Turn) (r : Progress) (ls : List Bool) (lp : List ℕ) (zs : List Fault) → IsS r → Between (p .now) r ls → Moves (p .now) (z .st) r lp → length lp ≡ PLACES → length zs ≡ length (z .cur) → Copied lp r (z .cur) zs → Turn
+  abbrev moved : (z : Turn) (r : Progress) (ls : List ℕ) (lp : List ℕ) (zs : List Fault) → IsS r → Between (p .now) r ls → Moves (p .now) (z .st) r lp → length lp ≡ PLACES → length zs ≡ length (z .cur) → Copied lp r (z .cur) zs → Turn
   moved z r ls lp zs is g h len l e = record {
     st = r;
     slots = ls;
@@ -329,7 +329,7 @@ module _ {M : Type 1} (𝓤 : URA M) (H : Heap 𝓤) (A : Atoms 𝓤) (W : Given
       En = env-of 𝓤 H M′.locals (room l₀ ∷ room l₁ ∷ room l₂ ∷ room l₃ ∷ room l₄ ∷ room l₅ ∷ room l₆ ∷ room l₇ ∷ room l₈ ∷ room l₉ ∷ room l₁₀ ∷ room l₁₁ ∷ room l₁₂ ∷ room l₁₃ ∷ room l₁₄ ∷ room l₁₅ ∷ room l₁₆ ∷ room l₁₇ ∷ room l₁₈ ∷ room l₁₉ ∷ room l₂₀ ∷ room l₂₁ ∷ [])
 
       -- the context where the loop's test is reached. Local i stands at 51 − 2 i if it is after the arrays, and at 48 − 2 i if it is before them
-      abbrev At : Progress → List Bool → List ℕ → List Fault → List (Item 𝓤)
+      abbrev At : Progress → List ℕ → List ℕ → List Fault → List (Item 𝓤)
       At t ls lp cur = ‵ (Faults γ cur) ∷ ‵ (flft κ′ q′) ∷ ‵ (flft κ q) ∷ ‵ Own ∷ ‵ (flft κ″ q″) ∷ ‵ Number ∷ ‵ (partAt Slots fullShare ls l₅ 0) ∷ ‵ (partAt Places fullShare lp l₆ 0) ∷ ‵ (partAt Rows fullShare rs l₄ 0)
           ∷ here 𝓤 M′.locals (room l₀ ∷ full l₁ v ∷ full l₂ s ∷ full l₃ (vptr b″ o″) ∷ gone l₄ ∷ gone l₅ ∷ gone l₆ ∷ full l₇ (S′.lowered t) ∷ room l₈ ∷ room l₉ ∷ room l₁₀ ∷ room l₁₁ ∷ room l₁₂ ∷ room l₁₃ ∷ room l₁₄ ∷ room l₁₅ ∷ room l₁₆ ∷ room l₁₇ ∷ room l₁₈ ∷ room l₁₉ ∷ room l₂₀ ∷ room l₂₁ ∷ [])
 
@@ -357,7 +357,7 @@ module _ {M : Type 1} (𝓤 : URA M) (H : Heap 𝓤) (A : Atoms 𝓤) (W : Given
           -- [number's obs; its borrow; its token; what faults owns; its token; the token; what file owns; slots; places; the book; _21; …]
           assigns ! (of-opd ! (load ! (from ! (fld ! refl (stop !))) (look-in ! 38 (sub ! 2 refl (whole !))))) (from ! (stop !)) (init ! 49 refl (tt, record { fits = count-fits })) $
           returns ! (look ! 49 refl) $
-          move ! (7 ∷ []) $ use1 W (‵ (froom (tyArray tyBool SLOTS) l₅ 0)) (array-room 𝓤 H A W bool SLOTS l₅ (z .slots)) $ move ! (8 ∷ []) $ use1 W (‵ (froom (tyArray (tyInt w32) PLACES) l₆ 0)) (array-room 𝓤 H A W u32 PLACES l₆ (z .places)) $
+          move ! (7 ∷ []) $ use1 W (‵ (froom (tyArray (tyInt w32) FIRSTS) l₅ 0)) (array-room 𝓤 H A W u32 FIRSTS l₅ (z .slots)) $ move ! (8 ∷ []) $ use1 W (‵ (froom (tyArray (tyInt w32) PLACES) l₆ 0)) (array-room 𝓤 H A W u32 PLACES l₆ (z .places)) $
           move ! (9 ∷ []) $ use1 W (‵ (froom (tyArray (tyInt w8) LINKS) l₄ 0)) (array-room 𝓤 H A W u8 LINKS l₄ rs) $
           -- [room for the book; room for places; room for slots; number's obs; …; _21; …]
           forget ! 28 refl $ forget ! 38 refl $ forget ! 43 refl $ forget ! 45 refl $ forget ! 47 refl $ forget ! 49 refl $
@@ -374,7 +374,7 @@ module _ {M : Type 1} (𝓤 : URA M) (H : Heap 𝓤) (A : Atoms 𝓤) (W : Given
 
       -- a turn that judges a part and writes its records
       more : (z : Turn) (X : SProp 𝓤) → z .st .more ≡ true
-          → ((r : Progress) (ls : List Bool) (lp : List ℕ) (zs : List Fault) (is : IsS r) (g : Between (p .now) r ls) (h : Moves (p .now) (z .st) r lp) (len : length lp ≡ PLACES) (l : length zs ≡ length (z .cur)) (e : Copied lp r (z .cur) zs)
+          → ((r : Progress) (ls : List ℕ) (lp : List ℕ) (zs : List Fault) (is : IsS r) (g : Between (p .now) r ls) (h : Moves (p .now) (z .st) r lp) (len : length lp ≡ PLACES) (l : length zs ≡ length (z .cur)) (e : Copied lp r (z .cur) zs)
           → ent 𝓤 (⋆ 𝓤 H A (I (moved z r ls lp zs is g h len l e))) X) → ent 𝓤 (⋆ 𝓤 H A (I z)) (Wp 𝓤 H C Λ En M′.turn-1 (afterTurn 𝓤 H X Left))
       unfolding afterTurn
       more z X e next′ =
@@ -401,7 +401,7 @@ module _ {M : Type 1} (𝓤 : URA M) (H : Heap 𝓤) (A : Atoms 𝓤) (W : Given
           calls-at ! fm (Next 𝓤 H A mem′ run) known-next (to-next l₄ l₅ l₆ α ν ν′ ε δ δ′ rs (z .st) (z .slots) (z .places)) (and-then ! (load ! (from ! (stop !)) (look ! 23 refl)) (and-then ! (load ! (from ! (stop !)) (look ! 46 refl)) (and-then ! (load ! (from ! (stop !)) (look ! 37 refl)) (and-then ! (load ! (from ! (stop !)) (look ! 21 refl)) (and-then ! (load ! (from ! (stop !)) (look ! 19 refl)) (no-more !)))))) (λ u.
           use1 W (later (some (λ (r : Progress). ((‵ (flft (α ∷ []) fullShare) ⊛ ‵ (flft κ q) ⊛ ‵ (flft (ν ∷ []) fullShare) ⊛ ‵ (flft (ν′ ∷ []) fullShare) ⊛ ‵ ftrue) ⊛ ‵ (S.the-row .own r (u ∷ []))) ⊛ raw (ensured 𝓤 H A next.ended (next.clauses 𝓤 H A mem′ run) (α ∷ [], (κ, (ν ∷ [], (ν′ ∷ [], tt)))) (next-args l₄ l₅ l₆ α ν ν′ ε δ δ′ rs (z .st) (z .slots) (z .places)) tt r)))) (id⊢ 𝓤 _) $ await ! tt $ pick ! (λ r.
           split ! $ move ! (1 ∷ []) $
-          use1 W (some (λ (ws : Unit {0} × (Unit {0} × (Unit {0} × (List Bool × (List ℕ × Unit {0}))))). ‵ (lasts next.ended (α ∷ [], (κ, (ν ∷ [], (ν′ ∷ [], tt)))) (next-args l₄ l₅ l₆ α ν ν′ ε δ δ′ rs (z .st) (z .slots) (z .places)) ws) ⊛ raw (fact 𝓤 (Between (p .now) r (ws .1 .1 .1 .0))) ⊛ raw (fact 𝓤 (Moves (p .now) (z .st) r (ws .1 .1 .1 .1 .0))) ⊛ raw (fact 𝓤 (length (ws .1 .1 .1 .1 .0) ≡ PLACES)))) (id⊢ 𝓤 _) $ pick ! (λ ws.
+          use1 W (some (λ (ws : Unit {0} × (Unit {0} × (Unit {0} × (List ℕ × (List ℕ × Unit {0}))))). ‵ (lasts next.ended (α ∷ [], (κ, (ν ∷ [], (ν′ ∷ [], tt)))) (next-args l₄ l₅ l₆ α ν ν′ ε δ δ′ rs (z .st) (z .slots) (z .places)) ws) ⊛ raw (fact 𝓤 (Between (p .now) r (ws .1 .1 .1 .0))) ⊛ raw (fact 𝓤 (Moves (p .now) (z .st) r (ws .1 .1 .1 .1 .0))) ⊛ raw (fact 𝓤 (length (ws .1 .1 .1 .1 .0) ≡ PLACES)))) (id⊢ 𝓤 _) $ pick ! (λ ws.
           split ! $ move ! (1 ∷ []) $ split ! $ heard ! (Between (p .now) r (ws .1 .1 .1 .0)) (λ g. split ! $ heard ! (Moves (p .now) (z .st) r (ws .1 .1 .1 .1 .0)) (λ h. heard ! (length (ws .1 .1 .1 .1 .0) ≡ PLACES) (λ len.
           -- what is said of the last values
           fsplit ! $ drop ! $ fsplit ! $ drop ! $ fsplit ! $ drop ! $ fsplit ! $ move ! (1 ∷ []) $ fsplit ! $ move ! (1 ∷ []) $ drop ! $
@@ -493,13 +493,13 @@ module _ {M : Type 1} (𝓤 : URA M) (H : Heap 𝓤) (A : Atoms 𝓤) (W : Given
         assigns ! (of-opd ! (load ! (from ! (stop !)) (look ! 33 refl))) (from ! (stop !)) (init ! 41 refl (array-lawful 𝓤 H A W u8 (uint-lawful 𝓤 H A W w8) LINKS .typed rs (u₀ ∷ []) are .0)) $
         forget ! 33 refl $ move ! (41 ∷ 0 ∷ []) $ use2 W (‵ (partAt Rows fullShare rs l₄ 0)) (part-in 𝓤 H A W Rows refl fullShare rs l₄ 0 u₀) $
         -- [the book; number's token; faults' token; the token; number; what faults owns; what file owns; _21; …]: the arrays are filled
-        assigns ! (rep ! SLOTS (false-lit !)) (from ! (stop !)) (init-times ! 39 bool (bool-lawful 𝓤 H A W) SLOTS false (vbool false) refl refl) $
+        assigns ! (rep ! FIRSTS (lit ! tt)) (from ! (stop !)) (init-times ! 39 u32 (uint-lawful 𝓤 H A W w32) FIRSTS 0 (vint w32 0) (refl, lit< tt) refl) $
         assigns ! (rep ! PLACES (lit ! tt)) (from ! (stop !)) (init-times ! 37 u32 (uint-lawful 𝓤 H A W w32) PLACES 0 (vint w32 0) (refl, lit< tt) refl) $
         assigns ! (addr ! (from ! (stop !))) (from ! (stop !)) (init ! 31 refl (tt, tt)) $
         assigns ! (agg ! (and-then ! (load ! (from ! (stop !)) (look ! 31 refl)) (and-then ! (big-lit ! (record { fits = lit< tt })) (no-more !)))) (from ! (stop !)) (init ! 29 refl (tt, (tt, (record { fits = lit< tt }, tt)))) $
         rewrite ! 29 (λ (n : ℕ). ‵ (fat fullShare (sliceTy (tyRef erased imm (pointee (u8 .written)))) l₁₀ 0 (sliceVal (l₄, 0) n))) (sym (are .1 .0 .1)) refl $
         assigns ! (of-opd ! (load ! (from ! (fld ! refl (stop !))) (look-in ! 44 (sub ! 1 refl (whole !))))) (from ! (stop !)) (init ! 27 refl (tt, record { fits = F .rooms .0 })) $
-        move ! (39 ∷ []) $ use1 W (‵ (partAt Slots fullShare (replicate SLOTS false) l₅ 0)) (times-in 𝓤 H A W bool SLOTS l₅ (bool-makes 𝓤 H A W) (bool-copy 𝓤 H A W) false (vbool false) refl) $
+        move ! (39 ∷ []) $ use1 W (‵ (partAt Slots fullShare (replicate FIRSTS 0) l₅ 0)) (times-in 𝓤 H A W u32 FIRSTS l₅ (uint-makes 𝓤 H A W w32) (uint-copy 𝓤 H A W w32) 0 (vint w32 0) (refl, lit< tt)) $
         move ! (38 ∷ []) $ use1 W (‵ (partAt Places fullShare (replicate PLACES 0) l₆ 0)) (times-in 𝓤 H A W u32 PLACES l₆ (uint-makes 𝓤 H A W w32) (uint-copy 𝓤 H A W w32) 0 (vint w32 0) (refl, lit< tt)) $
         -- [places; slots; the book; number's token; faults' token; the token; number; what faults owns; what file owns; _21; …]: the book is lent to `begin`
         move ! (2 ∷ []) $ lft-new ! tt (λ α. move ! (1 ∷ []) $
@@ -509,7 +509,7 @@ module _ {M : Type 1} (𝓤 : URA M) (H : Heap 𝓤) (A : Atoms 𝓤) (W : Given
         -- [what `begin` asks; what file owns; the book's lender's part; places; slots; number's token; faults' token; number; what faults owns; _21; …]
         calls-at ! fm (Begin 𝓤 H A mem′ run) known-begin (to-begin l₄ α ε rs) (and-then ! (load ! (from ! (stop !)) (look ! 31 refl)) (and-then ! (load ! (from ! (stop !)) (look ! 46 refl)) (and-then ! (load ! (from ! (stop !)) (look ! 29 refl)) (no-more !)))) (λ u.
         use1 W (later (some (λ (r : Progress). ((‵ (flft (α ∷ []) fullShare) ⊛ ‵ (flft κ q) ⊛ ‵ ftrue) ⊛ ‵ (S.the-row .own r (u ∷ []))) ⊛ raw (ensured 𝓤 H A begin.ended (begin.clauses 𝓤 H A mem′ run) (α ∷ [], (κ, tt)) (begin-args l₄ α ε rs) tt r)))) (id⊢ 𝓤 _) $ await ! tt $ pick ! (λ r.
-        split ! $ move ! (1 ∷ []) $ use1 W (raw (fact 𝓤 (Between (p .now) r (replicate SLOTS false))) ⊛ raw (fact 𝓤 (Begun r))) (said-begin l₄ α ε rs r) $ split ! $ heard ! (Between (p .now) r (replicate SLOTS false)) (λ g. heard ! (Begun r) (λ h. split ! $ move ! (1 ∷ []) $
+        split ! $ move ! (1 ∷ []) $ use1 W (raw (fact 𝓤 (Between (p .now) r (replicate FIRSTS 0))) ⊛ raw (fact 𝓤 (Begun r))) (said-begin l₄ α ε rs r) $ split ! $ heard ! (Between (p .now) r (replicate FIRSTS 0)) (λ g. heard ! (Begun r) (λ h. split ! $ move ! (1 ∷ []) $
         peeks ! S.the-row (Is S.the-row) (shows 𝓤 H A S.the-row) r (u ∷ []) (λ is.
         land ! (from ! (stop !)) (init ! 38 refl (LL.lawful S.the-type S′.the-laws 𝓤 H A W .typed r _ is .0)) $
         drop ! $ split ! $ move ! (1 ∷ []) $ split ! $ move ! (1 ∷ []) $ drop ! $
@@ -521,7 +521,7 @@ module _ {M : Type 1} (𝓤 : URA M) (H : Heap 𝓤) (A : Atoms 𝓤) (W : Given
         move ! (8 ∷ 6 ∷ 1 ∷ 2 ∷ 5 ∷ 7 ∷ 4 ∷ 3 ∷ 0 ∷ []) $
         by ! (looped l₀ l₁ l₂ l₃ l₄ l₅ l₆ l₇ l₈ l₉ l₁₀ l₁₁ l₁₂ l₁₃ l₁₄ l₁₅ l₁₆ l₁₇ l₁₈ l₁₉ l₂₀ l₂₁ rs (are .1 .0 .1) book (record {
           st = r;
-          slots = replicate SLOTS false;
+          slots = replicate FIRSTS 0;
           places = replicate PLACES 0;
           cur = ys;
           is = subst (Is S.the-row r) (S′.lowers .val-is r _ is) is;

@@ -55,7 +55,7 @@ use Rattle.faults.proofs.put_record.Statement as stated
 use Rattle.faults.proofs.put_record.Code as code
 
 -- the bytes before record k fit a usize
-bytes : (k n : ℕ) → k < n → n * 12 < 2 ^ 63 → k * 12 < 2 ^ 64
+bytes : (k n : ℕ) → k < n → n * 16 < 2 ^ 63 → k * 16 < 2 ^ 64
 bytes k n within fits = omega (arith, within, fits)
 
 -- the contract that the proof cites
@@ -84,7 +84,7 @@ module _ {M : Type 1} (𝓤 : URA M) (H : Heap 𝓤) (A : Atoms 𝓤) (W : Given
   abbrev to : RecordAt 𝓤 H A mem run .Ghost
   to = (((κ, tt), (q, tt), tt, (p, (j, tt)), (v ∷ [], (vint w64 j ∷ [], tt))), tt)
 
-  asked : j < 2 ^ 64 → j + 2 < length (p .now) → ent 𝓤 (sep 𝓤 (A .lft κ q) (sem 𝓤 H A Own)) (sep 𝓤 (RecordAt 𝓤 H A mem run .pre to) (sem 𝓤 H A Own))
+  asked : j < 2 ^ 64 → j + 3 < length (p .now) → ent 𝓤 (sep 𝓤 (A .lft κ q) (sem 𝓤 H A Own)) (sep 𝓤 (RecordAt 𝓤 H A mem run .pre to) (sem 𝓤 H A Own))
   asked fits small =
       qed W (‵ (flft κ q) ∷ ‵ Own ∷ []) ∵ move ! (1 ∷ []) $ use1 W (‵ Own ⊛ ‵ Own) (shr-slice-copy 𝓤 H A W (named 0) κ u32 .twice p (v ∷ [])) $ split ! $ move ! (0 ∷ 2 ∷ []) $
       use2 W (raw (RecordAt 𝓤 H A mem run .pre to))
@@ -95,7 +95,7 @@ module _ {M : Type 1} (𝓤 : URA M) (H : Heap 𝓤) (A : Atoms 𝓤) (W : Given
   said : (r : Fault) → ent 𝓤 (ensured 𝓤 H A rec.ended (rec.clauses 𝓤 H A mem run) (κ, tt) (p, (j, tt)) tt r) (fact 𝓤 (r ≡ recordAt (p .now) j))
   said r = exE 𝓤 _ (λ ws. snd∗ 𝓤 (sem 𝓤 H A (lasts rec.ended (κ, tt) (p, (j, tt)) ws)) (fact 𝓤 (r ≡ recordAt (p .now) j)))
 
-  module _ (𝓣 : Tables 𝓤 H) (known : Triple 𝓤 (𝓣 .C #faults·record-at) (RecordAt 𝓤 H A mem run)) (F : Passed u32 T.the-row κ κ′ p b o γ ys j k) (enough : j + 2 < length (p .now)) (within : k < length ys) where
+  module _ (𝓣 : Tables 𝓤 H) (known : Triple 𝓤 (𝓣 .C #faults·record-at) (RecordAt 𝓤 H A mem run)) (F : Passed u32 T.the-row κ κ′ p b o γ ys j k) (enough : j + 3 < length (p .now)) (within : k < length ys) where
     walk : ent 𝓤 (onEntry 𝓤 H A f′.signature (κ, (κ′, tt)) (q, (q′, tt)) (by-slices.args u32 T.the-row κ κ′ p b o γ ys j k) (by-slices.vals u32 T.the-row κ κ′ p b o γ ys j k))
         (WpFn 𝓤 H (𝓣 .C) (𝓣 .Λ) code.function (v ∷ s ∷ vint w64 j ∷ vint w64 k ∷ []) Post)
     walk =
@@ -124,7 +124,7 @@ module _ {M : Type 1} (𝓤 : URA M) (H : Heap 𝓤) (A : Atoms 𝓤) (W : Given
         move ! (1 ∷ []) $ split ! $ move ! (1 ∷ []) $ drop ! $
         assigns ! (bin ! (load ! (from ! (stop !)) (look ! 13 refl)) (lit ! tt) (record { fits = k-bytes })) (from ! (stop !)) (init ! 9 refl (tt, record { fits = k-bytes })) $
         assigns ! (bin ! (load ! (from ! (fld ! refl (stop !))) (look-in ! 17 (sub ! 0 refl (whole !)))) (load ! (from ! (stop !)) (look ! 9 refl)) tt) (from ! (stop !)) (init ! 7 refl (tt, tt)) $
-        rewrite ! 7 (λ (z : ℕ). ‵ (fat fullShare tyPtr l₇ 0 (vptr b z))) (sym (place-is 12 o k)) refl $
+        rewrite ! 7 (λ (z : ℕ). ‵ (fat fullShare tyPtr l₇ 0 (vptr b z))) (sym (place-is 16 o k)) refl $
         -- [the token; what the record owns; what places owns; the row; …]
         move ! (3 ∷ []) $ elem-out ! T.the-row (Is T.the-row) (shows 𝓤 H A T.the-row) (LL.vals T.the-type T′.the-laws) (LL.tells T.the-type T′.the-laws) fullShare ys k r b o within (λ _.
         -- [faults[k]; what it owns; the others; the token; what the record owns; what places owns; the open borrow; obs; auth; _7; …]
@@ -139,14 +139,14 @@ module _ {M : Type 1} (𝓤 : URA M) (H : Heap 𝓤) (A : Atoms 𝓤) (W : Given
         move ! (18 ∷ 19 ∷ []) $ free1 ! $ move ! (16 ∷ 17 ∷ []) $ free1 ! $ move ! (14 ∷ 15 ∷ []) $ free1 ! $ move ! (12 ∷ 13 ∷ []) $ free1 ! $ move ! (10 ∷ 11 ∷ []) $ free1 ! $ move ! (8 ∷ 9 ∷ []) $ free1 ! $ move ! (6 ∷ 7 ∷ []) $ free1 ! $ move ! (4 ∷ 5 ∷ []) $ free1 ! $ free0 ! $
         by ! (by-slices.exits u32 T.the-row κ κ′ p b o γ ys j k 𝓤 H A W q q′ (f′.clauses 𝓤 H A mem run) tt F (set ys k r) (length-set ys k r) (factI 𝓤 _ (emp 𝓤) (ap (set ys k) e))))))))))))))))
       where
-        k-bytes : k * 12 < 2 ^ 64
+        k-bytes : k * 16 < 2 ^ 64
         k-bytes = bytes k (length ys) within (F .rooms .1)
 
 put-record-meets : {M : Type 1} (𝓤 : URA M) (H : Heap 𝓤) (A : Atoms 𝓤) → Given 𝓤 H A → (mem : Memory → SProp 𝓤) (run : Routine → Fun 𝓤) (𝓣 : Tables 𝓤 H) → Triple 𝓤 (𝓣 .C #faults·record-at) (RecordAt 𝓤 H A mem run)
     → Meets 𝓤 H A f′.signature (WpFn 𝓤 H (𝓣 .C) (𝓣 .Λ) code.function) (f′.spec 𝓤 H A mem run)
 put-record-meets 𝓤 H A W mem run 𝓣 known =
     by-slices.meets u32 T.the-row 𝓤 H A W (f′.clauses 𝓤 H A mem run) (WpFn 𝓤 H (𝓣 .C) (𝓣 .Λ) code.function) (WpFn-mono 𝓤 H (W .laws) 𝓣 code.function)
-    (λ κ κ′ q q′ p b o γ ys j k g F. needs 𝓤 ((j + 2 < length (p .now)) × (k < length ys)) _ (λ ok. walk 𝓤 H A W mem run κ κ′ q q′ p b o γ ys j k 𝓣 known F (ok .0) (ok .1)))
+    (λ κ κ′ q q′ p b o γ ys j k g F. needs 𝓤 ((j + 3 < length (p .now)) × (k < length ys)) _ (λ ok. walk 𝓤 H A W mem run κ κ′ q q′ p b o γ ys j k 𝓣 known F (ok .0) (ok .1)))
 
 pub put-record-spec : {M : Type 1} → stated.statement M
 unfolding code.routine tablesOf

@@ -40,17 +40,17 @@ module _ (file : Bytes) (ys : List ℕ) {n k : ℕ} {zs : List ℕ} (call : outc
     places = ap (λ (x : Outcome). x .places) whole
 
     -- a place that is none of a written break's
-    kept : (j : ℕ) → ((i : ℕ) → HasPlaces k ys i → (j < 3 * i) ⊎ (3 * i + 3 ≤ j)) → getD zs j 0 ≡ getD ys j 0
-    kept j out = ap (λ (l : List ℕ). getD l j 0) places ∙ go (ltb (j / 3) k) refl (leb (3 * (j / 3) + 3) (length ys)) refl
+    kept : (j : ℕ) → ((i : ℕ) → HasPlaces k ys i → (j < 4 * i) ⊎ (4 * i + 4 ≤ j)) → getD zs j 0 ≡ getD ys j 0
+    kept j out = ap (λ (l : List ℕ). getD l j 0) places ∙ go (ltb (j / 4) k) refl (leb (4 * (j / 4) + 4) (length ys)) refl
       where
-        go : (s : Bool) → ltb (j / 3) k ≡ s → (t : Bool) → leb (3 * (j / 3) + 3) (length ys) ≡ t → getD (putAll (lent ys 0) (breaks file) .places) j 0 ≡ getD ys j 0
+        go : (s : Bool) → ltb (j / 4) k ≡ s → (t : Bool) → leb (4 * (j / 4) + 4) (length ys) ≡ t → getD (putAll (lent ys 0) (breaks file) .places) j 0 ≡ getD ys j 0
         go true a true b =
             ⊎-elim
-            (λ (q : j < 3 * (j / 3)). absurd (omega arith))
-            (λ (q : 3 * (j / 3) + 3 ≤ j). absurd (omega arith))
-            (out (j / 3) (ltb-true (j / 3) k a, leb-true (3 * (j / 3) + 3) (length ys) b))
-        go true a false b = placed-short (breaks file) ys 0 (j / 3) j (leb-false (3 * (j / 3) + 3) (length ys) b) (omega arith)
-        go false a t b = placed-above (breaks file) ys 0 j (omega (arith, ltb-false (j / 3) k a, many))
+            (λ (q : j < 4 * (j / 4)). absurd (omega arith))
+            (λ (q : 4 * (j / 4) + 4 ≤ j). absurd (omega arith))
+            (out (j / 4) (ltb-true (j / 4) k a, leb-true (4 * (j / 4) + 4) (length ys) b))
+        go true a false b = placed-short (breaks file) ys 0 (j / 4) j (leb-false (4 * (j / 4) + 4) (length ys) b) (omega arith)
+        go false a t b = placed-above (breaks file) ys 0 j (omega (arith, ltb-false (j / 4) k a, many))
 
     pub judge-places-promised : Promised file (breaks file) ys n k zs
     judge-places-promised =
@@ -58,10 +58,10 @@ module _ (file : Bytes) (ys : List ℕ) {n k : ℕ} {zs : List ℕ} (call : outc
           reports = breaks-reported file;
           number = ap (λ (x : Outcome). x .number) whole;
           count = many;
-          none-broken = λ z l c r h. accepted-whole file (length-none (breaks file) (sym many ∙ z)) h;
+          none-broken = λ z l c r f h. accepted-whole file (length-none (breaks file) (sym many ∙ z)) h;
           accepted = λ h. many ∙ ap length (whole-accepted file h);
           long = ap length places ∙ placed-length (breaks file) ys 0;
-          stands = λ i f. let z : 0 + i ≡ i = omega arith in rw places (subst (λ (j : ℕ). Written (putAll (lent ys 0) (breaks file) .places) (3 * j) (getD (breaks file) i (breakAt 0 0 0))) z (placed-at (breaks file) ys 0 i (omega (arith, f .0, many)) (omega (arith, f .1))));
+          stands = λ i f. let z : 0 + i ≡ i = omega arith in rw places (subst (λ (j : ℕ). Written (putAll (lent ys 0) (breaks file) .places) (4 * j) (getD (breaks file) i (breakAt 0 0 0))) z (placed-at (breaks file) ys 0 i (omega (arith, f .0, many)) (omega (arith, f .1))));
           untouched = kept;
         }
 

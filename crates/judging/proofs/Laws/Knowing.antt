@@ -20,6 +20,7 @@ use Rattle.scan.specs.Machine.{Slots, idsOf, SeenOf, endBreaks}
 use Rattle.line_end.specs.Ends.{seenBy}
 use Rattle.scan.specs.Carried.{Scan, from, last}
 use Rattle.scan.specs.declared.state.State.{State}
+use Rattle.scan.proofs.Laws.Keeping.{slots-marked}
 use Rattle.scan.proofs.Laws.Lining.{Knows}
 use Rattle.scan.proofs.Laws.Ending.{assays-are, end-means}
 use Rattle.scan.proofs.Laws.Scanning.{scan-all, scan-last}
@@ -54,7 +55,7 @@ pub flags-assay : (t : Bytes) (flags : List (List Bool)) (file : Bytes) {a : Ask
 flags-assay t flags file x h = x .assay ∙ sym (assays-are (bookIn t) (lines file) flags (declares-flags t flags file h))
 
 -- after the last line, the slots, the ids, what is asked and the sections present say what is left
-pub end-left : (t : Bytes) {file : Bytes} {at n : ℕ} {s : State} {kinds : List ℕ} {slots : List Bool} {flags : List (List Bool)}
+pub end-left : (t : Bytes) {file : Bytes} {at n : ℕ} {s : State} {kinds slots : List ℕ} {flags : List (List Bool)}
     → Scan (bookIn t) file at n s kinds slots → Declared (bookIn t) flags file → AskingOf (bookIn t) (lines file) (s .asking) → length file ≤ at
     → from (bookIn t) (lines file) n ++ last (bookIn t) (lines file) ≡ endBreaks (bookIn t) (seenBy slots flags s) (n + 1) [] ++ []
 end-left t {file} {n = n} {s = s} {slots = slots} {flags = flags} h d x e =
@@ -64,5 +65,5 @@ end-left t {file} {n = n} {s = s} {slots = slots} {flags = flags} h d x e =
     let all : n ≡ length F = scan-all (book-sized t) h e in
     let whole : take n F ≡ F = take-all n F (omega arith) in
     let keys : Slots b F slots = subst (λ (ls : List Bytes). Slots b ls slots) whole (h .stands .keys) in
-    let tells : SeenOf b F y = record { slots = keys; ids = declares-flags t flags file d; mode = x .mode; typed = x .typed; present = λ i l. h .stands .present i l ∙ ap (λ (ls : List Bytes). isPresent b ls i) whole } in
+    let tells : SeenOf b F y = record { slots = slots-marked b F slots keys; ids = declares-flags t flags file d; mode = x .mode; typed = x .typed; present = λ i l. h .stands .present i l ∙ ap (λ (ls : List Bytes). isPresent b ls i) whole } in
     scan-last (book-sized t) h e ∙ sym (append-nil (last b F)) ∙ sym (ap (λ (k : ℕ). endBreaks b y (k + 1) []) all ∙ end-means b (book-sized t) F y tells []) ∙ sym (append-nil (endBreaks b y (n + 1) []))

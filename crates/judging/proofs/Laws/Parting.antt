@@ -65,7 +65,7 @@ same-everywhere (suc n) zero a = refl
 same-everywhere (suc n) (suc i) a = same-everywhere n i a
 
 -- before the first line, where no key has come
-pub midway-start : (b : Book) {s : Stand} {x : Asking} {file : Bytes} {kinds : List ℕ} {slots : List Bool} → s ≡ beginning x → AskingOf b (lines file) x → ((i : ℕ) → getD slots i false ≡ false)
+pub midway-start : (b : Book) {s : Stand} {x : Asking} {file : Bytes} {kinds slots : List ℕ} → s ≡ beginning x → AskingOf b (lines file) x → ((i : ℕ) → getD slots i 0 ≡ 0)
     → Midway b file s kinds slots
 midway-start b {x = x} {file = file} {kinds = kinds} {slots = slots} e f h = rw e (record { scan = scan-start b file (stands-start b x kinds slots h); asking = f; most = omega arith; left = breaks-left b file })
 

@@ -5,11 +5,12 @@ use Prim.Native.Nat.{_<_}
 use native.Mathlib.Omega.{arith}
 use borrow.Author.Needs.{needs}
 use Rattle.rules.specs.Sorts.{sortOf}
-use Rattle.scan.specs.Machine.{idsOf}
+use lib.ListN.{length}
+use Rattle.scan.specs.Machine.{FIRSTS, idsOf}
 use Rattle.rules.specs.declared.sorts.Sort.{Sort}
-use Rattle.rules.specs.declared.sorts.Sort.the-variants.{Silent, Unknown, Meta, Header, Row}
+use Rattle.rules.specs.declared.sorts.Sort.the-variants.{Silent, Unknown, Meta, Row}
 use Rattle.scan.proofs.Laws.Putting.{puts-none}
-use Rattle.line_any.proofs.Laws.Steps.{line-puts, follows-kept, follows-meta, follows-header}
+use Rattle.line_any.proofs.Laws.Steps.{line-puts, follows-kept, follows-meta, header-puts, header-follows}
 use Rattle.line_any.proofs.judge_line.Statement.{statement}
 use Rattle.line_any.proofs.judge_line.Tie as tie
 use Rattle.rules.proofs.Laws.Sorting.{metaIn, meta-sort, header-is, section-in, row-section}
@@ -61,7 +62,7 @@ returns-3 c =
     let pre = start w .pre in
     let e = of-sort w (told .enum-told3 .given .1) in
     let keeps = at-judge .judge-meta .ensures .1 in
-    (line-puts (book w) (idsOf (a .flags .now)) (a .step .state) (a .kinds .now) (a .slots .now) (a .step .line) (a .line .now) Meta e (rw (w .control-of .ensures) at (at-judge .judge-meta .ensures .0)) (omega arith), (follows-meta e (pre .1 .1 .1 .1 .0) (keeps .keys) (keeps .places), pre .1 .1 .1 .1 .1 .1))
+    (line-puts (book w) (idsOf (a .flags .now)) (a .step .state) (a .kinds .now) (a .slots .now) (a .step .line) (a .line .now) Meta e (rw (w .control-of .ensures) at (at-judge .judge-meta .ensures .0)) (omega arith), (follows-meta e (pre .1 .1 .1 .1 .0) (keeps .keys) (keeps .headers) (keeps .places), pre .1 .1 .1 .1 .1 .1))
 
 -- a header's section is one of the book's
 section-of : (c : tie.After-sort) → isSection (book (c .before .before .before)) (c .sort .given .0 .0) ≡ true
@@ -70,31 +71,44 @@ section-of c = let w = c .before .before .before in header-is (book w) (start w 
 section-low : (c : tie.After-sort) → c .sort .given .0 .0 < 5
 section-low c = let w = c .before .before .before in section-in (book w) (book-sized _) _ (section-of c) .1
 
-array-read-again : tie.Need-array-read-again
-array-read-again c = section-low (c .before .before)
+-- and its slot one of the list's
+slot-low : (c : tie.After-header-slot) → c .header-slot .result < FIRSTS
+slot-low c = omega (arith, c .header-slot .ensures, section-low (c .before .before))
+
+slot-in : (c : tie.After-header-slot) → c .header-slot .result < length (start (c .before .before .before .before .before) .args .slots .now)
+slot-in c = omega (arith, slot-low c, start (c .before .before .before .before .before) .pre .1 .1 .1 .1 .1 .0)
+
+-- where the header is judged, and where its line is kept
+abbrev slotted : tie.After-judge-head-arg3 → tie.After-header-slot
+slotted c = c .before .before .before .before .before .before .before
+
+abbrev judged : tie.After-first-kept → tie.After-judge-head
+judged c = c .before .before .before .before .before
 
 judge-head-requires : tie.Need-judge-head-requires
 judge-head-requires c κs =
-    let told = c .before .before .before .before .before .before .before .before in
+    let told = slotted c .before .before in
     let w = told .before .before .before in
     let pre = start w .pre in
     (pre .0, (pre .1 .0, (section-of told, (pre .1 .1 .1 .1 .0, (pre .1 .1 .1 .1 .1 .1, pre .1 .1 .0)))))
 
-after-header-requires : tie.Need-after-header-requires
-after-header-requires c κs = section-low (c .before .before .before .before .before .before .before .before .before .before .before .before .before)
-
 returns-4 : tie.Need-returns-4
 returns-4 c =
-    let at-judge = c .before .before .before .before .before in
+    let kept = c .before in
+    let at-judge = judged kept in
+    let at-slot = slotted (at-judge .before) in
     let at-count = at-judge .before .before .before .before in
-    let told = at-count .before .before .before .before .before in
+    let told = at-slot .before .before in
     let w = told .before .before .before in
     let a = start w .args in
     let pre = start w .pre in
     let h = told .sort .given .0 .0 in
     let e = of-sort w (told .sort .given .1) in
     let keeps = at-judge .judge-head .ensures .1 in
-    (line-puts (book w) (idsOf (a .flags .now)) (a .step .state) (a .kinds .now) (a .slots .now) (a .step .line) (a .line .now) (Header h) e (rw (w .control-of .ensures) at (at-judge .judge-head .ensures .0)) (omega arith), (rw (c .after-header .ensures, at-count .count-cells .ensures) (follows-header (book-sized _) h e (pre .1 .1 .1 .1 .1 .0) (keeps .columns) (keeps .kind-places)), keeps .stamp-places))
+    let slot = at-slot .header-slot .ensures in (
+      header-puts (book w) (idsOf (a .flags .now)) (a .step .state) (a .kinds .now) (a .slots .now) (a .step .line) (a .line .now) h e slot (w .control-of .ensures) (at-judge .judge-head .ensures .0) (omega arith),
+      (header-follows (book-sized _) h e slot (c .after-header .ensures) (at-count .count-cells .ensures) (kept .first-kept .ensures) (pre .1 .1 .1 .1 .1 .0) (keeps .columns) (keeps .kind-places), keeps .stamp-places),
+    )
 
 after-row-requires : tie.Need-after-row-requires
 after-row-requires c κs =
@@ -125,11 +139,15 @@ judge-line-spec =
     (λ c. search needs)
     judge-meta-requires
     (λ c. search needs)
-    (λ c. search needs)
-    array-read-again
+    (λ c κs. search needs)
+    (λ c. omega (arith, slot-low c))
+    (λ c. slot-in (c .before))
     (λ c κs. search needs)
     judge-head-requires
-    after-header-requires
+    (λ c κs. search needs)
+    (λ c. omega (arith, slot-low (slotted (judged c .before))))
+    (λ c. slot-in (slotted (judged c .before)))
+    (λ c κs. section-low (slotted (judged c .before) .before .before))
     (λ c. search needs)
     (λ c κs. search needs)
     after-row-requires
@@ -139,6 +157,7 @@ judge-line-spec =
     (λ c. search needs)
     (λ c. search needs)
     returns-3
+    (λ c. search needs)
     (λ c. search needs)
     (λ c. search needs)
     returns-4

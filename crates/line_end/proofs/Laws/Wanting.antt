@@ -6,7 +6,8 @@ use mathlib.Core.Logic.{inl, inr}
 use Prim.Native.Nat.{ℕ, zero, suc, _+_, _-_, _≤_, _<_}
 use native.Mathlib.Numerals.{add-one}
 use native.Mathlib.Omega.{arith}
-use lib.ListN.{length, getD}
+use lib.Dec.{eqb}
+use lib.ListN.{length, getD, List·getD-map}
 use borrow.Author.Tests.{eq-eqb, ne-eqb}
 use Rattle.text_bytes.specs.Bytes.{any}
 use Rattle.text_bytes.proofs.Laws.Each.{all-at}
@@ -20,7 +21,7 @@ use Rattle.book_ids.specs.Ids.{isMarked}
 use Rattle.book_facts.specs.Asked.{asks}
 use Rattle.rules.specs.Breaks.{Break, breakAt, when}
 use Rattle.scan.specs.Places.{Lent, putAll, Puts}
-use Rattle.scan.specs.Machine.{Seen, isAskedIn, isLacking, wantBreaks}
+use Rattle.scan.specs.Machine.{marks, Seen, isAskedIn, isLacking, wantBreaks}
 use Rattle.scan.proofs.Laws.Ending.{inside, slots-below}
 use Rattle.line_end.specs.Ends.{seen, Whole, idBreaks}
 use Rattle.line_end.specs.declared.End.{End}
@@ -34,6 +35,17 @@ pub wants-append : (b : Book) (x : Seen) (n : ℕ) (us ws : List Want) (rest : L
 unfolding wantBreaks
 wants-append b x n [] ws rest = refl
 wants-append b x n (u ∷ us) ws rest = ap (when (isLacking b x u) (breakAt n (cellOf u) (u .demand .rule))) (wants-append b x n us ws rest)
+
+-- A SLOT has a line or not
+pub came-at : (slots : List ℕ) (k : ℕ) → getD (marks slots) k false ≡ not (eqb (getD slots k 0) 0)
+came-at slots k = List·getD-map (λ n. not (eqb n 0)) slots k 0
+
+pub absent-at : (slots : List ℕ) (k : ℕ) → eqb (getD slots k 0) 0 ≡ not (getD (marks slots) k false)
+absent-at slots k = rw (came-at slots k) (go (eqb (getD slots k 0) 0))
+  where
+    go : (t : Bool) → t ≡ not (not t)
+    go true = refl
+    go false = refl
 
 -- THE IDS of a family: the next one, and none
 module _ (d : Read) (asked : Bool) (slots ids : List Bool) (from n i : ℕ) (rest : List Break) where
@@ -79,7 +91,7 @@ module _ (b : Book) (sized : Sized b) (k : ℕ) (l : k < length (b .demands)) wh
     section-in = rw (d .section) (sound-section (b .keys) D sound)
 
     -- its letter and its section say whether it is asked
-    module _ (slots : List Bool) (flags : List (List Bool)) (end : End) (whole : Whole slots flags (end .asking)) where
+    module _ (slots : List ℕ) (flags : List (List Bool)) (end : End) (whole : Whole slots flags (end .asking)) where
       abbrev x : Seen
       x = seen slots flags end
 
@@ -101,7 +113,7 @@ module _ (b : Book) (sized : Sized b) (k : ℕ) (l : k < length (b .demands)) wh
             let s = slots-below b sized (want D 0) sound (inl refl) in
             rw (d .entry) (omega (arith, s .0), s .1)
 
-        pub once-puts : {a m t : Bool} {from to : ℕ} (n : ℕ) {o o' : Lent} → a ≡ isAskedIn x D → m ≡ isMarked slots from to → from ≡ startOf (keyEntries b) (r .entry)
+        pub once-puts : {a m t : Bool} {from to : ℕ} (n : ℕ) {o o' : Lent} → a ≡ isAskedIn x D → m ≡ isMarked (marks slots) from to → from ≡ startOf (keyEntries b) (r .entry)
             → to ≡ startOf (keyEntries b) (r .entry + 1) → t ≡ (a && not m) → Puts (when t (breakAt n (r .cell) (r .rule))) 1 o o' → Puts (wantBreaks b x n (wantsOf D)) (length (wantsOf D)) o o'
         unfolding wantBreaks isLacking
         once-puts {a} {m} {t} {from} {to} n {o} {o'} p q f e s h = alike same (sym once-many) h
@@ -141,20 +153,20 @@ module _ (b : Book) (sized : Sized b) (k : ℕ) (l : k < length (b .demands)) wh
 
         -- its break is that of the id
         id-lacks : {a : Bool} {from : ℕ} (i : ℕ) → 1 ≤ i → a ≡ isAskedIn x D → from ≡ startOf (keyEntries b) (r .entry)
-            → ((a && getD (getD flags (r .each) []) (i - 1) false) && not (getD slots (from + (i - 1)) false)) ≡ isLacking b x (want D i)
+            → ((a && getD (getD flags (r .each) []) (i - 1) false) && not (getD (marks slots) (from + (i - 1)) false)) ≡ isLacking b x (want D i)
         unfolding isLacking isMarked any upFrom
         id-lacks {a} {from} i low p f =
             let z : i ≡ 0 → ⊥ = λ (e : i ≡ 0). omega arith in
             let begin : startOf (keyEntries b) (entryFor (b .keys) (D .form)) + (i - 1) ≡ from + (i - 1) = omega (arith, f, ap (startOf (keyEntries b)) (d .entry)) in
             let one : from + (i - 1) + 1 - (from + (i - 1)) ≡ 1 = omega arith in
-            rw (ne-eqb i 0 z, begin, one, or-false (getD slots (from + (i - 1)) false), p, d .each)
+            rw (ne-eqb i 0 z, begin, one, or-false (getD (marks slots) (from + (i - 1)) false), p, d .each)
 
         ids-same : {a : Bool} {from : ℕ} (n m i : ℕ) → 1 ≤ i → a ≡ isAskedIn x D → from ≡ startOf (keyEntries b) (r .entry) → (rest : List Break)
-            → idBreaks r a slots (getD flags (r .each) []) from n (upFrom m i) rest ≡ wantBreaks b x n (map (want D) (upFrom m i)) rest
+            → idBreaks r a (marks slots) (getD flags (r .each) []) from n (upFrom m i) rest ≡ wantBreaks b x n (map (want D) (upFrom m i)) rest
         unfolding idBreaks wantBreaks upFrom
         ids-same n zero i low p f rest = refl
         ids-same n (suc m) i low p f rest = rw (ids-same n m (suc i) (omega arith) p f rest, id-lacks i low p f, d .cell, d .rule)
 
         pub ids-puts : {a : Bool} {from : ℕ} (n : ℕ) {o o' : Lent} → a ≡ isAskedIn x D → from ≡ startOf (keyEntries b) (r .entry)
-            → Puts (idBreaks r a slots (getD flags (r .each) []) from n (upFrom 64 1)) 64 o o' → Puts (wantBreaks b x n (wantsOf D)) (length (wantsOf D)) o o'
+            → Puts (idBreaks r a (marks slots) (getD flags (r .each) []) from n (upFrom 64 1)) 64 o o' → Puts (wantBreaks b x n (wantsOf D)) (length (wantsOf D)) o o'
         ids-puts {a} {from} n p f h = alike (λ rest. ids-same n 64 1 (omega arith) p f rest ∙ ap (λ (ws : List Want). wantBreaks b x n ws rest) (sym ids-wants)) (sym ids-many) h

@@ -59,8 +59,8 @@ returns c =
     ids-puts _ (book-sized (a .book .now)) _ (s .pre .1 .0) _ (d .nth-demand .ensures) (a .slots .now) (a .flags .now) (a .end) (s .pre .1 .1 .0) (t .if1 .taken) (a .end .line) (asked o)
     (o .before .before .before .start-of .ensures) (j .judge-ids .ensures)
 
-any-marked-requires : tie.Need-any-marked-requires
-any-marked-requires c κs =
+any-came-requires : tie.Need-any-came-requires
+any-came-requires c κs =
     let e = c .before in
     let o = e .before .before in
     let d = demand o in
@@ -90,7 +90,7 @@ returns-2 c =
     let s = start d in
     let a = s .args in
     once-puts _ (book-sized (a .book .now)) _ (s .pre .1 .0) _ (d .nth-demand .ensures) (a .slots .now) (a .flags .now) (a .end) (s .pre .1 .1 .0) (e .if1 .left) (a .end .line) (asked o)
-    (m .any-marked .ensures) (o .before .before .before .start-of .ensures) (u .start-of2 .ensures) (b .both2 .ensures) (p .put-if .ensures)
+    (m .any-came .ensures) (o .before .before .before .start-of .ensures) (u .start-of2 .ensures) (b .both2 .ensures) (p .put-if .ensures)
 
 pub judge-demand-spec : {M : Type 1} → statement M
 judge-demand-spec =
@@ -106,7 +106,7 @@ judge-demand-spec =
     returns
     (λ c. let d = demand (c .before .before) in omega (arith, inside d))
     (λ c κs. let d = demand (c .before .before) in (start d .pre .0, omega (arith, inside d)))
-    any-marked-requires
+    any-came-requires
     (λ c κs. search needs)
     put-if-requires
     (λ c. search needs)

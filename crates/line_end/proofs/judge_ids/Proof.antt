@@ -1,29 +1,33 @@
 -- `line_end::judge_ids` meets its contract. The loop's invariant: what was put, and what the ids left will put, is what all ids put. Assumes nothing.
 use mathlib.Core.Path.{_≡_, refl, sym, ap, _∙_}
 use mathlib.Core.List.{List, []}
-use mathlib.Core.Bool.{Bool, true, false, not, _&&_}
-use Prim.Native.Nat.{ℕ, _+_, _-_, _≤_}
+use Prim.Native.Nat.{_+_, _-_, _≤_, _<_}
 use native.Mathlib.Omega.{arith}
 use borrow.Author.Needs.{needs}
 use lib.ListN.{length, getD}
 use Rattle.book.specs.Book.{upFrom}
-use Rattle.rules.specs.Breaks.{Break, breakAt, when}
+use Rattle.rules.specs.Breaks.{Break}
 use Rattle.scan.specs.Places.{lent, putAll}
+use Rattle.scan.specs.Machine.{marks}
 use Rattle.line_end.specs.Ends.{idBreaks}
-use Rattle.line_end.proofs.Laws.Wanting.{ids-turn, ids-done}
+use Rattle.line_end.proofs.Laws.Wanting.{absent-at, ids-turn, ids-done}
 use Rattle.line_end.proofs.judge_ids.Statement.{statement}
 use Rattle.line_end.proofs.judge_ids.Tie as tie
 
 abbrev Inv-loop : tie.InvT-loop
 Inv-loop places₀ count line-no d from asked slots flags f ids c₀ cell₀ i₀ places c cell i =
     (i ≤ 64) × (c ≤ count + i) × (cell ≡ cell₀ + i) × (length places ≡ length places₀)
-    × ((rest : List Break) → putAll (lent places c) (idBreaks d asked slots ids from line-no (upFrom (64 - i) (i + 1)) rest) ≡ putAll (lent places₀ count) (idBreaks d asked slots ids from line-no (upFrom 64 1) rest))
+    × ((rest : List Break) → putAll (lent places c) (idBreaks d asked (marks slots) ids from line-no (upFrom (64 - i) (i + 1)) rest) ≡ putAll (lent places₀ count) (idBreaks d asked (marks slots) ids from line-no (upFrom 64 1) rest))
 
 abbrev μ-loop : tie.MeasureT-loop
 μ-loop places₀ count line-no d from asked slots flags f ids c₀ cell₀ i₀ places c cell i = 64 - i
 
 abbrev start : tie.At-loop Inv-loop μ-loop → tie.Start Inv-loop μ-loop
 start l = l .before .before .before .before
+
+-- the slot of the next id is in the list
+slot-in : (c : tie.After-both Inv-loop μ-loop) → let s = start (c .before .before) in s .args .from + c .before .before .loop .i < length (s .args .slots .now)
+slot-in c = omega (arith, start (c .before .before) .pre .1 .0, c .before .loop-test .taken)
 
 loop-again : tie.Need-loop-again Inv-loop μ-loop
 loop-again c =
@@ -39,7 +43,7 @@ loop-again c =
       omega (arith, p .put-if .ensures .most, v .1),
       omega (arith, v .2),
       search needs,
-      ids-turn (a .d) (a .asked) (a .slots .now) (getD (a .flags .now) (a .d .each) []) (a .from) (a .line-no) (l .loop .i) (lent (a .places .now) (a .count)) h (b1 .both .ensures) (b2 .both2 .ensures) (omega (arith, v .2)) (p .put-if .ensures) (v .4),
+      ids-turn (a .d) (a .asked) (marks (a .slots .now)) (getD (a .flags .now) (a .d .each) []) (a .from) (a .line-no) (l .loop .i) (lent (a .places .now) (a .count)) h (b1 .both .ensures) (rw (absent-at (a .slots .now) (a .from + l .loop .i)) at (b2 .both2 .ensures)) (omega (arith, v .2)) (p .put-if .ensures) (v .4),
     )
 
 returns : tie.Need-returns Inv-loop μ-loop
@@ -64,7 +68,8 @@ judge-ids-spec =
     (λ c. c .loop-test .taken)
     (λ c κs. search needs)
     (λ c. let l = c .before .before in omega (arith, start l .pre .1 .0, c .before .loop-test .taken))
-    (λ c. let i = c .before .before in omega (arith, start (i .before) .pre .1 .0, i .loop-test .taken))
+    (λ c. search (needs, slot-in c))
+    (λ c. slot-in (c .before))
     (λ c κs. search needs)
     (λ c κs. let l = c .before .before .before .before .before in omega (arith, l .loop .inv .1, l .loop .inv .0, start l .pre .1 .1 .1 .1))
     (λ c. let l = c .before .before .before .before .before .before .before .before in omega (arith, l .loop .inv .0))

@@ -18,13 +18,13 @@ use Rattle.book.specs.Book.{Book, isSection}
 use Rattle.book.specs.Text.{bookIn}
 
 -- A HEADER: cell 1, and what comes after it
-module _ (b : Book) (asked : Asked) (section : ℕ) (again later : Bool) (ids : Ids) (first n : ℕ) (xs : List Bytes) {o o₁ o₂ : Lent}
-    (p : Puts (headFirst again later (ltb 256 (length xs)) first n) 4 o o₁) where
-  pub head-wide : ltb 256 (length xs) ≡ true → Puts (plainRest first n) 1 o₁ o₂ → Puts (headBreaks b asked section again later ids first n xs) LINE-MOST o o₂
+module _ (b : Book) (asked : Asked) (section first : ℕ) (later : Bool) (ids : Ids) (cc n : ℕ) (xs : List Bytes) {o o₁ o₂ : Lent}
+    (p : Puts (headFirst first later (ltb 256 (length xs)) cc n) 4 o o₁) where
+  pub head-wide : ltb 256 (length xs) ≡ true → Puts (plainRest cc n) 1 o₁ o₂ → Puts (headBreaks b asked section first later ids cc n xs) LINE-MOST o o₂
   unfolding headBreaks
   head-wide t q = record { does = λ rest. rw t (puts2 (rw t at p) q .does rest); most = omega arith }
 
-  pub head-named : ltb 256 (length xs) ≡ false → Puts (nameBreaks b asked section ids first n (drop 1 xs)) HEADED-MOST o₁ o₂ → Puts (headBreaks b asked section again later ids first n xs) LINE-MOST o o₂
+  pub head-named : ltb 256 (length xs) ≡ false → Puts (nameBreaks b asked section ids cc n (drop 1 xs)) HEADED-MOST o₁ o₂ → Puts (headBreaks b asked section first later ids cc n xs) LINE-MOST o o₂
   unfolding headBreaks
   head-named t q = record { does = λ rest. rw t (puts2 (rw t at p) q .does rest); most = omega arith }
 

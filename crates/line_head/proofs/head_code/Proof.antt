@@ -10,7 +10,7 @@ returns c =
     let p3 = p4 .before .before .before .before in
     let p2 = p3 .before .before .before .before in
     let p1 = p2 .before .before .before .before in
-    puts2 (puts3 (p1 .put-if .ensures) (p2 .put-if2 .ensures) (p3 .put-if3 .ensures)) (p4 .put-if4 .ensures)
+    puts2 (puts3 (p1 .put-if .ensures) (p2 .put-again .ensures) (p3 .put-if2 .ensures)) (p4 .put-if3 .ensures)
 
 pub head-code-spec : {M : Type 1} → statement M
 head-code-spec =

@@ -1,21 +1,20 @@
 -- `line_head_names::head_cells` meets its contract. The loop's invariant: the breaks put so far and those of the names that are left are those of all
 -- names; the kinds of the names so far are kept, and they are noted. Assumes nothing.
 use mathlib.Core.Path.{_≡_, refl, ap, _∙_}
-use mathlib.Core.Bool.{Bool, _||_}
 use mathlib.Core.List.{List}
 use Prim.Native.Nat.{ℕ, _+_, _-_, _*_, _≤_, _<_}
 use native.Mathlib.Omega.{arith}
 use borrow.Author.Needs.{needs}
 use lib.ListN.{length, take, drop, length-set}
-use Rattle.text_bytes.specs.Bytes.{Bytes, any, same}
+use Rattle.text_bytes.specs.Bytes.{Bytes, any, same, firstFrom, firstKept}
 use Rattle.text.specs.Lines.{cells}
 use Rattle.book.specs.Book.{isOpt, columnOf}
 use Rattle.rules.specs.Breaks.{Break}
 use Rattle.scan.specs.Places.{lent, putAll}
 use Rattle.rules.specs.Rules.{kindIn}
 use Rattle.scan.specs.Machine.{idsOf, eachCell, headCell}
-use Rattle.scan.proofs.Laws.Celling.{cell-here, cells-next, cells-last, turn-next, turn-last, column-next, column-count, any-more}
-use Rattle.line_head_stamps.specs.Ways.{isNamed, Noted}
+use Rattle.scan.proofs.Laws.Celling.{cell-here, cells-next, cells-last, turn-next, turn-last, column-next, column-count, any-more, first-more-name}
+use Rattle.line_head_stamps.specs.Ways.{firstNamed, Noted}
 use Rattle.line_head_stamps.proofs.Laws.Noting.{noted-none}
 use Rattle.line_head_names.proofs.Laws.Kinds.{KindsTo, kinds-step}
 use Rattle.line_head_names.proofs.head_cells.Statement.{statement}
@@ -28,13 +27,13 @@ Inv-loop places₀ count book line names flags kinds₀ stamps₀ tag at₀ c₀
     × ((rest : List Break) → putAll (lent places k) (eachCell (headCell (bookIn book) (names .section) (cells (drop (names .from) line)) (idsOf flags) (names .tag .control) (names .tag .line)) c (cells (drop at line)) rest)
     ≡ putAll (lent places₀ count) (eachCell (headCell (bookIn book) (names .section) (cells (drop (names .from) line)) (idsOf flags) (names .tag .control) (names .tag .line)) 2 (cells (drop (names .from) line)) rest))
     × (drop (c - 2) (cells (drop (names .from) line)) ≡ cells (drop at line)) × KindsTo (bookIn book) (names .section) c (cells (drop (names .from) line)) kinds × (length kinds ≡ 256)
-    × (opt ≡ any isOpt (take (c - 2) (cells (drop (names .from) line)))) × Noted stamps (names .tag .line) line (c - 2) × ((z : Bytes) → isNamed stamps line z (c - 2) ≡ any (same z) (take (c - 2) (cells (drop (names .from) line))))
+    × (opt ≡ any isOpt (take (c - 2) (cells (drop (names .from) line)))) × Noted stamps (names .tag .line) line (c - 2) × ((z : Bytes) → firstNamed stamps line z (c - 2) ≡ firstFrom 2 (same z) (take (c - 2) (cells (drop (names .from) line))))
 
 abbrev μ-loop : tie.MeasureT-loop
 μ-loop places₀ count book line names flags kinds₀ stamps₀ tag at₀ c₀ k₀ opt₀ places kinds stamps at c k opt = length line - at
 
 loop-holds : tie.Need-loop-holds Inv-loop μ-loop
-unfolding any isNamed
+unfolding any firstFrom firstNamed
 loop-holds c =
     let s = c .before .before .before .before .before in
     (search needs, search needs, search needs, search needs, search needs, (λ rest. refl), refl, (λ i l. absurd (omega arith)), search needs, refl, noted-none (s .args .stamps .now) (s .args .names .tag .line) (s .args .line .now) (s .pre .1 .1 .1 .1 .1), (λ z. refl))
@@ -133,6 +132,7 @@ loop-again c =
     let kinds = kinds-step _ xs (loop .c) (inv .1) here (args .names .section) (loop .kinds) in-kinds (inv .7) in
     let kept = length-set (loop .kinds) (loop .c - 1) (kindIn (columnOf (bookIn (args .book .now)) (args .names .section) name)) ∙ inv .8 in
     let one : loop .c + 1 - 2 ≡ loop .c - 2 + 1 = omega (arith, inv .1) in
+    let two : loop .c - 2 + 2 ≡ loop .c = omega (arith, inv .1) in
     let lt : at-end .cell-end .result < length (args .line .now) = omega (arith, c .if1 .left, ends .within) in (
       omega (arith, lt),
       omega (arith, inv .1),
@@ -145,7 +145,10 @@ loop-again c =
       rw (at-cell .head-cell .ensures .1) kept,
       at-either .either .ensures ∙ rw (at-opt .is-opt .ensures, inv .9) (any-more isOpt xs (loop .c) (inv .1) here),
       rw one (at-again .came-before .ensures .noted),
-      (λ z. ap (λ (j : ℕ). isNamed (at-again .came-before .last .0) (args .line .now) z j) one ∙ at-again .came-before .ensures .names z ∙ ap (λ (b : Bool). b || same z name) (inv .11 z) ∙ any-more (same z) xs (loop .c) (inv .1) here),
+      (λ z.
+          ap (λ (j : ℕ). firstNamed (at-again .came-before .last .0) (args .line .now) z j) one ∙ at-again .came-before .ensures .names z
+          ∙ ap (λ (f : ℕ). firstKept f (same z name) (loop .c - 2 + 2)) (inv .11 z) ∙ ap (firstKept (firstFrom 2 (same z) (take (loop .c - 2) xs)) (same z name)) two
+          ∙ first-more-name (same z) xs (loop .c) (inv .1) here),
     )
 
 pub head-cells-spec : {M : Type 1} → statement M

@@ -9,7 +9,7 @@ returns c =
     let p3 = c .before .before in
     let p2 = p3 .before .before .before .before in
     let p1 = p2 .before .before .before .before in
-    rw (p1 .before .before .before .is-strange .ensures) at (puts3 (p1 .put-if .ensures) (p2 .put-if2 .ensures) (p3 .put-if3 .ensures))
+    rw (p1 .before .before .before .is-strange .ensures) at (puts3 (p1 .put-if .ensures) (p2 .put-if2 .ensures) (p3 .put-again .ensures))
 
 pub name-known-spec : {M : Type 1} → statement M
 name-known-spec =

@@ -78,9 +78,10 @@ module _ {t : List ℕ} {n : ℕ} {line : Bytes} {m : ℕ} (noted : Noted t n li
           way = here;
           ends = omega (arith, fresh-door);
           equal = ap (λ (j : ℕ). nameAt fresh line j) fresh-door ∙ name-new noted few fresh-grows ∙ named;
+          first = λ j l q. let k : j < m = omega (arith, l, fresh-door) in apart j k (ap hashOf (sym (names-stay noted few fresh-grows j k) ∙ q));
         }
 
-    pub adds-first : Adds t (set (set (entered t m start end) (hashOf x) n) (DOORS + hashOf x) m) n line m x false
+    pub adds-first : Adds t (set (set (entered t m start end) (hashOf x) n) (DOORS + hashOf x) m) n line m x 0
     unfolding fresh
     adds-first =
         record {
@@ -102,11 +103,12 @@ module _ {t : List ℕ} {n : ℕ} {line : Bytes} {m : ℕ} (noted : Noted t n li
           doors = λ f s l k. inl (entered-old (branch f s) (omega arith));
         }
 
-    pub adds-again : nameAt t line (getD t d 0) ≡ x → Adds t (entered t m start end) n line m x true
+    pub adds-again : nameAt t line (getD t d 0) ≡ x → Adds t (entered t m start end) n line m x (getD t d 0 + 2)
     adds-again equal =
-        let before : Known t n line m x = record { stamped = stamped; door = d; way = way; ends = ends; equal = equal } in
+        let before : Known t n line m x = rw equal at (noted .known (getD t d 0) ends) in
+        let door : before .door ≡ d = way-one (before .way) (omega (arith, before .ends)) way (omega (arith, ends)) in
         record {
-          answer = sym (named-one t line x m (getD t d 0) ends equal);
+          answer = named-one t line x m (getD t d 0) ends equal (rw door at (before .first));
           noted = noted-more noted few entered-grows up within (name-new noted few entered-grows ∙ named) (λ j l. inl (entered-old (DOORS + hashOf (nameAt t line j)) (root-below (nameAt t line j)))) (known-stays noted few entered-grows before (inl (entered-old (DOORS + hashOf x) (root-below x))));
           names = named-more t (entered t m start end) line x m (names-stay noted few entered-grows) (name-new noted few entered-grows ∙ named);
         }
@@ -162,6 +164,9 @@ module _ {t : List ℕ} {n : ℕ} {line : Bytes} {m : ℕ} (noted : Noted t n li
             doors = λ f s l k. over-turned (branch f s) (omega arith);
           }
 
+      fresh-name : (j : ℕ) → j < m → nameAt t line j ≡ x → ⊥
+      fresh-name j l e = differ (meet (rw e at (noted .known j l)))
+
       over-known : Known over n line (m + 1) x
       over-known =
           record {
@@ -170,13 +175,14 @@ module _ {t : List ℕ} {n : ℕ} {line : Bytes} {m : ℕ} (noted : Noted t n li
             way = way-grown noted few over-grows way (over-turned (DOORS + hashOf x) (root-below x));
             ends = omega (arith, over-door);
             equal = ap (λ (j : ℕ). nameAt over line j) over-door ∙ name-new noted few over-grows ∙ named;
+            first = λ j l q. let k : j < m = omega (arith, l, over-door) in fresh-name j k (sym (names-stay noted few over-grows j k) ∙ q);
           }
 
-      pub adds-over : Adds t (set (entered t m start end) d m) n line m x false
+      pub adds-over : Adds t (set (entered t m start end) d m) n line m x 0
       unfolding over
       adds-over =
           record {
-            answer = sym (named-none t line x m (λ j l e. differ (meet (rw e at (noted .known j l)))));
+            answer = sym (named-none t line x m fresh-name);
             noted = noted-more noted few over-grows up within (name-new noted few over-grows ∙ named) (λ j l. over-turned (DOORS + hashOf (nameAt t line j)) (root-below (nameAt t line j))) over-known;
             names = named-more t over line x m (names-stay noted few over-grows) (name-new noted few over-grows ∙ named);
           }
@@ -249,6 +255,9 @@ module _ {t : List ℕ} {n : ℕ} {line : Bytes} {m : ℕ} (noted : Noted t n li
           side s l true e = rw (eqb-true s their e) (omega (arith, grown-their, ends))
           side s l false e = omega (arith, grown-side s l (eqb-false s their e))
 
+      new : (j : ℕ) → j < m → nameAt t line j ≡ x → ⊥
+      new j l e = differ (ap (sideOf ask) (sym (meet (rw e at (noted .known j l)))))
+
       grown-known : Known grown n line (m + 1) x
       grown-known =
           record {
@@ -257,12 +266,10 @@ module _ {t : List ℕ} {n : ℕ} {line : Bytes} {m : ℕ} (noted : Noted t n li
             way = rw grown-ask at (way-on m (way-grown noted few grown-grows way (grown-turned (DOORS + hashOf x) (root-below x))) grown-door (omega arith));
             ends = omega (arith, grown-own);
             equal = ap (λ (j : ℕ). nameAt grown line j) grown-own ∙ name-new noted few grown-grows ∙ named;
+            first = λ j l q. let k : j < m = omega (arith, l, grown-own) in new j k (sym (names-stay noted few grown-grows j k) ∙ q);
           }
 
-      new : (j : ℕ) → j < m → nameAt t line j ≡ x → ⊥
-      new j l e = differ (ap (sideOf ask) (sym (meet (rw e at (noted .known j l)))))
-
-      pub adds-fork : Adds t (forked (entered t m start end) d m ask (sideOf ask (nameAt t line (getD t d 0)))) n line m x false
+      pub adds-fork : Adds t (forked (entered t m start end) d m ask (sideOf ask (nameAt t line (getD t d 0)))) n line m x 0
       unfolding grown their
       adds-fork =
           record {

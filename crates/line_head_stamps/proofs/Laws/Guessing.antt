@@ -1,14 +1,13 @@
 -- What holds of a list holds of one with other guesses. Assumes nothing.
 use mathlib.Core.Path.{_≡_, refl, sym, ap, subst⁻¹, _∙_}
-use mathlib.Core.Bool.{Bool, _||_}
 use mathlib.Core.List.{List}
 use Prim.Native.Nat.{ℕ, zero, suc, _+_, _≤_, _<_}
 use native.Mathlib.Omega.{arith}
 use lib.Seq.{getD-set-other}
-use lib.ListN.{length, getD, set, length-set}
-use Rattle.text_bytes.specs.Bytes.{Bytes, same}
-use Rattle.line_head_stamps.specs.Stamps.{DOORS, ASKS, STARTS, ENDS, GUESSES, ROOM, IsDoor, branch, nameAt, hashOf, forked}
-use Rattle.line_head_stamps.specs.Ways.{Guessed, Way, Doors, Goes, Known, Noted, isNamed, Adds}
+use lib.ListN.{getD, set, length-set}
+use Rattle.text_bytes.specs.Bytes.{Bytes, same, firstKept}
+use Rattle.line_head_stamps.specs.Stamps.{DOORS, ASKS, STARTS, ENDS, GUESSES, branch, nameAt, hashOf, forked}
+use Rattle.line_head_stamps.specs.Ways.{Guessed, Way, Doors, Goes, Known, Noted, firstNamed, Adds}
 use Rattle.line_head_stamps.proofs.Laws.Asking.{hash-below}
 use Rattle.line_head_stamps.proofs.Laws.Passing.{way-range, way-stays}
 
@@ -64,6 +63,7 @@ module _ {t t' : List ℕ} {m : ℕ} (g : Guessed t t') (few : m ≤ 254) where
           way = way-kept g few (omega (arith, h)) (k .way);
           ends = omega (arith, same, k .ends);
           equal = ap (nameAt t' line) same ∙ name-kept (getD t (k .door) 0) (k .ends) ∙ k .equal;
+          first = λ j l q. k .first j (omega (arith, l, same)) (sym (name-kept j (omega (arith, l, same, k .ends))) ∙ q);
         }
 
     pub noted-kept : Noted t n line m → Noted t' n line m
@@ -76,19 +76,19 @@ module _ {t t' : List ℕ} {m : ℕ} (g : Guessed t t') (few : m ≤ 254) where
           known = λ j l. rw (name-kept j l) (known-kept (d .known j l));
         }
 
-    named-kept : (z : Bytes) (k : ℕ) → k ≤ m → isNamed t' line z k ≡ isNamed t line z k
-    unfolding isNamed
+    named-kept : (z : Bytes) (k : ℕ) → k ≤ m → firstNamed t' line z k ≡ firstNamed t line z k
+    unfolding firstNamed
     named-kept z zero l = refl
     named-kept z (suc k) l = rw (named-kept z k (omega arith), name-kept k (omega arith))
 
     -- what is added to the list with other guesses is added to the first
-    pub adds-kept : {u v : List ℕ} {x : Bytes} {again : Bool} → u ≡ v → Adds t' v n line m x again → Adds t u n line m x again
-    adds-kept {u} {v} {x} {again} e added =
-        let a = subst⁻¹ (λ (w : List ℕ). Adds t' w n line m x again) e added in
+    pub adds-kept : {u v : List ℕ} {x : Bytes} {first : ℕ} → u ≡ v → Adds t' v n line m x first → Adds t u n line m x first
+    adds-kept {u} {v} {x} {first} e added =
+        let a = subst⁻¹ (λ (w : List ℕ). Adds t' w n line m x first) e added in
         record {
           answer = a .answer ∙ named-kept x m (omega arith);
           noted = a .noted;
-          names = λ z. a .names z ∙ ap (λ (b : Bool). b || same z x) (named-kept z m (omega arith));
+          names = λ z. a .names z ∙ ap (λ (f : ℕ). firstKept f (same z x) (m + 2)) (named-kept z m (omega arith));
         }
 
 -- what is written, with the same said in other words

@@ -1,5 +1,5 @@
 -- The first names are noted, and one more with them: it is the first of its stamp, or came before, or gets a fork of its own. Assumes nothing.
-use mathlib.Core.Path.{_≡_, refl, _∙_}
+use mathlib.Core.Path.{_≡_, refl, sym, _∙_}
 use mathlib.Core.List.{List}
 use mathlib.Core.Logic.{_⊎_, ⊎-elim}
 use Prim.Native.Nat.{ℕ, _+_, _≤_, _<_}
@@ -109,6 +109,10 @@ module _ {t t' : List ℕ} {n : ℕ} {line : Bytes} {m start end : ℕ} (noted :
       stamped : getD t' (hashOf z) 0 ≡ n
       stamped = grows .stamps (hashOf z) (hash-below z) (k .stamped)
 
+      -- what stands before it is as it was
+      earlier : (j : ℕ) → j < getD t (k .door) 0 → nameAt t' line j ≡ z → ⊥
+      earlier j l q = k .first j l (sym (names-stay j (omega (arith, l, k .ends))) ∙ q)
+
       same : getD t' (k .door) 0 ≡ getD t (k .door) 0 → Known t' n line (m + 1) z
       same e =
           record {
@@ -117,6 +121,7 @@ module _ {t t' : List ℕ} {n : ℕ} {line : Bytes} {m start end : ℕ} (noted :
             way = way;
             ends = omega (arith, e, k .ends);
             equal = rw e (names-stay (getD t (k .door) 0) (k .ends) ∙ k .equal);
+            first = λ j l q. earlier j (omega (arith, l, e)) q;
           }
 
       split : Split t t' line m (k .door) → Known t' n line (m + 1) z
@@ -129,6 +134,7 @@ module _ {t t' : List ℕ} {n : ℕ} {line : Bytes} {m start end : ℕ} (noted :
             way = way-on m way (s .fork) (omega arith);
             ends = omega (arith, e, k .ends);
             equal = rw e (names-stay (getD t (k .door) 0) (k .ends) ∙ k .equal);
+            first = λ j l q. earlier j (omega (arith, l, e)) q;
           }
 
   -- one more is noted

@@ -1,4 +1,4 @@
--- `line_head_stamps::came_before` meets its contract: a name is the first of its stamp, or the one name at the end of its way decides. Guesses that the way
+-- `line_head_stamps::came_before` meets its contract: a name is the first of its stamp, or the one name at the end of its way, the first of its equals, decides. Guesses that the way
 -- changed are of no account. Assumes nothing.
 use mathlib.Core.Path.{_≡_, refl, sym, ap, subst, _∙_}
 use mathlib.Core.List.{List}
@@ -241,6 +241,7 @@ came-before-spec =
     (λ c κs. search needs)
     is-astray-requires
     (λ c κs. (noted (called (ended (c .before .before .before))) .places, search needs))
+    (λ c. let e = ended (compared (c .before .before .before)) in omega (arith, ends e, few (called e)))
     (λ c. returns-2 c .noted .places ∙ sym (start (called (ended (compared (c .before .before .before)))) .pre .0 .places))
     returns-2
     (λ c. search needs)

@@ -1,5 +1,5 @@
 -- `line_head_stamps::further` meets its contract. The loop's invariant: what is held leads to a fork, and a way on from the name's door there is one from the first. Forks rise, so it ends; a guess is all that is written. Assumes nothing.
-use mathlib.Core.Path.{_≡_, refl, sym, ap, subst, _∙_}
+use mathlib.Core.Path.{_≡_, refl, ap, subst, _∙_}
 use mathlib.Core.List.{List}
 use Prim.Native.Nat.{ℕ, _+_, _-_, _*_, _≤_}
 use native.Mathlib.Omega.{arith}

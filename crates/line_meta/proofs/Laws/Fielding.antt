@@ -27,16 +27,16 @@ first-tab {l} {e} h n =
     ⊎-elim (λ (q : e ≡ length l). absurd (omega (arith, ap length (cell-here h), ap length (cells-last h q)))) (λ (q : e < length l). q) (eq-or-lt-of-le (h .within))
 
 -- THE KEY AND THE VALUE
-module _ (b : Book) (cc n : ℕ) {slots : List Bool} {ids : Ids} {key value : Bytes} {r : Judgement} {o o₁ o₂ : Lent} (j : Judged b slots ids (keyOf b key) key value r)
-    (h₁ : Puts (λ rest. controlAt cc n 2 (ruleAt (r .key) n 2 rest)) 2 o o₁)
-    (h₂ : Puts (λ rest. controlAt cc n 3 (ruleAt (r .value) n 3 rest)) 2 o₁ o₂) where
+module _ (b : Book) (cc n : ℕ) {slots : List ℕ} {ids : Ids} {key value : Bytes} {r : Judgement} {o o₁ o₂ : Lent} (j : Judged b slots ids (keyOf b key) key value r)
+    (h₁ : Puts (λ rest. controlAt cc n 2 (ruleAt (r .key) n 2 (r .first) rest)) 2 o o₁)
+    (h₂ : Puts (λ rest. controlAt cc n 3 (ruleAt (r .value) n 3 0 rest)) 2 o₁ o₂) where
   pub three-puts : (xs : List Bytes) → drop 1 xs ≡ key ∷ value ∷ [] → Puts (eachCell (metaCell b slots ids (getD xs 1 []) (getD xs 2 []) cc n) 2 (drop 1 xs)) 4 o o₂
   unfolding eachCell
   three-puts [] e = absurd (omega (arith, ap length e))
-  three-puts (x ∷ xs) e = rw e (rw (j .of-key, j .of-value) at (puts2 h₁ h₂))
+  three-puts (x ∷ xs) e = rw e (rw (j .of-key, j .of-first, j .of-value) at (puts2 h₁ h₂))
 
 -- THE WHOLE LINE
-module _ (b : Book) (table : Bool) (slots : List Bool) (ids : Ids) (cc n : ℕ) (xs : List Bytes) {o o₁ o₂ o₃ o₄ : Lent}
+module _ (b : Book) (table : Bool) (slots : List ℕ) (ids : Ids) (cc n : ℕ) (xs : List Bytes) {o o₁ o₂ o₃ o₄ : Lent}
     (h₁ : Puts (controlAt cc n 1) 1 o o₁) (h₂ : Puts (when (not (eqb (length xs) 3)) (breakAt n 1 3)) 1 o₁ o₂) (h₃ : Puts (when table (breakAt n 1 4)) 1 o₂ o₃) where
   pub meta-three : length xs ≡ 3 → Puts (eachCell (metaCell b slots ids (getD xs 1 []) (getD xs 2 []) cc n) 2 (drop 1 xs)) 4 o₃ o₄ → Puts (metaBreaks b table slots ids cc n xs) LINE-MOST o o₄
   unfolding metaBreaks

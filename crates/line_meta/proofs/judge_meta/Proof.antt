@@ -7,6 +7,7 @@ use borrow.Author.Needs.{needs}
 use Rattle.text.specs.Lines.{cells}
 use Rattle.scan.specs.Places.{CEILING}
 use Rattle.scan.specs.Machine.{idsOf}
+use Rattle.line_meta_keys.proofs.Laws.Slotting.{in-slots}
 use Rattle.line_meta.proofs.Laws.Slotted.{keeps-three, keeps-other}
 use Rattle.line_meta.proofs.Laws.Fielding.{meta-three, meta-other}
 use Rattle.line_meta.proofs.judge_meta.Statement.{statement}
@@ -44,7 +45,7 @@ returns c =
     let n = at-count .count-cells .ensures in
     let three = sym n ∙ branch .if1 .taken in (
       meta-three _ (a .table) (a .slots .now) (idsOf (a .flags .now)) (a .tag .control) (a .tag .line) (cells (a .line .now)) (p1 .put-if .ensures) (rw n at (p2 .put-if2 .ensures)) (p3 .put-if3 .ensures) three (at-three .judge-three .ensures .0),
-      rw (at-three .judge-three .ensures .1) (keeps-three _ (a .slots .now) (start .pre .1 .1 .0) (a .line .now) (start .pre .1 .1 .1 .0) three),
+      rw (at-three .judge-three .ensures .1) (keeps-three _ (a .slots .now) (start .pre .1 .1 .0) (a .line .now) (a .tag .line) (start .pre .1 .1 .1 .0) (in-slots _ _) three),
     )
 
 returns-2 : tie.Need-returns-2
@@ -60,7 +61,7 @@ returns-2 c =
     let n = at-count .count-cells .ensures in
     let other : length (cells (a .line .now)) ≡ 3 → ⊥ = λ q. branch .if1 .left (n ∙ q) in (
       meta-other _ (a .table) (a .slots .now) (idsOf (a .flags .now)) (a .tag .control) (a .tag .line) (cells (a .line .now)) (p1 .put-if .ensures) (rw n at (p2 .put-if2 .ensures)) (p3 .put-if3 .ensures) other (p4 .put-if4 .ensures),
-      keeps-other _ (a .slots .now) (start .pre .1 .1 .0) (a .line .now) other,
+      keeps-other _ (a .slots .now) (start .pre .1 .1 .0) (a .line .now) (a .tag .line) other,
     )
 
 pub judge-meta-spec : {M : Type 1} → statement M

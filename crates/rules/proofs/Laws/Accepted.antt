@@ -33,11 +33,11 @@ accepted-none file e = none (breaks file) (eqb-true (length (breaks file)) 0 e)
     none (b ∷ bs) z = absurd (omega arith)
 
 -- a rule of a list that is broken
-nth-broken : (rs : List Rule) (p : Spot) (c j : ℕ) (r : Rule) → getElem? rs j ≡ some r → r .broken p c ≡ true → Broken rs p c (r .number)
+nth-broken : (rs : List Rule) (p : Spot) (c j : ℕ) (r : Rule) → getElem? rs j ≡ some r → r .broken p c ≡ true → Broken rs p c (r .number) (r .first p c)
 nth-broken [] p c j r e t = absurd (let z : _≡_ {A = ℕ} 0 1 = cc in omega arith)
 nth-broken (x ∷ rs) p c zero r e t =
     let a : x ≡ r = cc in
-    inl (subst (λ (y : Rule). (r .number ≡ y .number) × (y .broken p c ≡ true)) (sym a) (refl, t))
+    inl (subst (λ (y : Rule). (r .number ≡ y .number) × (r .first p c ≡ y .first p c) × (y .broken p c ≡ true)) (sym a) (refl, refl, t))
 nth-broken (x ∷ rs) p c (suc j) r e t = inr (nth-broken rs p c j r e t)
 
 -- a header is judged

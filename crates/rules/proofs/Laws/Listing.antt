@@ -11,7 +11,7 @@ use lib.ListN.{length}
 use Rattle.text_bytes.specs.Bytes.{Bytes}
 use Rattle.text.specs.Lines.{width}
 use Rattle.rules.specs.Sorts.{isSilent}
-use Rattle.rules.specs.Breaks.{Break, breakAt, when, Spot, spotAt, Rule, each, atCell, atLine, inLines, atEnd, Broken, Breaks, Lacks, In, Before, Sorted, Rising}
+use Rattle.rules.specs.Breaks.{Break, breakWith, when, Spot, spotAt, Rule, each, atCell, atLine, inLines, atEnd, Broken, Breaks, Lacks, In, Before, Sorted, Rising}
 
 -- LISTS
 
@@ -62,42 +62,42 @@ module _ (f : ℕ → List Break) where
 -- THE RULES AT A CELL
 
 module _ (p : Spot) (n c : ℕ) where
-  at-in : (rs : List Rule) (g : Break) → In g (atCell rs p n c) → (g .line ≡ n) × ((g .cell ≡ c) × Broken rs p c (g .rule))
+  at-in : (rs : List Rule) (g : Break) → In g (atCell rs p n c) → (g .line ≡ n) × ((g .cell ≡ c) × Broken rs p c (g .rule) (g .first))
   unfolding atCell
   at-in [] g h = absurd h
   at-in (r ∷ rs) g h = go (r .broken p c) refl (at-in rs g) h
     where
-      go : (t : Bool) → r .broken p c ≡ t → (In g (atCell rs p n c) → (g .line ≡ n) × ((g .cell ≡ c) × Broken rs p c (g .rule)))
-          → In g (when t (breakAt n c (r .number)) (atCell rs p n c)) → (g .line ≡ n) × ((g .cell ≡ c) × Broken (r ∷ rs) p c (g .rule))
-      go true e ih (inl q) = (ap (λ (x : Break). x .line) q, (ap (λ (x : Break). x .cell) q, inl (ap (λ (x : Break). x .rule) q, e)))
+      go : (t : Bool) → r .broken p c ≡ t → (In g (atCell rs p n c) → (g .line ≡ n) × ((g .cell ≡ c) × Broken rs p c (g .rule) (g .first)))
+          → In g (when t (breakWith n c (r .number) (r .first p c)) (atCell rs p n c)) → (g .line ≡ n) × ((g .cell ≡ c) × Broken (r ∷ rs) p c (g .rule) (g .first))
+      go true e ih (inl q) = (ap (λ (x : Break). x .line) q, (ap (λ (x : Break). x .cell) q, inl (ap (λ (x : Break). x .rule) q, ap (λ (x : Break). x .first) q, e)))
       go true e ih (inr m) = let q = ih m in (q .0, (q .1 .0, inr (q .1 .1)))
       go false e ih m = let q = ih m in (q .0, (q .1 .0, inr (q .1 .1)))
 
-  in-at : (rs : List Rule) (k : ℕ) → Broken rs p c k → In (breakAt n c k) (atCell rs p n c)
+  in-at : (rs : List Rule) (k f : ℕ) → Broken rs p c k f → In (breakWith n c k f) (atCell rs p n c)
   unfolding atCell
-  in-at [] k h = absurd h
-  in-at (r ∷ rs) k (inl b) = rw (b .1) (inl (ap (breakAt n c) (b .0)))
-  in-at (r ∷ rs) k (inr b) = go (r .broken p c) (in-at rs k b)
+  in-at [] k f h = absurd h
+  in-at (r ∷ rs) k f (inl b) = rw (b .2) (inl (rw (b .0, b .1)))
+  in-at (r ∷ rs) k f (inr b) = go (r .broken p c) (in-at rs k f b)
     where
-      go : (t : Bool) → In (breakAt n c k) (atCell rs p n c) → In (breakAt n c k) (when t (breakAt n c (r .number)) (atCell rs p n c))
+      go : (t : Bool) → In (breakWith n c k f) (atCell rs p n c) → In (breakWith n c k f) (when t (breakWith n c (r .number) (r .first p c)) (atCell rs p n c))
       go true m = inr m
       go false m = m
 
   -- a rule that is broken has a number above what the numbers rise from
-  rising-above : (rs : List Rule) (j k : ℕ) → Rising j rs → Broken rs p c k → j < k
-  rising-above [] j k r h = absurd h
-  rising-above (q ∷ rs) j k r (inl b) = omega (arith, r .0, b .0)
-  rising-above (q ∷ rs) j k r (inr b) = omega (arith, r .0, rising-above rs (q .number) k (r .1) b)
+  rising-above : (rs : List Rule) (j k f : ℕ) → Rising j rs → Broken rs p c k f → j < k
+  rising-above [] j k f r h = absurd h
+  rising-above (q ∷ rs) j k f r (inl b) = omega (arith, r .0, b .0)
+  rising-above (q ∷ rs) j k f r (inr b) = omega (arith, r .0, rising-above rs (q .number) k f (r .1) b)
 
   at-sorted : (rs : List Rule) (j : ℕ) → Rising j rs → Sorted (atCell rs p n c)
   unfolding atCell
   at-sorted [] j r = tt
   at-sorted (q ∷ rs) j r = go (q .broken p c) (at-sorted rs (q .number) (r .1))
     where
-      first : (g : Break) → In g (atCell rs p n c) → Before (breakAt n c (q .number)) g
-      first g m = let a = at-in rs g m in inr (sym (a .0), inr (sym (a .1 .0), rising-above rs (q .number) (g .rule) (r .1) (a .1 .1)))
+      first : (g : Break) → In g (atCell rs p n c) → Before (breakWith n c (q .number) (q .first p c)) g
+      first g m = let a = at-in rs g m in inr (sym (a .0), inr (sym (a .1 .0), rising-above rs (q .number) (g .rule) (g .first) (r .1) (a .1 .1)))
 
-      go : (t : Bool) → Sorted (atCell rs p n c) → Sorted (when t (breakAt n c (q .number)) (atCell rs p n c))
+      go : (t : Bool) → Sorted (atCell rs p n c) → Sorted (when t (breakWith n c (q .number) (q .first p c)) (atCell rs p n c))
       go true s = (first, s)
       go false s = s
 
@@ -105,7 +105,7 @@ module _ (p : Spot) (n c : ℕ) where
 
 module _ (rs : List Rule) (p : Spot) (n : ℕ) where
   abbrev InLine : Break → Type 0
-  InLine g = (isSilent (p .here) ≡ false) × ((g .line ≡ n) × ((1 ≤ g .cell) × ((g .cell ≤ width (p .here)) × Broken rs p (g .cell) (g .rule))))
+  InLine g = (isSilent (p .here) ≡ false) × ((g .line ≡ n) × ((1 ≤ g .cell) × ((g .cell ≤ width (p .here)) × Broken rs p (g .cell) (g .rule) (g .first))))
 
   line-in : (g : Break) → In g (atLine rs p n) → InLine g
   unfolding atLine
@@ -118,9 +118,9 @@ module _ (rs : List Rule) (p : Spot) (n : ℕ) where
           let a = at-in p n (r .0) rs g (r .1 .1 .1) in
           (e, (a .0, (omega (arith, r .1 .0, a .1 .0), (omega (arith, r .1 .1 .0, a .1 .0), rw (a .1 .0) (a .1 .1)))))
 
-  in-line : (c k : ℕ) → isSilent (p .here) ≡ false → 1 ≤ c → c ≤ width (p .here) → Broken rs p c k → In (breakAt n c k) (atLine rs p n)
+  in-line : (c k f : ℕ) → isSilent (p .here) ≡ false → 1 ≤ c → c ≤ width (p .here) → Broken rs p c k f → In (breakWith n c k f) (atLine rs p n)
   unfolding atLine
-  in-line c k e a b h = rw e (in-each (atCell rs p n) (width (p .here)) 1 c (breakAt n c k) a (omega arith) (in-at p n c rs k h))
+  in-line c k f e a b h = rw e (in-each (atCell rs p n) (width (p .here)) 1 c (breakWith n c k f) a (omega arith) (in-at p n c rs k f h))
 
   line-sorted : (j : ℕ) → Rising j rs → Sorted (atLine rs p n)
   unfolding atLine
@@ -140,13 +140,13 @@ module _ (rs : List Rule) (p : Spot) (n : ℕ) where
 
 module _ (rs : List Rule) (file : List Bytes) where
   -- a break of the list is one of the file, and the other way round
-  pub listed-broken : (n c k : ℕ) → In (breakAt n c k) (inLines rs file) → Breaks rs file n c k
+  pub listed-broken : (n c k f : ℕ) → In (breakWith n c k f) (inLines rs file) → Breaks rs file n c k f
   unfolding inLines
-  listed-broken n c k h =
-      let r = each-in (λ i. atLine rs (spotAt file i) i) (length file) 1 (breakAt n c k) h in
-      let a = line-in rs (spotAt file (r .0)) (r .0) (breakAt n c k) (r .1 .1 .1) in
+  listed-broken n c k f h =
+      let r = each-in (λ i. atLine rs (spotAt file i) i) (length file) 1 (breakWith n c k f) h in
+      let a = line-in rs (spotAt file (r .0)) (r .0) (breakWith n c k f) (r .1 .1 .1) in
       let e : r .0 ≡ n = sym (a .1 .0) in
-      let b : InLine rs (spotAt file n) n (breakAt n c k) = rw (← a .1 .0) at a in
+      let b : InLine rs (spotAt file n) n (breakWith n c k f) = rw (← a .1 .0) at a in
       record {
         line-low = omega (arith, r .1 .0, e);
         line-high = omega (arith, r .1 .1 .0, e);
@@ -156,11 +156,11 @@ module _ (rs : List Rule) (file : List Bytes) where
         broken = b .1 .1 .1 .1;
       }
 
-  pub broken-listed : {n c k : ℕ} → Breaks rs file n c k → In (breakAt n c k) (inLines rs file)
+  pub broken-listed : {n c k f : ℕ} → Breaks rs file n c k f → In (breakWith n c k f) (inLines rs file)
   unfolding inLines
-  broken-listed {n} {c} {k} h =
-      in-each (λ i. atLine rs (spotAt file i) i) (length file) 1 n (breakAt n c k) (h .line-low) (omega (arith, h .line-high))
-      (in-line rs (spotAt file n) n c k (h .judged) (h .cell-low) (h .cell-high) (h .broken))
+  broken-listed {n} {c} {k} {f} h =
+      in-each (λ i. atLine rs (spotAt file i) i) (length file) 1 n (breakWith n c k f) (h .line-low) (omega (arith, h .line-high))
+      (in-line rs (spotAt file n) n c k f (h .judged) (h .cell-low) (h .cell-high) (h .broken))
 
   lines-below : (g : Break) → In g (inLines rs file) → g .line ≤ length file
   unfolding inLines
@@ -178,11 +178,11 @@ module _ (rs : List Rule) (file : List Bytes) where
 
 module _ (rs : List Rule) (w : ℕ) (file : List Bytes) where
   -- a break of line N + 1 is listed, and the other way round
-  pub listed-lacks : (n c k : ℕ) → In (breakAt n c k) (atEnd rs w file) → Lacks rs w file n c k
+  pub listed-lacks : (n c k f : ℕ) → In (breakWith n c k f) (atEnd rs w file) → Lacks rs w file n c k f
   unfolding atEnd
-  listed-lacks n c k h =
-      let r = each-in (atCell rs (spotAt file (length file + 1)) (length file + 1)) w 1 (breakAt n c k) h in
-      let a = at-in (spotAt file (length file + 1)) (length file + 1) (r .0) rs (breakAt n c k) (r .1 .1 .1) in
+  listed-lacks n c k f h =
+      let r = each-in (atCell rs (spotAt file (length file + 1)) (length file + 1)) w 1 (breakWith n c k f) h in
+      let a = at-in (spotAt file (length file + 1)) (length file + 1) (r .0) rs (breakWith n c k f) (r .1 .1 .1) in
       record {
         line = a .0;
         cell-low = omega (arith, r .1 .0, a .1 .0);
@@ -190,11 +190,11 @@ module _ (rs : List Rule) (w : ℕ) (file : List Bytes) where
         broken = rw (a .1 .0) (a .1 .1);
       }
 
-  pub lacks-listed : {n c k : ℕ} → Lacks rs w file n c k → In (breakAt n c k) (atEnd rs w file)
+  pub lacks-listed : {n c k f : ℕ} → Lacks rs w file n c k f → In (breakWith n c k f) (atEnd rs w file)
   unfolding atEnd
-  lacks-listed {n} {c} {k} h =
-      rw (h .line) (in-each (atCell rs (spotAt file (length file + 1)) (length file + 1)) w 1 c (breakAt (length file + 1) c k) (h .cell-low) (omega (arith, h .cell-high))
-      (in-at (spotAt file (length file + 1)) (length file + 1) c rs k (h .broken)))
+  lacks-listed {n} {c} {k} {f} h =
+      rw (h .line) (in-each (atCell rs (spotAt file (length file + 1)) (length file + 1)) w 1 c (breakWith (length file + 1) c k f) (h .cell-low) (omega (arith, h .cell-high))
+      (in-at (spotAt file (length file + 1)) (length file + 1) c rs k f (h .broken)))
 
   pub end-sorted : (j : ℕ) → Rising j rs → Sorted (atEnd rs w file)
   unfolding atEnd
@@ -211,13 +211,26 @@ module _ (rs es : List Rule) (w : ℕ) (file : List Bytes) where
   pub all-sorted : (i j : ℕ) → Rising i rs → Rising j es → Sorted (inLines rs file ++ atEnd es w file)
   all-sorted i j r s =
       sorted-append (inLines rs file) (atEnd es w file) (sorted rs file i r) (end-sorted es w file j s)
-      (λ f g u v. inl (omega (arith, lines-below rs file f u, listed-lacks es w file (g .line) (g .cell) (g .rule) v .line)))
+      (λ f g u v. inl (omega (arith, lines-below rs file f u, listed-lacks es w file (g .line) (g .cell) (g .rule) (g .first) v .line)))
 
   -- a break is listed exactly where a rule is broken
-  pub all-broken : (n c k : ℕ) → In (breakAt n c k) (inLines rs file ++ atEnd es w file) → Breaks rs file n c k ⊎ Lacks es w file n c k
-  all-broken n c k h =
-      ⊎-elim (λ a. inl (listed-broken rs file n c k a)) (λ b. inr (listed-lacks es w file n c k b)) (in-append (breakAt n c k) (inLines rs file) (atEnd es w file) h)
+  pub all-broken : (n c k f : ℕ) → In (breakWith n c k f) (inLines rs file ++ atEnd es w file) → Breaks rs file n c k f ⊎ Lacks es w file n c k f
+  all-broken n c k f h =
+      ⊎-elim (λ a. inl (listed-broken rs file n c k f a)) (λ b. inr (listed-lacks es w file n c k f b)) (in-append (breakWith n c k f) (inLines rs file) (atEnd es w file) h)
 
-  pub broken-all : {n c k : ℕ} → Breaks rs file n c k ⊎ Lacks es w file n c k → In (breakAt n c k) (inLines rs file ++ atEnd es w file)
-  broken-all {n} {c} {k} (inl h) = in-left (breakAt n c k) (inLines rs file) (atEnd es w file) (broken-listed rs file h)
-  broken-all {n} {c} {k} (inr h) = in-right (breakAt n c k) (inLines rs file) (atEnd es w file) (lacks-listed es w file h)
+  pub broken-all : {n c k f : ℕ} → Breaks rs file n c k f ⊎ Lacks es w file n c k f → In (breakWith n c k f) (inLines rs file ++ atEnd es w file)
+  broken-all {n} {c} {k} {f} (inl h) = in-left (breakWith n c k f) (inLines rs file) (atEnd es w file) (broken-listed rs file h)
+  broken-all {n} {c} {k} {f} (inr h) = in-right (breakWith n c k f) (inLines rs file) (atEnd es w file) (lacks-listed es w file h)
+
+-- NO TWO BREAKS of a sorted list have the same line, cell and rule: what has them is one break, with one fourth number
+not-before : (b g : Break) → b .line ≡ g .line → b .cell ≡ g .cell → b .rule ≡ g .rule → Before b g → ⊥
+not-before b g l c r (inl a) = omega (arith, l, a)
+not-before b g l c r (inr (a, inl d)) = omega (arith, c, d)
+not-before b g l c r (inr (a, inr (d, e))) = omega (arith, r, e)
+
+pub place-once : (bs : List Break) → Sorted bs → (g h : Break) → In g bs → In h bs → g .line ≡ h .line → g .cell ≡ h .cell → g .rule ≡ h .rule → g ≡ h
+place-once [] s g h a b l c r = absurd a
+place-once (x ∷ bs) s g h (inl a) (inl b) l c r = a ∙ sym b
+place-once (x ∷ bs) s g h (inl a) (inr b) l c r = absurd (not-before g h l c r (rw a (s .0 h b)))
+place-once (x ∷ bs) s g h (inr a) (inl b) l c r = absurd (not-before h g (sym l) (sym c) (sym r) (rw b (s .0 g a)))
+place-once (x ∷ bs) s g h (inr a) (inr b) l c r = place-once bs (s .1) g h a b l c r

@@ -9,11 +9,12 @@ use borrow.Author.Needs.{needs}
 use lib.ListN.{length}
 use Rattle.text_bytes.specs.Bytes.{Bytes}
 use Rattle.text.specs.Lines.{lines}
-use Rattle.rules.specs.Breaks.{Break, breakAt, In, Sorted, Rising}
+use Rattle.rules.specs.Breaks.{Break, breakWith, In, Sorted, Rising}
 use Rattle.book.specs.Book.{Book, bookOf}
 use Rattle.rules.specs.Rules.{rules, endRules, ends, breaksBy, breaks}
 use Rattle.rules.specs.Promised.{IsBrokenBy, IsBroken, Reports}
 use Rattle.rules.proofs.Laws.Listing.{all-sorted, all-broken, broken-all}
+use Rattle.rules.proofs.Laws.Firsts.{first-of}
 
 -- BY ANY BOOK
 module _ (b : Book) where
@@ -32,11 +33,11 @@ module _ (b : Book) where
   by-sorted file = all-sorted (rules b) (endRules b) (ends b) file 0 0 rising end-rising
 
   -- a break is listed exactly where that rule is broken at that cell of that line
-  pub by-broken : (file : List Bytes) (n c k : ℕ) → In (breakAt n c k) (breaksBy b file) → IsBrokenBy b file n c k
+  pub by-broken : (file : List Bytes) (n c k f : ℕ) → In (breakWith n c k f) (breaksBy b file) → IsBrokenBy b file n c k f
   unfolding breaksBy
-  by-broken file n c k h = all-broken (rules b) (endRules b) (ends b) file n c k h
+  by-broken file n c k f h = all-broken (rules b) (endRules b) (ends b) file n c k f h
 
-  pub by-listed : (file : List Bytes) {n c k : ℕ} → IsBrokenBy b file n c k → In (breakAt n c k) (breaksBy b file)
+  pub by-listed : (file : List Bytes) {n c k f : ℕ} → IsBrokenBy b file n c k f → In (breakWith n c k f) (breaksBy b file)
   unfolding breaksBy
   by-listed file h = broken-all (rules b) (endRules b) (ends b) file h
 
@@ -45,27 +46,28 @@ pub breaks-sorted : (file : Bytes) → Sorted (breaks file)
 unfolding breaks
 breaks-sorted file = by-sorted (bookOf (lines file)) (lines file)
 
-pub listed-broken : (file : Bytes) (n c k : ℕ) → In (breakAt n c k) (breaks file) → IsBroken file n c k
+pub listed-broken : (file : Bytes) (n c k f : ℕ) → In (breakWith n c k f) (breaks file) → IsBroken file n c k f
 unfolding breaks
-listed-broken file n c k h = by-broken (bookOf (lines file)) (lines file) n c k h
+listed-broken file n c k f h = by-broken (bookOf (lines file)) (lines file) n c k f h
 
-pub broken-listed : (file : Bytes) {n c k : ℕ} → IsBroken file n c k → In (breakAt n c k) (breaks file)
+pub broken-listed : (file : Bytes) {n c k f : ℕ} → IsBroken file n c k f → In (breakWith n c k f) (breaks file)
 unfolding breaks
 broken-listed file h = by-listed (bookOf (lines file)) (lines file) h
 
+-- and its fourth number is the first place
 pub breaks-reported : (file : Bytes) → Reports file (breaks file)
-breaks-reported file = record { sorted = breaks-sorted file; broken = listed-broken file; listed = λ n c k h. broken-listed file h }
+breaks-reported file = record { sorted = breaks-sorted file; broken = listed-broken file; listed = λ n c k f h. broken-listed file h; first = λ n c k f h. first-of (bookOf (lines file)) (lines file) (listed-broken file n c k f h) }
 
 pub length-none : (bs : List Break) → length bs ≡ 0 → bs ≡ []
 length-none [] e = refl
 length-none (b ∷ bs) e = absurd (omega (arith, e))
 
 -- so a file is accepted exactly when no rule is broken
-pub accepted-whole : (file : Bytes) {n c k : ℕ} → breaks file ≡ [] → IsBroken file n c k → ⊥
-accepted-whole file {n} {c} {k} e h = subst (In (breakAt n c k)) e (broken-listed file h)
+pub accepted-whole : (file : Bytes) {n c k f : ℕ} → breaks file ≡ [] → IsBroken file n c k f → ⊥
+accepted-whole file {n} {c} {k} {f} e h = subst (In (breakWith n c k f)) e (broken-listed file h)
 
-pub whole-accepted : (file : Bytes) → ((n c k : ℕ) → IsBroken file n c k → ⊥) → breaks file ≡ []
-whole-accepted file h = none (breaks file) (λ b i. h (b .line) (b .cell) (b .rule) (listed-broken file (b .line) (b .cell) (b .rule) i))
+pub whole-accepted : (file : Bytes) → ((n c k f : ℕ) → IsBroken file n c k f → ⊥) → breaks file ≡ []
+whole-accepted file h = none (breaks file) (λ b i. h (b .line) (b .cell) (b .rule) (b .first) (listed-broken file (b .line) (b .cell) (b .rule) (b .first) i))
   where
     none : (bs : List Break) → ((b : Break) → In b bs → ⊥) → bs ≡ []
     none [] f = refl

@@ -9,11 +9,12 @@ use native.Mathlib.Numerals.{add-one}
 use native.Mathlib.Omega.{arith}
 use lib.Dec.{eqb}
 use lib.Seq.{take-all, take-suc, take-nil, getD-drop, drop-drop}
-use lib.ListN.{length, take, drop, getD, length-drop}
-use Rattle.text_bytes.specs.Bytes.{Bytes, any, onFirst, splitOn}
+use lib.ListN.{length, take, drop, getD, length-take, length-drop}
+use Rattle.text_bytes.specs.Bytes.{Bytes, any, firstFrom, firstKept, onFirst, splitOn}
 use Rattle.text_bytes.specs.Places.{Ends}
-use Rattle.text.specs.Lines.{cells, control, firstControl}
+use Rattle.text.specs.Lines.{cells}
 use Rattle.text_bytes.proofs.Laws.Pieces.{piece-cut, piece-last}
+use Rattle.text_bytes.proofs.Laws.Firsts.{first-more}
 use Rattle.rules.specs.Breaks.{Break}
 use Rattle.scan.specs.Places.{Lent, putAll, Puts}
 use Rattle.scan.specs.Machine.{eachCell}
@@ -80,6 +81,15 @@ pub any-more : (f : Bytes → Bool) (xs : List Bytes) {x : Bytes} {tail : List B
 any-more f xs {x} {tail} c low here =
     let z : c + 1 - 2 ≡ suc (c - 2) = omega arith in
     rw (z, take-suc xs (c - 2) [] (omega (arith, length-drop (c - 2) xs, ap length here)), column-here xs c low here) (sym (any-one-more f (take (c - 2) xs) x))
+
+-- and where it stands first
+pub first-more-name : (f : Bytes → Bool) (xs : List Bytes) {x : Bytes} {tail : List Bytes} (c : ℕ) → 2 ≤ c → drop (c - 2) xs ≡ x ∷ tail
+    → firstKept (firstFrom 2 f (take (c - 2) xs)) (f x) c ≡ firstFrom 2 f (take (c + 1 - 2) xs)
+first-more-name f xs {x} {tail} c low here =
+    let z : c + 1 - 2 ≡ suc (c - 2) = omega arith in
+    let w : 2 + length (take (c - 2) xs) ≡ c = omega (arith, length-take (c - 2) xs, length-drop (c - 2) xs, ap length here) in
+    rw (z, take-suc xs (c - 2) [] (omega (arith, length-drop (c - 2) xs, ap length here)), column-here xs c low here)
+    (sym (first-more f 2 (take (c - 2) xs) x (omega arith) ∙ ap (firstKept (firstFrom 2 f (take (c - 2) xs)) (f x)) w))
 
 -- the first of `left` cells, by positions
 module _ {l : List ℕ} {s e : ℕ} (h : Ends 9 l s e) (f : Bytes → Bool) (left : ℕ) (some : 0 < left) where
@@ -149,14 +159,3 @@ module _ {l : List ℕ} {e f : ℕ} (h : Ends 9 l 0 e) (k : Ends 9 l (e + 1) f) 
       getD-next : (ps : List Bytes) → getD ps 1 [] ≡ getD (drop 1 ps) 0 []
       getD-next [] = refl
       getD-next (p ∷ ps) = refl
-
--- BOUNDS
-
-pub first-bound : (k : ℕ) (xs : List Bytes) → firstControl k xs ≤ k + length xs
-unfolding firstControl
-first-bound k [] = omega arith
-first-bound k (x ∷ xs) = go (any control x) (first-bound (suc k) xs)
-  where
-    go : (t : Bool) → firstControl (suc k) xs ≤ suc k + length xs → cond t k (firstControl (suc k) xs) ≤ k + suc (length xs)
-    go true h = omega arith
-    go false h = omega arith

@@ -1,18 +1,17 @@
 -- Required metadata, by the slots of all lines, the ids, the facts and the sections present: rules 21 and 22. Assumes nothing.
-use mathlib.Core.Path.{_≡_, refl, sym, ap, subst, _∙_}
+use mathlib.Core.Path.{_≡_, refl, sym, ap, _∙_}
 use mathlib.Core.Bool.{Bool, true, false, cond, _&&_, _||_, and-true, or-false}
 use mathlib.Core.List.{List, [], _∷_, _++_, map}
 use mathlib.Core.Logic.{_⊎_, inl, inr, ⊎-elim}
 use Prim.Native.String.{String}
 use Prim.Native.Nat.{ℕ, zero, suc, _+_, _-_, _≤_, _<_}
-use native.Mathlib.Nat.{eq-or-lt-of-le}
 use native.Mathlib.Omega.{arith, by-contra}
 use lib.Dec.{eqb, leb, ltb}
 use lib.ListN.{length, getD, drop, length-map, List·getD-map}
 use borrow.Author.Tests.{eq-eqb, ne-eqb, eqb-true, eqb-false, le-leb, lt-ltb, leb-true, ltb-true}
 use Rattle.text_bytes.specs.Bytes.{Bytes, bytes, any, all, count}
 use Rattle.text_bytes.proofs.Laws.Same.{same-equal}
-use Rattle.text_bytes.proofs.Laws.Tests.{absurd-bool, and-both}
+use Rattle.text_bytes.proofs.Laws.Tests.{and-both}
 use Rattle.text.specs.Lines.{cell, isField}
 use Rattle.book_names.specs.Names.{Entry, entryOf, formOf, piecesFrom, pieces, startOf, slotOf}
 use Rattle.book.specs.Letters.{ASSAYS}
@@ -27,7 +26,7 @@ use Rattle.book.specs.Text.{entryFor}
 use Rattle.book.proofs.Laws.Sized.{isEach, isLate, isSound, sound-one, sound-each, sound-section, sound-late, each-places, each-family, Sized}
 use Rattle.rules.specs.Breaks.{Break, breakAt, when, atCell, atEnd}
 use Rattle.rules.specs.Rules.{keyFound, isPresent, isFor, isAsked, isWanted, hasKey, isUnmet, endRules, ends}
-use Rattle.scan.specs.Machine.{isSlot, hasSlot, Slots, idsOf, Declares, Seen, SeenOf, isAskedIn, isForIn, firstSlot, endSlot, isLacking, wantBreaks, endBreaks}
+use Rattle.scan.specs.Machine.{isSlot, hasSlot, Marks, idsOf, Declares, Seen, SeenOf, isAskedIn, isForIn, firstSlot, endSlot, isLacking, wantBreaks, endBreaks}
 use Rattle.scan.proofs.Laws.Rowing.{test-eq}
 use Rattle.scan.proofs.Laws.Keeping.{any-alike}
 use Rattle.scan.proofs.Laws.Demanding.{any-up, up-any, listed, cells-listed, cells-demanded}
@@ -294,7 +293,7 @@ module _ (b : Book) (sized : Sized b) (w : Want) (sound : isSound (b .keys) (w .
         all : startOf es (E + 1) ≤ startOf es (length es)
         all = start-mono es (E + 1) (length es) (omega (arith, inside)) (omega arith)
 
-    pub marked-means : (F : List Bytes) (slots : List Bool) → Slots b F slots → isMarked slots (firstSlot b w) (endSlot b w) ≡ any (hasKey b w) F
+    pub marked-means : (F : List Bytes) (slots : List Bool) → Marks b F slots → isMarked slots (firstSlot b w) (endSlot b w) ≡ any (hasKey b w) F
     unfolding isMarked
     marked-means F slots h =
         any-within (λ s. getD slots s false) (λ s. any (hasSlot b s) F) span begin (λ s l m. h s (omega (arith, slots-below)))

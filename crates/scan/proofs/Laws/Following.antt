@@ -2,18 +2,19 @@
 use mathlib.Core.Path.{_≡_, refl, sym, ap, _∙_}
 use mathlib.Core.Bool.{Bool, true, false, cond, _||_, or-false, or-true, or-assoc}
 use mathlib.Core.List.{List, [], _∷_, _++_}
-use Prim.Native.Nat.{ℕ, zero, suc, _<_}
+use Prim.Native.Nat.{ℕ, zero, suc, _+_, _<_}
 use native.Mathlib.Nat.{not-suc-le-zero}
 use native.Mathlib.Omega.{arith}
 use lib.Dec.{eqb, ltb}
 use lib.Seq.{getD-set-same, getD-set-other}
 use lib.ListN.{length, getD, set, length-set}
 use borrow.Author.Tests.{eq-eqb, ne-eqb, lt-ltb, le-ltb, ltb-true, ltb-false, eqb-true, eqb-false}
-use Rattle.text_bytes.specs.Bytes.{Bytes, any, isEmpty, splitOn}
+use Rattle.text_bytes.specs.Bytes.{Bytes, any, firstFrom, firstKept, isEmpty, splitOn}
+use Rattle.text_bytes.proofs.Laws.Firsts.{first-more}
 use Rattle.text.specs.Lines.{width}
 use Rattle.rules.specs.Sorts.{sortOf, headerIn, rowIn, header, row, isHeader, isTable}
 use Rattle.rules.specs.Rules.{ofSection, ofLater, nearer, nearest, nearestIn, inSection, isPresent}
-use Rattle.scan.specs.Machine.{hasSlot, Slots}
+use Rattle.scan.specs.Machine.{hasSlot, headerSlot, Slots, Headers}
 use Rattle.scan.specs.Carried.{initial, afterHeader, sortState, Stands, Follows}
 use Rattle.scan.specs.declared.state.State.{State}
 use Rattle.rules.specs.declared.sorts.Sort.{Sort}
@@ -30,11 +31,10 @@ nearest-append book [] x found = refl
 nearest-append book (y ∷ ys) x found = nearest-append book ys x (nearer book y found)
 
 -- BEFORE THE FIRST LINE
-pub stands-start : (book : Book) (a : Asking) (kinds : List ℕ) (slots : List Bool) → ((i : ℕ) → getD slots i false ≡ false) → Stands book [] (initial a) kinds slots
-unfolding any nearestIn sortOf isEmpty splitOn isPresent
+pub stands-start : (book : Book) (a : Asking) (kinds slots : List ℕ) → ((i : ℕ) → getD slots i 0 ≡ 0) → Stands book [] (initial a) kinds slots
+unfolding any firstFrom nearestIn sortOf isEmpty splitOn isPresent
 stands-start book a kinds slots empty = record {
-  seen = λ i p h. none i;
-  sections = refl;
+  headers = λ i p h. empty (headerSlot i);
   present = λ i h. only-zero i;
   presents = refl;
   highest = λ h. le-ltb h 0 (omega arith);
@@ -45,14 +45,6 @@ stands-start book a kinds slots empty = record {
   keys = λ i h. empty i;
 }
   where
-    none : (i : ℕ) → getD (false ∷ false ∷ false ∷ false ∷ false ∷ []) i false ≡ false
-    none zero = refl
-    none (suc zero) = refl
-    none (suc (suc zero)) = refl
-    none (suc (suc (suc zero))) = refl
-    none (suc (suc (suc (suc zero)))) = refl
-    none (suc (suc (suc (suc (suc i))))) = refl
-
     only-zero : (i : ℕ) → getD (true ∷ false ∷ false ∷ false ∷ false ∷ []) i false ≡ (eqb i 0 || false)
     only-zero zero = refl
     only-zero (suc i) = none-after i ∙ sym (rw (ne-eqb (suc i) 0 (λ e. omega arith)))
@@ -130,19 +122,25 @@ unfolding isPresent
 was-table book r low above h = present-table book r low above (sym (rw (ne-eqb r 0 (λ e. omega arith))) ∙ h)
 
 -- AFTER A LINE
-module _ {book : Book} (sized : Sized book) {above : List Bytes} {s : State} {kinds : List ℕ} {slots : List Bool} {l : Bytes} {next : State} {kinds' : List ℕ} {slots' : List Bool}
-    (st : Stands book above s kinds slots) (af : Follows book s kinds slots l next kinds' slots') where
+module _ {book : Book} (sized : Sized book) {above : List Bytes} {s : State} {kinds slots : List ℕ} {n : ℕ} {l : Bytes} {next : State} {kinds' slots' : List ℕ} (here : 1 + length above ≡ n)
+    (st : Stands book above s kinds slots) (af : Follows book s kinds slots n l next kinds' slots') where
+  -- the first of the lines above, and of this one too
+  first-next : (p : Bytes → Bool) → firstKept (firstFrom 1 p above) (p l) n ≡ firstFrom 1 p (above ++ (l ∷ []))
+  first-next p = sym (first-more p 1 above l (omega arith) ∙ ap (firstKept (firstFrom 1 p above) (p l)) here)
+
   keys-next : Slots book (above ++ (l ∷ [])) slots'
-  keys-next i h = af .keys i h ∙ rw (st .keys i h) (sym (any-one-more (hasSlot book i) above l))
+  keys-next i h = af .keys i h ∙ rw (st .keys i h) (first-next (hasSlot book i))
+
+  headers-next : Headers book (above ++ (l ∷ [])) slots'
+  headers-next i p h = af .headers i p h ∙ rw (st .headers i p h) (first-next (ofSection book i))
 
   -- a line that is no header
-  kept : headerIn (sortOf book l) ≡ 0 → next .seen ≡ s .seen → next .highest ≡ s .highest → next .section ≡ s .section → next .width ≡ s .width → next .table ≡ (s .table || isTable book l)
+  kept : headerIn (sortOf book l) ≡ 0 → next .highest ≡ s .highest → next .section ≡ s .section → next .width ≡ s .width → next .table ≡ (s .table || isTable book l)
       → ((i : ℕ) → i < SECTIONS → getD (next .present) i false ≡ isPresent book (above ++ (l ∷ [])) i) → length (next .present) ≡ SECTIONS → Stands book (above ++ (l ∷ [])) next kinds' slots'
-  kept z a m f c d p q = record {
+  kept z m f c d p q = record {
     present = p;
     presents = q;
-    seen = λ i q h. rw a (st .seen i q h ∙ sym (any-one-more (ofSection book i) above l ∙ rw (z, ne-eqb 0 i (λ e. omega arith)) (or-false (any (ofSection book i) above))));
-    sections = rw a (st .sections);
+    headers = headers-next;
     highest = λ h. rw m (st .highest h ∙ sym (any-one-more (ofLater book h) above l ∙ rw (z, le-ltb h 0 (omega arith)) (or-false (any (ofLater book h) above))));
     section = f ∙ rw (nearest-append book above l [], z) (st .section);
     width = c ∙ rw (nearest-append book above l [], z) (st .width);
@@ -157,8 +155,7 @@ module _ {book : Book} (sized : Sized book) {above : List Bytes} {s : State} {ki
       let bound = header-section book sized l h e .1 in
       let q : next ≡ afterHeader h (width l) s = af .state ∙ rw e in
       rw q (record {
-        seen = λ i p k. seen-set i p k;
-        sections = length-set (s .seen) h true ∙ st .sections;
+        headers = headers-next;
         present = present-set book above l (s .present) h pos (omega (arith, bound, st .presents)) (st .present) (λ i p. rw (e, ne-eqb 0 i (λ z. omega arith)) (or-false (eqb h i)));
         presents = length-set (s .present) h true ∙ st .presents;
         highest = λ k. rw (any-one-more (ofLater book k) above l, ← st .highest k, e) (highest-set k (ltb (s .highest) h) refl);
@@ -181,17 +178,8 @@ module _ {book : Book} (sized : Sized book) {above : List Bytes} {s : State} {ki
           go true w = lt-ltb k (s .highest) (omega (arith, ltb-true k h w, ltb-false (s .highest) h u)) ∙ sym (or-true (ltb k (s .highest)))
           go false w = sym (or-false (ltb k (s .highest)))
 
-      seen-set : (i : ℕ) → 0 < i → i < SECTIONS → getD (set (s .seen) h true) i false ≡ any (ofSection book i) (above ++ (l ∷ []))
-      seen-set i p k = go (eqb h i) refl
-        where
-          go : (t : Bool) → eqb h i ≡ t → getD (set (s .seen) h true) i false ≡ any (ofSection book i) (above ++ (l ∷ []))
-          go true t = let g : h ≡ i = eqb-true h i t in
-              rw (any-one-more (ofSection book i) above l, e, t, or-true (any (ofSection book i) above), g) (getD-set-same (s .seen) i true false (omega (arith, st .sections)))
-          go false t =
-              rw (any-one-more (ofSection book i) above l, e, t, or-false (any (ofSection book i) above)) (getD-set-other (s .seen) h i true false (λ g. eqb-false h i t (sym g)) ∙ st .seen i p k)
-
   same-state : {σ : Sort} → sortOf book l ≡ σ → next ≡ s → (headerIn σ ≡ 0) → (rowIn σ ≡ 0) → Stands book (above ++ (l ∷ [])) next kinds' slots'
-  same-state e q z w = kept (rw e z) (ap (λ (x : State). x .seen) q) (ap (λ (x : State). x .highest) q) (ap (λ (x : State). x .section) q) (ap (λ (x : State). x .width) q)
+  same-state e q z w = kept (rw e z) (ap (λ (x : State). x .highest) q) (ap (λ (x : State). x .section) q) (ap (λ (x : State). x .width) q)
       (ap (λ (x : State). x .table) q ∙ rw (e, z, w) (sym (or-false (s .table))))
       (λ i h. ap (λ (x : State). getD (x .present) i false) q ∙ st .present i h ∙ sym (present-same book above l i (rw e z) (rw e w)))
       (ap (λ (x : State). length (x .present)) q ∙ st .presents)
@@ -213,15 +201,15 @@ module _ {book : Book} (sized : Sized book) {above : List Bytes} {s : State} {ki
       more x = rw (e, lt-ltb 0 r low) (or-true x)
 
       go : (t : Bool) → getD (s .present) r false ≡ t
-          → next ≡ cond t s (record { seen = s .seen; present = set (s .present) r true; highest = s .highest; section = s .section; asking = s .asking; width = s .width; table = true })
+          → next ≡ cond t s (record { present = set (s .present) r true; highest = s .highest; section = s .section; asking = s .asking; width = s .width; table = true })
           → Stands book (above ++ (l ∷ [])) next kinds' slots'
       go true p q =
-          kept (rw e) (ap (λ (x : State). x .seen) q) (ap (λ (x : State). x .highest) q) (ap (λ (x : State). x .section) q) (ap (λ (x : State). x .width) q)
+          kept (rw e) (ap (λ (x : State). x .highest) q) (ap (λ (x : State). x .section) q) (ap (λ (x : State). x .width) q)
           (ap (λ (x : State). x .table) q ∙ st .table ∙ was-table book r low above (sym (st .present r (omega (arith, room, st .presents))) ∙ p) ∙ sym (more (s .table)))
           (λ i h. ap (λ (x : State). getD (x .present) i false) q ∙ present-stay book above l (s .present) r low room (st .present) its p i h)
           (ap (λ (x : State). length (x .present)) q ∙ st .presents)
       go false p q =
-          kept (rw e) (ap (λ (x : State). x .seen) q) (ap (λ (x : State). x .highest) q) (ap (λ (x : State). x .section) q) (ap (λ (x : State). x .width) q)
+          kept (rw e) (ap (λ (x : State). x .highest) q) (ap (λ (x : State). x .section) q) (ap (λ (x : State). x .width) q)
           (ap (λ (x : State). x .table) q ∙ sym (more (s .table)))
           (λ i h. ap (λ (x : State). getD (x .present) i false) q ∙ present-set book above l (s .present) r low room (st .present) its i h)
           (ap (λ (x : State). length (x .present)) q ∙ length-set (s .present) r true ∙ st .presents)
@@ -237,11 +225,11 @@ module _ {book : Book} (sized : Sized book) {above : List Bytes} {s : State} {ki
       go (Row r) e = rowed r e
 
 -- what is asked of the file stays
-pub asking-kept : {book : Book} {s : State} {kinds : List ℕ} {slots : List Bool} {l : Bytes} {next : State} {kinds' : List ℕ} {slots' : List Bool} → Follows book s kinds slots l next kinds' slots'
+pub asking-kept : {book : Book} {s : State} {kinds slots : List ℕ} {n : ℕ} {l : Bytes} {next : State} {kinds' slots' : List ℕ} → Follows book s kinds slots n l next kinds' slots'
     → next .asking ≡ s .asking
 asking-kept {book} {s} {l = l} af = ap (λ (t : State). t .asking) (af .state) ∙ by (sortOf book l)
   where
-    row-keeps : (r : ℕ) (t : Bool) → (cond t s (record { seen = s .seen; present = set (s .present) r true; highest = s .highest; section = s .section; asking = s .asking; width = s .width; table = true })) .asking ≡ s .asking
+    row-keeps : (r : ℕ) (t : Bool) → (cond t s (record { present = set (s .present) r true; highest = s .highest; section = s .section; asking = s .asking; width = s .width; table = true })) .asking ≡ s .asking
     row-keeps r true = refl
     row-keeps r false = refl
 

@@ -6,11 +6,12 @@ use Prim.Native.Nat.{ℕ, suc, _+_, _-_, _≤_, _<_}
 use native.Mathlib.Omega.{arith}
 use lib.Dec.{eqb, ltb, leb}
 use lib.Seq.{getD-drop}
-use lib.ListN.{length, drop, getD, length-drop}
+use lib.ListN.{length, take, drop, getD, length-drop}
 use borrow.Author.Tests.{ne-eqb, le-leb, lt-ltb, le-ltb, leb-true, leb-false, eqb-true}
-use Rattle.text_bytes.specs.Bytes.{Bytes, any}
+use Rattle.text_bytes.specs.Bytes.{Bytes, same, any, firstFrom}
 use Rattle.text.specs.Lines.{cells, cell, width, isThree, isField}
 use Rattle.text_bytes.proofs.Laws.Tests.{and-both}
+use Rattle.text_bytes.proofs.Laws.Firsts.{first-any}
 use Rattle.book.specs.Keys.{isColunit}
 use Rattle.value_references.specs.Index.{isForm, isZero, isOver}
 use Rattle.value_references.specs.declared.index.Flaw.{Flaw}
@@ -22,11 +23,12 @@ use Rattle.book_kinds.specs.Kinds.{familyNumber, ofKind, kindFlaw}
 use Rattle.book_kinds.proofs.Laws.Letters.{good-none}
 use Rattle.book_facts.specs.Asked.{askedOf}
 use Rattle.rules.specs.Sorts.{sortOf, header, isTable, controlCell}
-use Rattle.rules.specs.Breaks.{Break, breakAt, when, Spot, spot, Rule, atCell, atLine}
+use Rattle.rules.specs.Breaks.{Break, breakWith, breakAt, when, Spot, spot, Rule, atCell, atLine}
 use Rattle.rules.specs.Rules.{keyFound, sameKey, valueFlaw, isWrong, namedIn, namesUndeclared, ofSection, ofLater, isWide, names, columnUndeclared, lacksColumn, nearest, kindIn, flawAt, rules}
-use Rattle.scan.specs.Machine.{controlAt, ruleAt, flawRule, Ids, Asked, againIn, undeclaredIn, keyRule, valueRule, fieldRule, metaCell, metaBreaks, columnIn, nameRule, headCell, headBreaks, Kinds, rowCell, rowBreaks, unknownBreaks}
+use Rattle.scan.specs.Machine.{controlAt, againAt, ruleAt, flawRule, Ids, Asked, firstIn, undeclaredIn, keyRule, valueRule, fieldRule, fieldFirst, metaCell, metaBreaks, columnIn, nameRule, headCell, headBreaks, Kinds, rowCell, rowBreaks, unknownBreaks}
 use Rattle.rules.specs.declared.sorts.Sort.the-variants.{Silent, Unknown, Meta, Header, Row}
 use Rattle.rules.proofs.Laws.Sorting.{silent-sort, meta-sort, header-section, row-section}
+use Rattle.scan.proofs.Laws.Keeping.{Repeats}
 use Rattle.scan.proofs.Laws.Rowing.{Says, line-cells, plainCell, plain-rest}
 use Rattle.book.specs.Book.{Book, keyOf, columnOf}
 use Rattle.book.proofs.Laws.Sized.{Sized}
@@ -40,12 +42,12 @@ module _ (book : Book) (sized : Sized book) where
 
   atRest : List Rule → Spot → ℕ → ℕ → List Break → List Break
   atRest [] p n c rest = rest
-  atRest (r ∷ rs) p n c rest = when (r .broken p c) (breakAt n c (r .number)) (atRest rs p n c rest)
+  atRest (r ∷ rs) p n c rest = when (r .broken p c) (breakWith n c (r .number) (r .first p c)) (atRest rs p n c rest)
 
   at-rest : (rs : List Rule) (p : Spot) (n c : ℕ) (rest : List Break) → atCell rs p n c ++ rest ≡ atRest rs p n c rest
   unfolding atCell atRest
   at-rest [] p n c rest = refl
-  at-rest (r ∷ rs) p n c rest = when-append (r .broken p c) (breakAt n c (r .number)) (atCell rs p n c) rest ∙ rw (at-rest rs p n c rest)
+  at-rest (r ∷ rs) p n c rest = when-append (r .broken p c) (breakWith n c (r .number) (r .first p c)) (atCell rs p n c) rest ∙ rw (at-rest rs p n c rest)
 
   -- SMALL LAWS
 
@@ -72,31 +74,43 @@ module _ (book : Book) (sized : Sized book) where
   -- ONE RULE AT MOST of those that stop each other
 
   -- a rule k where a test holds
-  rule-when : (k n c : ℕ) (rest : List Break) → eqb k 0 ≡ false → (t : Bool) → when t (breakAt n c k) rest ≡ ruleAt (cond t k 0) n c rest
-  rule-when k n c rest e true = rw e
-  rule-when k n c rest e false = refl
+  rule-when : (k n c f : ℕ) (rest : List Break) → eqb k 0 ≡ false → (t : Bool) → when t (breakWith n c k f) rest ≡ ruleAt (cond t k 0) n c f rest
+  rule-when k n c f rest e true = rw e
+  rule-when k n c f rest e false = refl
+
+  -- rule 6 by the slots: they say whether the key came, and where first
+  again-first : {above : List Bytes} {slots : List ℕ} {l : Bytes} → Repeats book above slots l → (n c : ℕ) (u : Bool) (bs : List Break)
+      → when (u && (isKnown (keyFound book l) && (not (isColunit (cell 2 l)) && any (sameKey l) above))) (breakWith n c 6 (firstFrom 1 (sameKey l) above)) bs
+      ≡ when (u && not (eqb (firstIn book slots (cell 2 l) (keyFound book l)) 0)) (breakWith n c 6 (firstIn book slots (cell 2 l) (keyFound book l))) bs
+  again-first ag n c false bs = refl
+  again-first {above} {slots} {l} ag n c true bs = rw (sym (ag .comes)) (go (isKnown (keyFound book l) && (not (isColunit (cell 2 l)) && any (sameKey l) above)) refl)
+    where
+      go : (t : Bool) → (isKnown (keyFound book l) && (not (isColunit (cell 2 l)) && any (sameKey l) above)) ≡ t
+          → when t (breakWith n c 6 (firstFrom 1 (sameKey l) above)) bs ≡ when t (breakWith n c 6 (firstIn book slots (cell 2 l) (keyFound book l))) bs
+      go true e = rw (ag .first e)
+      go false e = refl
 
   -- the rules of a bad index
   abbrev bad : ℕ → ℕ → List Break → Flaw → List Break
   bad n c rest z = when (isZero z) (breakAt n c 23) (when (isOver z) (breakAt n c 24) rest)
 
   -- of a key and its value: 5 to 8, 23 and 24
-  module _ (slots : List Bool) (ids : Ids) (key value : Bytes) (n c : ℕ) (rest : List Break) where
+  module _ (slots : List ℕ) (ids : Ids) (key value : Bytes) (n c : ℕ) (rest : List Break) where
     -- the value, by whether it is of its kind, names an undeclared id, and has a flaw
     of-value : (good undeclared : Bool) (z : Flaw) → (good ≡ true → z ≡ Form)
-        → when (not good && isForm z) (breakAt n c 7) (when (good && undeclared) (breakAt n c 8) (bad n c rest z)) ≡ ruleAt (cond good (cond undeclared 8 0) (flawRule z 7)) n c rest
-    of-value true undeclared z h = rw (h refl) (rule-when 8 n c rest refl undeclared)
+        → when (not good && isForm z) (breakAt n c 7) (when (good && undeclared) (breakAt n c 8) (bad n c rest z)) ≡ ruleAt (cond good (cond undeclared 8 0) (flawRule z 7)) n c 0 rest
+    of-value true undeclared z h = rw (h refl) (rule-when 8 n c 0 rest refl undeclared)
     of-value false undeclared Form h = refl
     of-value false undeclared Zero h = refl
     of-value false undeclared Over h = refl
 
-    of-key : (found : Found) → when (isStrange found) (breakAt n c 5) (when (againIn book slots key found) (breakAt n c 6) (bad n c rest (whyNot found))) ≡ ruleAt (keyRule (againIn book slots key found) found) n c rest
+    of-key : (found : Found) → when (isStrange found) (breakAt n c 5) (againAt 6 n c (firstIn book slots key found) (bad n c rest (whyNot found))) ≡ ruleAt (keyRule (firstIn book slots key found) found) n c (firstIn book slots key found) rest
     of-key (Unknown Form) = refl
     of-key (Unknown Zero) = refl
     of-key (Unknown Over) = refl
-    of-key (Known e k f i j) = rule-when 6 n c rest refl (againIn book slots key (Known e k f i j))
+    of-key (Known e k f i j) = rule-when 6 n c (firstIn book slots key (Known e k f i j)) rest refl (not (eqb (firstIn book slots key (Known e k f i j)) 0))
 
-    at-value : (found : Found) → when (isWrong found value) (breakAt n c 7) (when (undeclaredIn ids found value) (breakAt n c 8) (bad n c rest (valueFlaw found value))) ≡ ruleAt (valueRule ids found value) n c rest
+    at-value : (found : Found) → when (isWrong found value) (breakAt n c 7) (when (undeclaredIn ids found value) (breakAt n c 8) (bad n c rest (valueFlaw found value))) ≡ ruleAt (valueRule ids found value) n c 0 rest
     at-value (Unknown w) = refl
     at-value (Known e k f i j) = of-value (ofKind k f value) (any (λ i. not (ids (familyNumber f) i)) (namedIn k f value)) (kindFlaw k f value) (good-none k f value)
 
@@ -105,20 +119,20 @@ module _ (book : Book) (sized : Sized book) where
 
     field-rules :
         when (eqb c 2 && isStrange found) (breakAt n c 5)
-        (when (eqb c 2 && againIn book slots key found) (breakAt n c 6)
+        (when (eqb c 2 && not (eqb (firstIn book slots key found) 0)) (breakWith n c 6 (firstIn book slots key found))
         (when (eqb c 3 && isWrong found value) (breakAt n c 7)
         (when (eqb c 3 && undeclaredIn ids found value) (breakAt n c 8)
         (bad n c rest (cond (eqb c 2) (whyNot found) (cond (eqb c 3) (valueFlaw found value) Form))))))
-        ≡ ruleAt (fieldRule book slots ids key value c) n c rest
+        ≡ ruleAt (fieldRule book slots ids key value c) n c (fieldFirst book slots key c) rest
     field-rules = go (eqb c 2) (eqb c 3) refl refl
       where
         go : (u v : Bool) → eqb c 2 ≡ u → eqb c 3 ≡ v →
             when (u && isStrange found) (breakAt n c 5)
-            (when (u && againIn book slots key found) (breakAt n c 6)
+            (when (u && not (eqb (firstIn book slots key found) 0)) (breakWith n c 6 (firstIn book slots key found))
             (when (v && isWrong found value) (breakAt n c 7)
             (when (v && undeclaredIn ids found value) (breakAt n c 8)
             (bad n c rest (cond u (whyNot found) (cond v (valueFlaw found value) Form))))))
-            ≡ ruleAt (cond u (keyRule (againIn book slots key found) found) (cond v (valueRule ids found value) 0)) n c rest
+            ≡ ruleAt (cond u (keyRule (firstIn book slots key found) found) (cond v (valueRule ids found value) 0)) n c (cond u (firstIn book slots key found) 0) rest
         go true true a b = absurd (omega (arith, eqb-true c 2 a, eqb-true c 3 b))
         go true false a b = of-key found
         go false true a b = at-value found
@@ -126,11 +140,11 @@ module _ (book : Book) (sized : Sized book) where
 
   -- of a column name: 15, 23 and 24
   name-rules : (ids : Ids) (found : Found) (n c : ℕ) (rest : List Break)
-      → when (columnIn ids found) (breakAt n c 15) (bad n c rest (whyNot found)) ≡ ruleAt (nameRule ids found) n c rest
+      → when (columnIn ids found) (breakAt n c 15) (bad n c rest (whyNot found)) ≡ ruleAt (nameRule ids found) n c 0 rest
   name-rules ids (Unknown Form) n c rest = refl
   name-rules ids (Unknown Zero) n c rest = refl
   name-rules ids (Unknown Over) n c rest = refl
-  name-rules ids (Known e k f i j) n c rest = rule-when 15 n c rest refl (columnIn ids (Known e k f i j))
+  name-rules ids (Known e k f i j) n c rest = rule-when 15 n c 0 rest refl (columnIn ids (Known e k f i j))
 
   -- THE CELLS OF A LINE, BY ITS SORT
 
@@ -164,28 +178,28 @@ module _ (book : Book) (sized : Sized book) where
       unfolding rules atRest flawAt isField plainCell
       meta-plain t j a b rest = at-rest (rules book) p n (suc j) rest ∙ rw (meta-sort book l, e, later j a .0, later j a .1, t) (go (eqb (suc j) 2) (eqb (suc j) 3))
         where
-          go : (u v : Bool) → controlAt cc n (suc j) (when (u && false) (breakAt n (suc j) 5) (when (u && false) (breakAt n (suc j) 6) (when (v && false) (breakAt n (suc j) 7) (when (v && false) (breakAt n (suc j) 8) rest)))) ≡ controlAt cc n (suc j) rest
+          go : (u v : Bool) → controlAt cc n (suc j) (when (u && false) (breakAt n (suc j) 5) (when (u && false) (breakWith n (suc j) 6 (firstFrom 1 (sameKey l) above)) (when (v && false) (breakAt n (suc j) 7) (when (v && false) (breakAt n (suc j) 8) rest)))) ≡ controlAt cc n (suc j) rest
           go true true = refl
           go true false = refl
           go false true = refl
           go false false = refl
 
-      meta-cells : isThree l ≡ true → (slots : List Bool) (ids : Ids)
-          → (isKnown (keyFound book l) && (not (isColunit (cell 2 l)) && any (sameKey l) above)) ≡ againIn book slots (cell 2 l) (keyFound book l)
+      meta-cells : isThree l ≡ true → (slots : List ℕ) (ids : Ids) → Repeats book above slots l
           → namesUndeclared book file (keyFound book l) (cell 3 l) ≡ undeclaredIn ids (keyFound book l) (cell 3 l)
           → Says (atCell (rules book) p n) (metaCell book slots ids (getD (cells l) 1 []) (getD (cells l) 2 []) cc n) (cells l) 1
       unfolding rules atRest flawAt isField
       meta-cells t slots ids ag un j a b rest =
           at-rest (rules book) p n (suc j) rest
-          ∙ rw (meta-sort book l, e, later j a .0, later j a .1, t, ag, un, cell-suc 1 l, cell-suc 2 l) (ap (controlAt cc n (suc j)) (field-rules slots ids (getD (cells l) 1 []) (getD (cells l) 2 []) n (suc j) rest))
+          ∙ rw (meta-sort book l, e, later j a .0, later j a .1, t, again-first ag n (suc j) (eqb (suc j) 2), un, cell-suc 1 l, cell-suc 2 l) (ap (controlAt cc n (suc j)) (field-rules slots ids (getD (cells l) 1 []) (getD (cells l) 2 []) n (suc j) rest))
 
     -- a header
     module _ (h : ℕ) (e : sortOf book l ≡ Header h) where
-      header-first : (asked : Asked) (again after : Bool) → lacksColumn book asked h (names l) ≡ lacksColumn book (askedOf book file) h (names l) → again ≡ any (ofSection book h) above → after ≡ any (ofLater book h) above
+      header-first : (asked : Asked) (first : ℕ) (after : Bool) → lacksColumn book asked h (names l) ≡ lacksColumn book (askedOf book file) h (names l) → first ≡ firstFrom 1 (ofSection book h) above → after ≡ any (ofLater book h) above
           → (rest : List Break) → atCell (rules book) p n 1 ++ rest
-          ≡ controlAt cc n 1 (when again (breakAt n 1 9) (when after (breakAt n 1 10) (when (isWide l) (breakAt n 1 11) (when (not (isWide l) && lacksColumn book asked h (names l)) (breakAt n 1 16) rest))))
+          ≡ controlAt cc n 1 (againAt 9 n 1 first (when after (breakAt n 1 10) (when (isWide l) (breakAt n 1 11) (when (not (isWide l) && lacksColumn book asked h (names l)) (breakAt n 1 16) rest))))
       unfolding rules atRest flawAt isField
-      header-first asked again after q a b rest = at-rest (rules book) p n 1 rest ∙ rw (meta-sort book l, e, lt-ltb 0 h (header-section book sized l h e .0), a, b, q)
+      header-first asked first after q a b rest =
+          at-rest (rules book) p n 1 rest ∙ rw (meta-sort book l, e, lt-ltb 0 h (header-section book sized l h e .0), a, b, q, first-any (ofSection book h) 1 above (omega arith))
 
       header-wide : isWide l ≡ true → Says (atCell (rules book) p n) (plainCell cc n) (cells l) 1
       unfolding rules atRest flawAt isField plainCell
@@ -196,7 +210,7 @@ module _ (book : Book) (sized : Sized book) where
       unfolding rules atRest flawAt isField
       header-later ids d w j a b rest =
           at-rest (rules book) p n (suc j) rest
-          ∙ rw (meta-sort book l, e, later j a .0, later j a .1, lt-ltb 0 h (header-section book sized l h e .0), w, cell-suc j l, d (getD (cells l) j []), name-rules ids (columnOf book h (getD (cells l) j [])) n (suc j) rest)
+          ∙ rw (meta-sort book l, e, later j a .0, later j a .1, lt-ltb 0 h (header-section book sized l h e .0), w, cell-suc j l, d (getD (cells l) j []), name-rules ids (columnOf book h (getD (cells l) j [])) n (suc j) rest, first-any (same (getD (cells l) j [])) 2 (take (suc j - 2) (drop 1 (cells l))) (omega arith))
 
     -- a row; the nearest header is of the section hs and has w cells
     module _ (r : ℕ) (e : sortOf book l ≡ Row r) (hs w : ℕ) (kinds : List ℕ) (eh : hs ≡ header book (nearest book above)) (ew : w ≡ width (nearest book above)) (ek : Kinds book (nearest book above) kinds) where
@@ -257,8 +271,7 @@ module _ (book : Book) (sized : Sized book) where
     means-unknown e = rw (← plain-rest n l rest, silent-sort book l, e)
         (sym (line-cells (atCell (rules book) (spot above l file) n) (λ bs. controlAt (controlCell l) n 1 (when true (breakAt n 1 2) bs)) (plainCell (controlCell l) n) l (unknown-first above file l n e) (unknown-later above file l n e) rest))
 
-    pub means-meta : sortOf book l ≡ Meta → (table : Bool) (slots : List Bool) (ids : Ids) → table ≡ any (isTable book) above
-        → (isKnown (keyFound book l) && (not (isColunit (cell 2 l)) && any (sameKey l) above)) ≡ againIn book slots (cell 2 l) (keyFound book l)
+    pub means-meta : sortOf book l ≡ Meta → (table : Bool) (slots : List ℕ) (ids : Ids) → table ≡ any (isTable book) above → Repeats book above slots l
         → namesUndeclared book file (keyFound book l) (cell 3 l) ≡ undeclaredIn ids (keyFound book l) (cell 3 l)
         → metaBreaks book table slots ids (controlCell l) n (cells l) rest ≡ atLine (rules book) (spot above l file) n ++ rest
     unfolding atLine metaBreaks
@@ -273,21 +286,21 @@ module _ (book : Book) (sized : Sized book) where
         go false w = rw (w, ← plain-rest n l rest, silent-sort book l, e)
             (rw w at (sym (line-cells (atCell (rules book) (spot above l file) n) first (plainCell (controlCell l) n) l (meta-first above file l n e table ta) (meta-plain above file l n e w) rest)))
 
-    pub means-header : (h : ℕ) → sortOf book l ≡ Header h → (asked : Asked) (again later : Bool) (ids : Ids)
-        → lacksColumn book asked h (names l) ≡ lacksColumn book (askedOf book file) h (names l) → again ≡ any (ofSection book h) above → later ≡ any (ofLater book h) above
+    pub means-header : (h : ℕ) → sortOf book l ≡ Header h → (asked : Asked) (first : ℕ) (later : Bool) (ids : Ids)
+        → lacksColumn book asked h (names l) ≡ lacksColumn book (askedOf book file) h (names l) → first ≡ firstFrom 1 (ofSection book h) above → later ≡ any (ofLater book h) above
         → ((x : Bytes) → columnUndeclared book file (columnOf book h x) ≡ columnIn ids (columnOf book h x))
-        → headBreaks book asked h again later ids (controlCell l) n (cells l) rest ≡ atLine (rules book) (spot above l file) n ++ rest
+        → headBreaks book asked h first later ids (controlCell l) n (cells l) rest ≡ atLine (rules book) (spot above l file) n ++ rest
     unfolding atLine headBreaks
-    means-header h e asked again later ids q a b d = go (isWide l) refl
+    means-header h e asked first later ids q a b d = go (isWide l) refl
       where
-        first : List Break → List Break
-        first bs = controlAt (controlCell l) n 1 (when again (breakAt n 1 9) (when later (breakAt n 1 10) (when (isWide l) (breakAt n 1 11) (when (not (isWide l) && lacksColumn book asked h (names l)) (breakAt n 1 16) bs))))
+        front : List Break → List Break
+        front bs = controlAt (controlCell l) n 1 (againAt 9 n 1 first (when later (breakAt n 1 10) (when (isWide l) (breakAt n 1 11) (when (not (isWide l) && lacksColumn book asked h (names l)) (breakAt n 1 16) bs))))
 
-        go : (t : Bool) → isWide l ≡ t → headBreaks book asked h again later ids (controlCell l) n (cells l) rest ≡ atLine (rules book) (spot above l file) n ++ rest
+        go : (t : Bool) → isWide l ≡ t → headBreaks book asked h first later ids (controlCell l) n (cells l) rest ≡ atLine (rules book) (spot above l file) n ++ rest
         go true w = rw (w, ← plain-rest n l rest, silent-sort book l, e)
-            (rw w at (sym (line-cells (atCell (rules book) (spot above l file) n) first (plainCell (controlCell l) n) l (header-first above file l n h e asked again later q a b) (header-wide above file l n h e w) rest)))
+            (rw w at (sym (line-cells (atCell (rules book) (spot above l file) n) front (plainCell (controlCell l) n) l (header-first above file l n h e asked first later q a b) (header-wide above file l n h e w) rest)))
         go false w = rw (w, silent-sort book l, e)
-            (rw w at (sym (line-cells (atCell (rules book) (spot above l file) n) first (headCell book h (drop 1 (cells l)) ids (controlCell l) n) l (header-first above file l n h e asked again later q a b) (header-later above file l n h e ids d w) rest)))
+            (rw w at (sym (line-cells (atCell (rules book) (spot above l file) n) front (headCell book h (drop 1 (cells l)) ids (controlCell l) n) l (header-first above file l n h e asked first later q a b) (header-later above file l n h e ids d w) rest)))
 
     pub means-row : (r : ℕ) → sortOf book l ≡ Row r → (hs w : ℕ) (kinds : List ℕ) → hs ≡ header book (nearest book above) → w ≡ width (nearest book above) → Kinds book (nearest book above) kinds
         → rowBreaks hs w kinds r (controlCell l) n (cells l) rest ≡ atLine (rules book) (spot above l file) n ++ rest

@@ -9,7 +9,8 @@ use lib.Seq.{getD-drop, drop-drop}
 use lib.ListN.{length, drop, getD, length-drop}
 use borrow.Author.Tests.{le-leb, lt-leb, leb-true, eqb-true, eqb-false}
 use Rattle.text_bytes.specs.Bytes.{Bytes, any, onFirst, splitOn}
-use Rattle.text.specs.Lines.{cells, control, firstControl, width}
+use Rattle.text_bytes.proofs.Laws.Firsts.{first-below}
+use Rattle.text.specs.Lines.{cells, control, width}
 use Rattle.rules.specs.Sorts.{controlCell}
 use Rattle.rules.specs.Breaks.{Break, breakAt, when, each}
 use Rattle.scan.specs.Machine.{eachCell, controlAt, plainRest}
@@ -75,14 +76,5 @@ plain-each cc n c (x ∷ xs) rest h = rw (plain-each cc n (suc c) xs rest (omega
     go false e = ap (λ (t : Bool). when t (breakAt n cc 1) rest) (test-eq (leb (suc c) cc) (leb c cc) (λ h. le-leb c cc (omega (arith, leb-true (suc c) cc h)))
         (λ h. le-leb (suc c) cc (omega (arith, leb-true c cc h, eqb-false cc c e))))
 
-first-below : (k : ℕ) (xs : List Bytes) → 0 < k → firstControl k xs < k + length xs
-unfolding firstControl
-first-below k [] h = omega arith
-first-below k (x ∷ xs) h = go (any control x) (first-below (suc k) xs (omega arith))
-  where
-    go : (t : Bool) → firstControl (suc k) xs < suc k + length xs → cond t k (firstControl (suc k) xs) < k + suc (length xs)
-    go true h = omega arith
-    go false h = omega arith
-
 pub plain-rest : (n : ℕ) (l : Bytes) (rest : List Break) → eachCell (plainCell (controlCell l) n) 2 (drop 1 (cells l)) rest ≡ plainRest (controlCell l) n rest
-plain-rest n l rest = plain-each (controlCell l) n 2 (drop 1 (cells l)) rest (omega (arith, first-below 1 (cells l) (omega arith), ap length (cells-some 9 l)))
+plain-rest n l rest = plain-each (controlCell l) n 2 (drop 1 (cells l)) rest (omega (arith, first-below (any control) 1 (cells l) (omega arith), ap length (cells-some 9 l)))

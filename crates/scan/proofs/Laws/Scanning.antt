@@ -8,7 +8,7 @@ use native.Mathlib.Numerals.{add-one}
 use native.Mathlib.Omega.{arith}
 use lib.Dec.{eqb}
 use lib.Seq.{getD-drop, drop-drop, take-suc}
-use lib.ListN.{length, take, drop, getD, length-append, length-drop}
+use lib.ListN.{length, take, drop, getD, length-append, length-take, length-drop}
 use Rattle.text_bytes.specs.Bytes.{Bytes, onFirst, splitOn}
 use Rattle.text_bytes.specs.Places.{part}
 use Rattle.text.specs.Lines.{LIMIT, lines, startsLf, width}
@@ -17,7 +17,7 @@ use Rattle.text_bytes.proofs.Laws.Pieces.{onFirst-length}
 use Rattle.text.proofs.Laws.Lines.{lines-done}
 use Rattle.book_facts.specs.Asked.{askedBy}
 use Rattle.rules.specs.Sorts.{isSilent}
-use Rattle.rules.specs.Breaks.{Break, breakAt, when, Spot, spot, spotAt, Rule, each, atCell, atLine, inLines, atEnd}
+use Rattle.rules.specs.Breaks.{Break, breakWith, when, Spot, spot, spotAt, Rule, each, atCell, atLine, inLines, atEnd}
 use Rattle.scan.specs.Places.{FILE-MOST}
 use Rattle.scan.specs.Machine.{Ids}
 use Rattle.scan.specs.Carried.{lineBreaks, Stands, Follows, from, last, Scan}
@@ -35,7 +35,7 @@ unfolding atCell
 at-bound [] p n c = omega arith
 at-bound (r ∷ rs) p n c = go (r .broken p c) (at-bound rs p n c)
   where
-    go : (t : Bool) → length (atCell rs p n c) ≤ length rs → length (when t (breakAt n c (r .number)) (atCell rs p n c)) ≤ suc (length rs)
+    go : (t : Bool) → length (atCell rs p n c) ≤ length rs → length (when t (breakWith n c (r .number) (r .first p c)) (atCell rs p n c)) ≤ suc (length rs)
     go true h = omega arith
     go false h = omega arith
 
@@ -136,7 +136,7 @@ breaks-bound book sized b h =
     )
 
 -- THE SCAN: where it stands, by the place and the number of lines passed
-pub scan-start : (book : Book) (file : Bytes) {s : State} {kinds : List ℕ} {slots : List Bool} → Stands book [] s kinds slots → Scan book file 0 0 s kinds slots
+pub scan-start : (book : Book) (file : Bytes) {s : State} {kinds slots : List ℕ} → Stands book [] s kinds slots → Scan book file 0 0 s kinds slots
 scan-start book file st = record { within = omega arith; counted = omega arith; passed = omega arith; left = refl; stands = st }
 
 -- all breaks are those of the lines and those at the end
@@ -144,13 +144,13 @@ pub breaks-left : (book : Book) (file : Bytes) → breaksBy book (lines file) �
 unfolding breaksBy inLines
 breaks-left book file = let z : length (lines file) - 0 ≡ length (lines file) = omega arith in rw z
 
-module _ {book : Book} (sized : Sized book) {file : Bytes} {at n : ℕ} {s : State} {kinds : List ℕ} {slots : List Bool} (h : Scan book file at n s kinds slots) where
+module _ {book : Book} (sized : Sized book) {file : Bytes} {at n : ℕ} {s : State} {kinds slots : List ℕ} (h : Scan book file at n s kinds slots) where
   module _ {end next : ℕ} (line : LineAt file at end next) where
     ahead : drop n (lines file) ≡ part at end file ∷ lines (drop next file)
     ahead = sym (h .left) ∙ line .cut
 
     -- a line further
-    pub scan-step : {s' : State} {kinds' : List ℕ} {slots' : List Bool} → Follows book s kinds slots (part at end file) s' kinds' slots' → Scan book file next (n + 1) s' kinds' slots'
+    pub scan-step : {s' : State} {kinds' slots' : List ℕ} → Follows book s kinds slots (n + 1) (part at end file) s' kinds' slots' → Scan book file next (n + 1) s' kinds' slots'
     scan-step af =
         let F = lines file in
         record {
@@ -158,7 +158,7 @@ module _ {book : Book} (sized : Sized book) {file : Bytes} {at n : ℕ} {s : Sta
           counted = omega (arith, line .on, h .counted);
           passed = omega (arith, length-drop n F, ap length ahead);
           left = rw (add-one n) (sym (lines-left book F n ahead));
-          stands = rw (add-one n, lines-above book F n ahead) (stands-next sized (h .stands) af);
+          stands = rw (add-one n, lines-above book F n ahead) (stands-next sized (omega (arith, length-take n F, h .passed)) (h .stands) af);
         }
 
     -- the breaks of the line, in front of those of the lines after it and those at the end

@@ -74,13 +74,13 @@ abbrev Records : RattleType
 Records = Array T.the-row 4096
 
 abbrev none : Fault
-none = fault 0 0 0
+none = fault 0 0 0 0
 
 abbrev ys : List Fault
 ys = replicate 4096 none
 
 is-none : Is T.the-row none (T′.lowered none ∷ [])
-is-none = LL.owes T.the-type T′.the-laws none ((refl, lit< tt), ((refl, lit< tt), ((refl, lit< tt), tt)))
+is-none = LL.owes T.the-type T′.the-laws none ((refl, lit< tt), ((refl, lit< tt), ((refl, lit< tt), ((refl, lit< tt), tt))))
 
 long : length ys ≡ 4096
 long = length-replicate 4096 none
@@ -161,7 +161,7 @@ module _ {M : Type 1} (𝓤 : URA M) (H : Heap 𝓤) (A : Atoms 𝓤) (W : Given
         alloc1 ! (λ l₀. alloc1 ! (λ l₁. alloc1 ! (λ l₂. alloc1 ! (λ l₃. alloc1 ! (λ l₄. alloc1 ! (λ l₅. alloc1 ! (λ l₆. alloc1 ! (λ l₇. alloc1 ! (λ l₈. alloc1 ! (λ l₉. alloc0 ! $ params1 ! $
         pass1 ! (init ! 16 refl (shr-slice-lawful 𝓤 H A W (named 0) κ u8 .typed p (v ∷ []) is-p .0)) $ pass1 ! (init ! 14 refl (tt, tt)) $ pass0 ! $
         -- [_9; …; room for _0; …; the tokens; what the parameters own]. Local i stands at 18 − 2 i
-        assigns ! (agg ! (and-then ! (lit ! tt) (and-then ! (lit ! tt) (and-then ! (lit ! tt) (no-more !))))) (from ! (stop !)) (init ! 8 refl (LL.lawful T.the-type T′.the-laws 𝓤 H A W .typed none _ is-none .0)) $
+        assigns ! (agg ! (and-then ! (lit ! tt) (and-then ! (lit ! tt) (and-then ! (lit ! tt) (and-then ! (lit ! tt) (no-more !)))))) (from ! (stop !)) (init ! 8 refl (LL.lawful T.the-type T′.the-laws 𝓤 H A W .typed none _ is-none .0)) $
         assigns ! (rep ! 4096 (load ! (from ! (stop !)) (look ! 8 refl))) (from ! (stop !)) (init-times ! 12 T.the-row (LL.lawful T.the-type T′.the-laws 𝓤 H A W) 4096 none (T′.lowered none) is-none refl) $
         assigns ! (of-opd ! (lit ! tt)) (from ! (stop !)) (init ! 10 refl (tt, record { fits = lit< tt })) $
         assigns ! (addr ! (from ! (stop !))) (from ! (stop !)) (init ! 4 refl (tt, tt)) $

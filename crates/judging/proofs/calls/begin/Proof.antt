@@ -1,10 +1,10 @@
 -- `judging::calls::begin` meets its contract: past the limit there is a number, and else no line is passed and no key has come. Assumes nothing.
 use mathlib.Core.Path.{_≡_, refl, sym, ap, _∙_}
-use mathlib.Core.Bool.{false}
+use Prim.Native.Nat.{ℕ}
 use native.Mathlib.Omega.{arith}
 use borrow.Author.Needs.{needs}
 use lib.ListN.{length-replicate}
-use Rattle.book.specs.Book.{SLOTS}
+use Rattle.scan.specs.Machine.{FIRSTS}
 use Rattle.judging.specs.Parts.{beginning}
 use Rattle.judging.specs.declared.parts.Stand.{Stand}
 use Rattle.judging.proofs.Laws.Parting.{midway-start, same-everywhere}
@@ -37,10 +37,10 @@ returns-2 c =
       stand = begins (first .beginning2 .ensures);
       going = λ q. record {
         limit = limit;
-        midway = midway-start _ (first .beginning2 .ensures) (asking-means _ (at-asking .asking-of .ensures) (at-survey .survey .ensures .1) flags) (λ i. same-everywhere SLOTS i false);
+        midway = midway-start _ (first .beginning2 .ensures) (asking-means _ (at-asking .asking-of .ensures) (at-survey .survey .ensures .1) flags) (λ i. same-everywhere FIRSTS i 0);
         declared = rw (four (at-survey .survey .last .0) (flags .shape .families)) flags;
         columns = refl;
-        keys = length-replicate SLOTS false;
+        keys = length-replicate {A = ℕ} FIRSTS 0;
       };
     }
 

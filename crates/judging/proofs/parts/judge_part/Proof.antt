@@ -8,7 +8,7 @@ use borrow.Author.Needs.{needs}
 use lib.ListN.{length, drop, length-replicate, length-take, length-drop}
 use Rattle.text.specs.Lines.{lines}
 use Rattle.text_bytes.proofs.Laws.Tests.{absurd-bool}
-use Rattle.book.specs.Book.{SLOTS}
+use Rattle.scan.specs.Machine.{FIRSTS}
 use Rattle.book_facts.specs.Asked.{AskingOf}
 use Rattle.rules.specs.Rules.{breaksBy}
 use Rattle.scan.specs.Places.{FILE-MOST, LINE-MOST}
@@ -25,7 +25,7 @@ use Rattle.book.proofs.Laws.Sized.{book-sized}
 
 abbrev Inv-loop : tie.InvT-loop
 Inv-loop places₀ room book file flags kinds₀ slots₀ stamps₀ before state₀ at₀ n₀ k₀ places kinds slots stamps state at n k =
-    Scan (bookIn book) file at n state kinds slots × Parted (breaksBy (bookIn book) (lines file)) before places₀ places k (from (bookIn book) (lines file) n ++ last (bookIn book) (lines file)) × (k ≤ room + LINE-MOST) × (at₀ ≤ at) × (0 < k → at₀ < at) × (length places ≡ length places₀) × (length kinds ≡ 256) × (length slots ≡ SLOTS) × (length stamps ≡ ROOM) × AskingOf (bookIn book) (lines file) (state .asking)
+    Scan (bookIn book) file at n state kinds slots × Parted (breaksBy (bookIn book) (lines file)) before places₀ places k (from (bookIn book) (lines file) n ++ last (bookIn book) (lines file)) × (k ≤ room + LINE-MOST) × (at₀ ≤ at) × (0 < k → at₀ < at) × (length places ≡ length places₀) × (length kinds ≡ 256) × (length slots ≡ FIRSTS) × (length stamps ≡ ROOM) × AskingOf (bookIn book) (lines file) (state .asking)
 
 abbrev μ-loop : tie.MeasureT-loop
 μ-loop places₀ room book file flags kinds₀ slots₀ stamps₀ before state₀ at₀ n₀ k₀ places kinds slots stamps state at n k = length file - at

@@ -7,4 +7,4 @@ returns : tie.Need-returns
 returns c = rw (c .higher .ensures)
 
 pub after-header-spec : {M : Type 1} → statement M
-after-header-spec = tie.close (tie.spec (λ c. search needs) (λ c. search needs) (λ c κs. search needs) returns)
+after-header-spec = tie.close (tie.spec (λ c. search needs) (λ c κs. search needs) returns)
