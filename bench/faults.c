@@ -15,21 +15,21 @@ static double now(void) {
 
 /* Both calls on the file, with room for so many breaks. */
 static int beside(const char *name, size_t breaks) {
-    uint32_t *places = calloc(breaks + 1, 12), number;
-    struct mztab_fault *faults = calloc(breaks + 1, 12);
+    uint32_t *places = calloc(breaks + 1, 16), number;
+    struct mztab_fault *faults = calloc(breaks + 1, 16);
     if (!places || !faults) exit(2);
     double best[2] = {1e18, 1e18};
     uint32_t count[2] = {0, 0};
     for (int i = 0; i < TRIES; i++) {
         double a = now();
-        count[0] = mztab_judge(file, LIMIT, places, 3 * breaks, &number);
+        count[0] = mztab_judge(file, LIMIT, places, 4 * breaks, &number);
         double b = now();
         count[1] = mztab_faults(file, LIMIT, faults, breaks, &number);
         double c = now();
         if (b - a < best[0]) best[0] = b - a;
         if (c - b < best[1]) best[1] = c - b;
     }
-    int same = count[0] == count[1] && memcmp(places, faults, 12 * breaks) == 0;
+    int same = count[0] == count[1] && memcmp(places, faults, 16 * breaks) == 0;
     printf("%-34s %10u %10.2f %10.2f %8.2f%s\n", name, count[0], best[0], best[1], best[1] / best[0], same ? "" : "  DIFFERENT");
     free(places);
     free(faults);

@@ -21,16 +21,16 @@ static double now(void) {
 
 /* Milliseconds of the best judging of the first n bytes. */
 static double judge(const char *name, size_t n, struct want w) {
-    static uint32_t places[3 * 4096];
+    static uint32_t places[4 * 4096];
     double best = 1e18, spent = 0;
     for (int i = 0; i < TRIES && spent < 1e4; i++) {
         uint32_t number = 77;
         double t = now();
-        uint32_t count = mztab_judge(file, n, places, 3 * 4096, &number);
+        uint32_t count = mztab_judge(file, n, places, 4 * 4096, &number);
         t = now() - t;
         spent += t;
         if (t < best) best = t;
-        if (number != 0 || count != w.count || (count && (places[0] != w.rule || places[1] != w.line || places[2] != w.cell))) {
+        if (number != 0 || count != w.count || (count && (places[0] != w.rule || places[1] != w.line || places[2] != w.cell || places[3] != w.first))) {
             printf("WRONG %s, %zu bytes: %u breaks, not %u\n", name, n, count, w.count);
             wrong = 1;
         }

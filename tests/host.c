@@ -12,9 +12,9 @@
 
 /* ---- files, of any size from some hundred bytes on */
 
-/* What judging is to answer: the count of all breaks, and the first of them. */
+/* What judging is to answer: the count of all breaks, and the first of them, with where that which comes again stands first. */
 struct want {
-    uint32_t count, rule, line, cell;
+    uint32_t count, rule, line, cell, first;
 };
 
 static uint8_t *file; /* room for LIMIT + 1 bytes */
@@ -45,7 +45,7 @@ static uint32_t over(const char *text, size_t end) {
 }
 
 static struct want want(uint32_t count, uint32_t rule, uint32_t line, uint32_t cell) {
-    struct want w = {count, rule, line, cell};
+    struct want w = {count, rule, line, cell, 0};
     return w;
 }
 
@@ -200,7 +200,9 @@ static struct want same_key(size_t n) {
     begin(n);
     uint32_t lines = over("MTD\ttitle\ta\n", n);
     fill('\n', n);
-    return want(lines - 1 + 5, 6, 2, 2);
+    struct want w = want(lines - 1 + 5, 6, 2, 2);
+    w.first = 1;
+    return w;
 }
 
 static struct want headers(const char *line, uint32_t each, uint32_t rule, uint32_t cell) {
@@ -522,7 +524,7 @@ static const char EXAMPLE[] =
     "MTD\tms_run[1]-location\tfile:///a.mzML\n\nPRH\taccession\tdescription\tdatabase\tsearch_engine\tnum_psms_ms_run[2]\n"
     "PRT\tY1\tnull\tdb\tnull\t\nPRT\tnull\tx\tdb\tnull\t4\n";
 
-static const uint32_t EXAMPLE_BREAKS[18] = {15, 7, 6, 19, 8, 6, 20, 9, 2, 22, 10, 500, 22, 10, 900, 22, 10, 1000};
+static const uint32_t EXAMPLE_BREAKS[24] = {15, 7, 6, 0, 19, 8, 6, 0, 20, 9, 2, 0, 22, 10, 500, 0, 22, 10, 900, 0, 22, 10, 1000, 0};
 
 /* An id may be declared on any line. The first pass looks at 64 bytes at a time for lines that begin as metadata lines do, so the line stands at each place of
  * such a block, behind a line, empty lines, lines that end with CR, or a line of the byte that is sought; with an LF, or as the last of the file. */
@@ -530,20 +532,20 @@ static void passed_over(void) {
     static const char *const between[4] = {"x", "\n", "\r\n", "M"};
     for (size_t pad = 0; pad < 200; pad++)
         for (int way = 0; way < 16; way++) {
-            uint32_t places[3], number = 77;
+            uint32_t places[4], number = 77;
             begin(1024);
             put("PRH\taccession\tdescription\tdatabase\tsearch_engine\tnum_psms_ms_run[1]\nCOM\t");
             for (size_t k = 0; k < pad; k++) put(between[way & 3]);
             put(way & 4 ? "\nMTX\tms_run[1]-location\tf" : "\nMTD\tms_run[1]-location\tf");
             if (way & 8) put("\nx\n");
-            mztab_judge(file, at, places, 3, &number);
+            mztab_judge(file, at, places, 4, &number);
             check(number == 0 && (places[0] == 15) == ((way & 4) != 0), "an id declared behind lines that are passed over", pad * 16 + (size_t)way);
         }
     group("lines passed over");
 }
 
 static void limits(void) {
-    uint32_t places[18], number = 77;
+    uint32_t places[24], number = 77;
     begin(LIMIT + 1);
     put("PRH\taccession\nPRT\t12.5\nCOM\t");
     fill(' ', LIMIT + 1);
@@ -551,7 +553,8 @@ static void limits(void) {
     uint32_t count = mztab_judge(file, LIMIT, places, COUNT(places), &number);
     check(number == 0, "limit: judged", number);
     check(count == 6, "limit: count", count);
-    check(places[0] == 16 && places[1] == 1 && places[2] == 1 && places[15] == 21 && places[16] == 4 && places[17] == 5, "limit: breaks", 0);
+    check(places[0] == 16 && places[1] == 1 && places[2] == 1 && places[3] == 0, "limit: first break", 0);
+    check(places[20] == 21 && places[21] == 4 && places[22] == 5 && places[23] == 0, "limit: last break", 0);
     mark(places, COUNT(places));
     number = 77;
     count = mztab_judge(file, LIMIT + 1, places, COUNT(places), &number);
@@ -571,40 +574,41 @@ static void limits(void) {
 
 static void lists(void) {
     const uint8_t *f = (const uint8_t *)EXAMPLE;
-    for (size_t n = 0; n <= 21; n++) {
-        uint32_t places[25], number = 77;
+    for (size_t n = 0; n <= 28; n++) {
+        uint32_t places[33], number = 77;
         mark(places, COUNT(places));
         uint32_t count = mztab_judge(f, sizeof EXAMPLE - 1, places, n, &number);
-        size_t whole = n / 3 < 6 ? n / 3 : 6;
+        size_t whole = n / 4 < 6 ? n / 4 : 6;
         check(number == 0, "list: number", n);
         check(count == 6, "list: the count is of all", n);
-        check(memcmp(places, EXAMPLE_BREAKS, whole * 3 * sizeof places[0]) == 0, "list: the first breaks", n);
-        check(marked(places + whole * 3, COUNT(places) - whole * 3), "list: no place besides", n);
+        check(memcmp(places, EXAMPLE_BREAKS, whole * 4 * sizeof places[0]) == 0, "list: the first breaks", n);
+        check(marked(places + whole * 4, COUNT(places) - whole * 4), "list: no place besides", n);
     }
     /* a file of no bytes, and comments: the required metadata is absent */
-    uint32_t places[15], number = 77;
-    check(mztab_judge(f, 0, places, 15, &number) == 5 && number == 0, "no bytes: count", number);
+    uint32_t places[20], number = 77;
+    check(mztab_judge(f, 0, places, 20, &number) == 5 && number == 0, "no bytes: count", number);
     for (uint32_t k = 0; k < 5; k++)
-        check(places[3 * k] == 21 && places[3 * k + 1] == 1 && places[3 * k + 2] == k + 1, "no bytes: break", k);
-    check(mztab_judge((const uint8_t *)"COM", 3, places, 15, &number) == 5 && places[1] == 2, "COM", 0);
+        check(places[4 * k] == 21 && places[4 * k + 1] == 1 && places[4 * k + 2] == k + 1 && places[4 * k + 3] == 0, "no bytes: break", k);
+    check(mztab_judge((const uint8_t *)"COM", 3, places, 20, &number) == 5 && places[1] == 2, "COM", 0);
     group("lent lists");
 
-    /* every break of a long list, with one place too few for the last, and just enough */
-    size_t n = (size_t)1 << 20, all = 3 * (n / 2 + 5);
+    /* every break of a long list, with one to three places too few for the last, and just enough */
+    size_t n = (size_t)1 << 20, all = 4 * (n / 2 + 5);
     uint32_t *long_list = malloc(all * sizeof *long_list);
     if (!long_list) exit(2);
     x_lines(n);
-    for (size_t less = 0; less < 2; less++) {
+    for (size_t less = 0; less < 4; less++) {
         mark(long_list, all);
         uint32_t count = mztab_judge(file, n, long_list, all - less, &number);
         check(count == n / 2 + 5 && number == 0, "long list: count", count);
         int ok = 1;
-        for (uint32_t k = 0; k < n / 2; k++)
-            ok = ok && long_list[3 * k] == 2 && long_list[3 * k + 1] == k + 1 && long_list[3 * k + 2] == 1;
-        for (uint32_t k = 0; k < 5 - less; k++)
-            ok = ok && long_list[3 * (n / 2 + k)] == 21 && long_list[3 * (n / 2 + k) + 1] == n / 2 + 1 && long_list[3 * (n / 2 + k) + 2] == k + 1;
+        for (uint32_t k = 0; k < n / 2 + 5 - (less > 0); k++) {
+            const uint32_t *at = long_list + 4 * k;
+            uint32_t end = k < n / 2 ? 0 : k - (uint32_t)(n / 2) + 1; /* the breaks of rule 21 at the end */
+            ok = ok && at[0] == (end ? 21 : 2) && at[1] == (end ? n / 2 : k) + 1 && at[2] == (end ? end : 1) && at[3] == 0;
+        }
         check(ok, "long list: breaks", less);
-        check(!less || marked(long_list + all - 3, 3), "long list: the break that does not fit", less);
+        check(!less || marked(long_list + all - 4, 4), "long list: the break that does not fit", less);
     }
     free(long_list);
     group("a long lent list");
@@ -612,13 +616,13 @@ static void lists(void) {
 
 /* The first break of a line alone, and the one after it: the next of the line, or the first of rule 21. */
 static void judged_as(const char *line, uint32_t cell, uint32_t rule, uint32_t rule_after, const char *what) {
-    uint32_t places[7], number = 77;
+    uint32_t places[9], number = 77;
     mark(places, COUNT(places));
-    uint32_t count = mztab_judge((const uint8_t *)line, strlen(line), places, 6, &number);
+    uint32_t count = mztab_judge((const uint8_t *)line, strlen(line), places, 8, &number);
     check(number == 0 && count == (rule_after == 21 ? 6 : 7), what, count);
-    check(places[0] == rule && places[1] == 1 && places[2] == cell, what, places[0]);
-    check(places[3] == rule_after && places[4] == (rule_after == 21 ? 2 : 1), what, places[3]);
-    check(marked(places + 6, 1), what, 0);
+    check(places[0] == rule && places[1] == 1 && places[2] == cell && places[3] == 0, what, places[0]);
+    check(places[4] == rule_after && places[5] == (rule_after == 21 ? 2 : 1) && places[7] == 0, what, places[4]);
+    check(marked(places + 8, 1), what, 0);
 }
 
 /* Rules 23 and 24 in place of 5, 7 and 12: the leftmost bad index decides. */
@@ -653,13 +657,13 @@ static void indices(void) {
 
 /* Whether the first n bytes give the same over places for so many breaks and over as many records: number, count, and every place, marked ones too. */
 static int same_records(size_t n, size_t breaks) {
-    uint32_t *places = malloc(12 * breaks + 12), numbers[2] = {77, 78};
-    struct mztab_fault *faults = malloc(12 * breaks + 12);
+    uint32_t *places = malloc(16 * breaks + 16), numbers[2] = {77, 78};
+    struct mztab_fault *faults = malloc(16 * breaks + 16);
     if (!places || !faults) exit(2);
-    mark(places, 3 * breaks + 3);
-    memcpy(faults, places, 12 * breaks + 12);
-    uint32_t counts[2] = {mztab_judge(file, n, places, 3 * breaks, &numbers[0]), mztab_faults(file, n, faults, breaks, &numbers[1])};
-    int same = counts[0] == counts[1] && numbers[0] == numbers[1] && memcmp(places, faults, 12 * breaks + 12) == 0;
+    mark(places, 4 * breaks + 4);
+    memcpy(faults, places, 16 * breaks + 16);
+    uint32_t counts[2] = {mztab_judge(file, n, places, 4 * breaks, &numbers[0]), mztab_faults(file, n, faults, breaks, &numbers[1])};
+    int same = counts[0] == counts[1] && numbers[0] == numbers[1] && memcmp(places, faults, 16 * breaks + 16) == 0;
     free(places);
     free(faults);
     return same;
@@ -684,10 +688,10 @@ static void stand_ins(void) {
     group("stand-ins");
 }
 
-/* The call over records gives what the call over places gives: around its parts of 2,791 to 4,096 breaks, past the last break, and over the limit. */
+/* The call over records gives what the call over places gives: around its parts of 2,524 to 4,096 breaks, past the last break, and over the limit. */
 static void records(void) {
-    static const size_t lengths[] = {0, 1, 2, 3, 4, 5, 6, 2790, 2791, 2792, 4095, 4096, 4097, 5582, 8192, 524292, 524293, 524294, 600000};
-    check(sizeof(struct mztab_fault) == 12, "records: size", sizeof(struct mztab_fault));
+    static const size_t lengths[] = {0, 1, 2, 3, 4, 5, 6, 2523, 2524, 2525, 2790, 2791, 2792, 4095, 4096, 4097, 5048, 5582, 8192, 524292, 524293, 524294, 600000};
+    check(sizeof(struct mztab_fault) == 16, "records: size", sizeof(struct mztab_fault));
     memcpy(file, EXAMPLE, sizeof EXAMPLE);
     for (size_t k = 0; k < 8; k++) check(same_records(sizeof EXAMPLE - 1, k), "records: the example", k);
     for (size_t k = 0; k < 8; k++) check(same_records(0, k), "records: no bytes", k);
@@ -695,10 +699,165 @@ static void records(void) {
     for (size_t i = 0; i < COUNT(lengths); i++) check(same_records((size_t)1 << 20, lengths[i]), "records: one-byte lines", lengths[i]);
     nameless_headers((size_t)1 << 20);
     for (size_t i = 0; i < COUNT(lengths); i++) check(same_records((size_t)1 << 20, lengths[i]), "records: nameless headers", lengths[i]);
+    same_key((size_t)1 << 20);
+    for (size_t i = 0; i < COUNT(lengths); i++) check(same_records((size_t)1 << 20, lengths[i]), "records: one key repeated", lengths[i]);
     ends(LIMIT);
     file[LIMIT] = 10;
     for (size_t k = 0; k < 8; k++) check(same_records(LIMIT + 1, k), "records: over the limit", k);
     group("records as places");
+}
+
+/* ---- where that which comes again stands first */
+
+static struct mztab_fault fault(uint32_t rule, uint32_t line, uint32_t cell, uint32_t first) {
+    struct mztab_fault f = {rule, line, cell, first};
+    return f;
+}
+
+/* The first n bytes of the file have these breaks and no others. */
+static void breaks_are(size_t n, const struct mztab_fault *breaks, uint32_t count, const char *what) {
+    static uint32_t places[4 * 2048];
+    uint32_t number = 77;
+    mark(places, COUNT(places));
+    uint32_t found = mztab_judge(file, n, places, COUNT(places), &number);
+    check(number == 0 && found == count, what, found);
+    check(memcmp(places, breaks, count * sizeof *breaks) == 0, what, count);
+    check(marked(places + 4 * count, COUNT(places) - 4 * count), what, 0);
+}
+
+/* The same for lists of every length, of places and of records: what no whole break fills is as it was, beside the list and in it. */
+static void every_list(size_t n, const struct mztab_fault *breaks, uint32_t count, const char *what) {
+    for (size_t length = 0; length <= 4 * count + 6; length++) {
+        uint32_t places[4 * 64], number = 77;
+        size_t whole = length / 4 < count ? length / 4 : count;
+        mark(places, COUNT(places));
+        check(mztab_judge(file, n, places, length, &number) == count && number == 0, what, length);
+        check(memcmp(places, breaks, whole * sizeof *breaks) == 0, what, length);
+        check(marked(places + 4 * whole, COUNT(places) - 4 * whole), what, length);
+    }
+    for (size_t length = 0; length <= count + 2; length++) {
+        struct mztab_fault faults[64];
+        uint32_t marks[4 * COUNT(faults)], number = 77;
+        size_t whole = length < count ? length : count;
+        mark(marks, COUNT(marks));
+        memcpy(faults, marks, sizeof faults);
+        check(mztab_faults(file, n, faults, length, &number) == count && number == 0, what, length);
+        check(memcmp(faults, breaks, whole * sizeof *breaks) == 0, what, length);
+        check(memcmp(faults + whole, marks, sizeof faults - whole * sizeof *faults) == 0, what, length);
+    }
+}
+
+/* Adds the five breaks of rule 21 at a line; answers how many there are then. */
+static uint32_t all_absent(struct mztab_fault *breaks, uint32_t count, uint32_t line) {
+    for (uint32_t k = 1; k <= 5; k++) breaks[count++] = fault(21, line, k, 0);
+    return count;
+}
+
+#define TITLE "MTD\ttitle\ta\n"
+
+/* Files of whole lines, and their breaks before those of rule 21. */
+static const struct { const char *text; uint32_t count; struct mztab_fault breaks[16]; } AGAIN[] = {
+    /* rule 6: the earliest, not the nearest; of this key alone; every line counts */
+    {TITLE TITLE, 1, {{6, 2, 2, 1}}},
+    {TITLE TITLE TITLE TITLE, 3, {{6, 2, 2, 1}, {6, 3, 2, 1}, {6, 4, 2, 1}}},
+    {"\nCOM\ttitle\ta\n" TITLE "\r\nMTD\tcontact[1]-name\ta\r\n" TITLE "MTD\tcontact[2]-name\ta\nMTD\tcontact[1]-name\tb\n", 2, {{6, 6, 2, 3}, {6, 8, 2, 5}}},
+    /* lines of two and of four cells are none of its first, nor is an unknown code */
+    {"MTD\ttitle\nMTD\ttitle\ta\tb\nmtd\ttitle\ta\n" TITLE TITLE, 4, {{3, 1, 1, 0}, {3, 2, 1, 0}, {2, 3, 1, 0}, {6, 5, 2, 4}}},
+    /* a line whose value is wrong, or which stands below a header, is */
+    {"MTD\tsoftware[1]\ta\nMTD\tsoftware[1]\t[, , a, ]\n", 2, {{7, 1, 3, 0}, {6, 2, 2, 1}}},
+    {"SMH\tidentifier\tcharge\n" TITLE TITLE, 3, {{4, 2, 1, 0}, {4, 3, 1, 0}, {6, 3, 2, 2}}},
+    /* unknown keys, bad indices and units of columns have none */
+    {"MTD\tx\ta\nMTD\tx\ta\nMTD\tsample[0]-description\ta\nMTD\tsample[0]-description\ta\n", 4, {{5, 1, 2, 0}, {5, 2, 2, 0}, {23, 3, 2, 0}, {23, 4, 2, 0}}},
+    {"MTD\tcolunit-protein\taccession=[, , a, ]\nMTD\tcolunit-protein\taccession=[, , a, ]\n", 0, {{0, 0, 0, 0}}},
+    /* beside a control byte before it and a value that is wrong after it */
+    {"MTD\tcustom[1]\t[, , a, ]\nMTD\tcustom[1]\t\001\n", 3, {{6, 2, 2, 1}, {1, 2, 3, 0}, {7, 2, 3, 0}}},
+    /* rule 9: a header of the same section, the earliest, whatever rules it breaks */
+    {"SMH\tidentifier\tcharge\nSML\ta\t1\nSMH\tidentifier\tcharge\n\nSMH\tidentifier\tcharge\n", 2, {{9, 3, 1, 1}, {9, 5, 1, 1}}},
+    {"COM\nPSH\nSMH\tidentifier\tcharge\nPSH\nSMH\tidentifier\tcharge\nPSH\n", 8,
+     {{16, 2, 1, 0}, {9, 4, 1, 2}, {10, 4, 1, 0}, {16, 4, 1, 0}, {9, 5, 1, 3}, {9, 6, 1, 2}, {10, 6, 1, 0}, {16, 6, 1, 0}}},
+    {"PRT\nPRH\nPEH\nPRHx\nPRH\n", 7, {{17, 1, 1, 0}, {16, 2, 1, 0}, {16, 3, 1, 0}, {2, 4, 1, 0}, {9, 5, 1, 2}, {10, 5, 1, 0}, {16, 5, 1, 0}}},
+    /* rule 13: the cell of the first equal name, by its bytes, in this header */
+    {"SMH\tidentifier\tcharge\tcharge\n", 1, {{13, 1, 4, 3}}},
+    {"SMH\tidentifier\tcharge\tidentifier\tcharge\tidentifier\n", 3, {{13, 1, 4, 2}, {13, 1, 5, 3}, {13, 1, 6, 2}}},
+    {"SMH\tidentifier\tcharge\tx\t\tx\t\tx\n", 8,
+     {{12, 1, 4, 0}, {12, 1, 5, 0}, {12, 1, 6, 0}, {13, 1, 6, 4}, {12, 1, 7, 0}, {13, 1, 7, 5}, {12, 1, 8, 0}, {13, 1, 8, 4}}},
+    {"SMH\tidentifier\tcharge\topt_a\nSMH\tcharge\topt_a\tidentifier\topt_a\r\n", 3, {{9, 2, 1, 1}, {14, 2, 4, 0}, {13, 2, 5, 3}}},
+    {"SMH\tidentifier\tcharge\tSMH\tbest_search_engine_score[0]\tSMH\tbest_search_engine_score[0]\n", 6,
+     {{12, 1, 4, 0}, {23, 1, 5, 0}, {12, 1, 6, 0}, {13, 1, 6, 4}, {13, 1, 7, 5}, {23, 1, 7, 0}}},
+    /* all three in one file */
+    {"MTD\ttitle\n" TITLE "MTD\tcontact[1]-name\ta\n" TITLE "MTD\tcontact[2]-name\ta\n" TITLE
+     "PRH\topt_a\topt_b\topt_b\topt_a\topt_b\nPEH\topt_a\nPRH\topt_a\nPRH\topt_a\n", 14,
+     {{3, 1, 1, 0}, {6, 4, 2, 2}, {6, 6, 2, 2}, {16, 7, 1, 0}, {13, 7, 4, 3}, {13, 7, 5, 2}, {13, 7, 6, 3}, {16, 8, 1, 0}, {9, 9, 1, 7}, {10, 9, 1, 0},
+      {16, 9, 1, 0}, {9, 10, 1, 7}, {10, 10, 1, 0}, {16, 10, 1, 0}}},
+};
+
+enum { DRAWN = 200 };
+
+/* Drawn files, whose firsts are found here by the lines and cells that were drawn: keys of three cells and of four, headers, and the names of a header. */
+static void drawn_firsts(void) {
+    static const char *const codes[4] = {"PRH", "PEH", "PSH", "SMH"};
+    static struct mztab_fault breaks[2048];
+    char text[64];
+    seed = 8;
+    for (uint32_t i = 0; i < DRAWN; i++) {
+        uint32_t key_lines[65] = {0}, head_lines[4] = {0}, name_cells[256] = {0};
+        uint32_t count = 0, line = 1, keys = 1 + (uint32_t)draw(64), names = 1 + (uint32_t)draw(255);
+        begin(LIMIT);
+        for (; line <= 100; line++) {
+            uint32_t key = 1 + (uint32_t)draw(keys), way = (uint32_t)draw(6);
+            sprintf(text, way == 0 ? "COM\tcustom[%u]\t[, , a, ]\n" : way == 1 ? "MTD\tcustom[%u]\t[, , a, ]\t\n" : "MTD\tcustom[%u]\t[, , a, ]\n", key);
+            put(text);
+            if (way == 1) breaks[count++] = fault(3, line, 1, 0);
+            if (way < 2) continue;
+            if (key_lines[key]) breaks[count++] = fault(6, line, 2, key_lines[key]);
+            else key_lines[key] = line;
+        }
+        for (uint32_t k = 0; k < 20; k++) {
+            uint32_t section = (uint32_t)draw(4), later = 0;
+            if (k) put("\n"), line++;
+            put(codes[section]);
+            for (uint32_t j = section + 1; j < 4; j++) later |= head_lines[j];
+            if (head_lines[section]) breaks[count++] = fault(9, line, 1, head_lines[section]);
+            else head_lines[section] = line;
+            if (later) breaks[count++] = fault(10, line, 1, 0);
+            breaks[count++] = fault(16, line, 1, 0);
+        }
+        /* the last header alone has names */
+        for (uint32_t cell = 2; cell <= 256; cell++) {
+            uint32_t name = (uint32_t)draw(names);
+            sprintf(text, "\topt_%u", name);
+            put(text);
+            if (name_cells[name]) breaks[count++] = fault(13, line, cell, name_cells[name]);
+            else name_cells[name] = cell;
+        }
+        put("\n");
+        count = all_absent(breaks, count, line + 1);
+        breaks_are(at, breaks, count, "drawn firsts");
+        check(same_records(at, i % 7 ? i : count), "drawn firsts: records", i);
+    }
+    group("where it stands first, drawn");
+}
+
+static void firsts(void) {
+    struct mztab_fault breaks[32];
+    for (size_t i = 0; i < COUNT(AGAIN); i++) {
+        uint32_t lines = 0;
+        begin(LIMIT);
+        put(AGAIN[i].text);
+        for (size_t k = 0; k < at; k++) lines += file[k] == '\n';
+        memcpy(breaks, AGAIN[i].breaks, sizeof AGAIN[i].breaks);
+        uint32_t count = all_absent(breaks, AGAIN[i].count, lines + 1);
+        breaks_are(at, breaks, count, "where it stands first");
+        every_list(at, breaks, count, "where it stands first: a list");
+    }
+    /* a header of over 256 cells is the first of its section, and its names are not judged */
+    begin(LIMIT);
+    put(line_of("SMH", 256, short_name));
+    put("SMH\tidentifier\tcharge\n");
+    breaks[0] = fault(11, 1, 1, 0);
+    breaks[1] = fault(9, 2, 1, 1);
+    breaks_are(at, breaks, all_absent(breaks, 2, 3), "a first header that is too wide");
+    group("where it stands first");
 }
 
 /* The example at either edge of a page, and each front part of it: a byte touched outside is a fault. */
@@ -710,11 +869,11 @@ static void edges(void) {
         uint32_t count[2];
         for (int high = 0; high < 2; high++) {
             uint8_t *here = high ? f + length - part : f;
-            uint32_t *places = (uint32_t *)(high ? l + length - 36 : l);
+            uint32_t *places = (uint32_t *)(high ? l + length - 48 : l);
             uint32_t number = 77;
             memcpy(here, EXAMPLE, part);
-            mark(places, 9);
-            count[high] = mztab_judge(here, part, places, 9, &number);
+            mark(places, 12);
+            count[high] = mztab_judge(here, part, places, 12, &number);
             check(number == 0, "edges: judged", part);
             for (uint32_t row = 0; row < 3; row++) {
                 struct view v = cell(here, part, 1, row, 5);
@@ -1325,19 +1484,47 @@ static void weigh_accepted(void) {
     weights_are(file, most, 0, weights, "short rows");
 }
 
+/* In the hostile files the key that comes again stands on line 1, and so does the header; the name is that of cell 2. */
+static uint32_t hostile_first(uint32_t rule) { return rule == 6 || rule == 9 ? 1 : rule == 13 ? 2 : 0; }
+
+static int hostile_firsts(const uint32_t *places, size_t breaks) {
+    for (size_t k = 0; k < breaks; k++)
+        if (places[4 * k + 3] != hostile_first(places[4 * k])) return 0;
+    return 1;
+}
+
+/* Every break of one key that is repeated to the end of the file. */
+static void every_first(void) {
+    struct want w = same_key(most);
+    uint32_t *places = malloc((size_t)w.count * 16), number = 77;
+    if (!places) exit(2);
+    check(mztab_judge(file, most, places, (size_t)w.count * 4, &number) == w.count && number == 0, "every break of one key", w.count);
+    int ok = 1;
+    for (uint32_t k = 0; k < w.count - 5; k++)
+        ok = ok && places[4 * k] == 6 && places[4 * k + 1] == k + 2 && places[4 * k + 2] == 2 && places[4 * k + 3] == 1;
+    check(ok && hostile_firsts(places, w.count), "every break of one key", 1);
+    free(places);
+}
+
+enum { LISTED = 16384 };
+
 static void hostile(void) {
+    static uint32_t places[4 * LISTED + 12];
     for (int i = 0; i < FILES; i++) {
         struct want w = HOSTILE[i].make(most);
-        uint32_t places[12], number = 77;
+        uint32_t number = 77;
         mark(places, COUNT(places));
-        uint32_t count = mztab_judge(file, most, places, 10, &number);
+        uint32_t count = mztab_judge(file, most, places, 4 * LISTED + 3, &number);
+        size_t listed = count < LISTED ? count : LISTED;
         check(number == 0, HOSTILE[i].name, number);
         check(count == w.count, HOSTILE[i].name, count);
-        check(places[0] == w.rule && places[1] == w.line && places[2] == w.cell, HOSTILE[i].name, places[0]);
-        check(marked(places + 9, 3), HOSTILE[i].name, 0);
+        check(places[0] == w.rule && places[1] == w.line && places[2] == w.cell && places[3] == w.first, HOSTILE[i].name, places[0]);
+        check(hostile_firsts(places, listed), HOSTILE[i].name, listed);
+        check(marked(places + 4 * listed, COUNT(places) - 4 * listed), HOSTILE[i].name, 0);
         if (i % 8 == 0) check(same_records(most / 16, 3), HOSTILE[i].name, 3);
         weigh_hostile(HOSTILE[i].name);
     }
+    every_first();
     weigh_accepted();
     /* the cell calls on the same stack: the last cell of one row */
     tabs(LIMIT);
@@ -1379,6 +1566,8 @@ int main(int words, char **word) {
     indices();
     stand_ins();
     records();
+    firsts();
+    drawn_firsts();
     edges();
     views();
     refusals();

@@ -54,20 +54,23 @@ size_t mztab_cell_or(const uint8_t *file, size_t file_length, uint32_t section, 
 uint32_t mztab_reading(const uint8_t *file, size_t file_length, uint32_t section, uint32_t row, uint32_t column, uint32_t *number, uint32_t *line,
                        uint32_t *cell, int64_t *whole, int32_t *power, double *decimal);
 
-/* Judges a file by the 24 rules. The answer is the count of all breaks, 0 for an accepted file. The first of them that fit are written to places, three
- * numbers each: rule, line, cell; in order of line, then cell, then rule. Rules 21 and 22 are reported at the line after the last, and their cell stands
- * for the key that is absent: 1 to 5 of rule 21, 101 to 1564 of rule 22 (docs/rules.md); all others, 23 and 24 too, at a cell of their line. places is a
- * pointer to places_length numbers, not null also where that is 0. A place that no whole break fills is left as it was. Of a file that is too long the
- * count is 0, *number is 1 and no place is written. The call needs some 200 KB of stack. */
+/* Judges a file by the 24 rules. The answer is the count of all breaks, 0 for an accepted file. The first of them that fit are written to places, four
+ * numbers each: rule, line, cell, first; in order of line, then cell, then rule. Rules 21 and 22 are reported at the line after the last, and their cell stands
+ * for the key that is absent: 1 to 5 of rule 21, 101 to 1564 of rule 22 (docs/rules.md); all others, 23 and 24 too, at a cell of their line. `first` says
+ * where that which comes again stands first: of rule 6 the line of the earliest MTD line of three cells with the same key, of rule 9 the line of the earliest
+ * header of the same section, of rule 13 the cell of the first equal name in this header. It is 0 for all other rules, which have no such place. places is a
+ * pointer to places_length numbers, not null also where that is 0. A place that no whole break fills is left as it was: one to three at the end of a list may
+ * be too few for the next. Of a file that is too long the count is 0, *number is 1 and no place is written. The call needs some 300 KB of stack. */
 uint32_t mztab_judge(const uint8_t *file, size_t file_length, uint32_t *places, size_t places_length, uint32_t *number);
 
-/* A break: its rule, and its line and cell in the file. */
+/* A break: its rule, its line and cell in the file, and where that which comes again stands first: a line for rules 6 and 9, a cell of the break's own line for
+ * rule 13, 0 for all others. */
 struct mztab_fault {
-    uint32_t rule, line, cell;
+    uint32_t rule, line, cell, first;
 };
 
 /* The same as mztab_judge over a list of records: the first of all breaks that fit are written to faults, a record each. A record that no break fills is
- * left as it was. faults is a pointer to faults_length records, not null also where that is 0. The call needs some 250 KB of stack. */
+ * left as it was. faults is a pointer to faults_length records, not null also where that is 0. The call needs some 350 KB of stack. */
 uint32_t mztab_faults(const uint8_t *file, size_t file_length, struct mztab_fault *faults, size_t faults_length, uint32_t *number);
 
 /* Counts the rows of a section: the lines with its row code, whatever breaks the file has. Row r of mztab_cell is there exactly for r from 1 to the
@@ -76,7 +79,7 @@ uint32_t mztab_rows(const uint8_t *file, size_t file_length, uint32_t section, u
 
 /* The weights of the study variables of an accepted file. weights is a list of exactly 64 places: place i - 1 gets the number of protein rows whose cell
  * under `protein_abundance_study_variable[i]` is not `null`, 0 where the header has no such column. Refused with 1, 7, and 15 where the list has not 64
- * places; no place is then written. The call judges the file: it needs as much stack as mztab_judge, some 200 KB. */
+ * places; no place is then written. The call judges the file: it needs as much stack as mztab_judge, some 300 KB. */
 void mztab_weights(const uint8_t *file, size_t file_length, uint32_t *weights, size_t weights_length, uint32_t *number);
 
 /* Adds two amounts in cents. The answer is their sum. Where that is over 100,000,000,000, of any two 64-bit numbers, it is refused with 16, and the

@@ -3,7 +3,7 @@
     import mztab
     data = open("yeast.mztab", "rb").read()
     for fault in mztab.judge(data):
-        print(fault.line, fault.cell, fault.rule)
+        print(fault.line, fault.cell, fault.rule, fault.first)
     print(mztab.cell(data, mztab.PROTEIN, 1, 2, stand_in=b"-"))
     print(mztab.reading(data, mztab.PROTEIN, 2, 5).value)
     print(mztab.rows(data, mztab.PROTEIN))
@@ -93,11 +93,16 @@ class AllZero(Refusal):
 class Break(NamedTuple):
     """A place where a file breaks a rule, 1 to 24. Lines and cells count from 1; cell 1 is the line code. Rules 21 and 22 are reported at the line after
     the last, and their cell is a number that stands for the key that is absent: docs/rules.md has it. All others, 23 and 24 too, are reported at a cell.
+
+    `first` says where that which comes again stands first: of rule 6 the line of the earliest metadata line of three cells with the same key, of rule 9 the
+    line of the earliest header of the same section, of rule 13 the cell of the first equal name in this header. It is 0 where there is none: for all other
+    rules, since neither lines nor cells count from 0.
     """
 
     line: int
     cell: int
     rule: int
+    first: int
 
 
 class Reading(NamedTuple):
@@ -130,9 +135,12 @@ def _load():
     except OSError as error:
         raise ImportError(f"{path} cannot be loaded ({error}): run ./build, or name the library in MZTAB_LIBRARY") from error
     try:
-        return _typed(library)
+        _typed(library)
     except AttributeError as error:
         raise ImportError(f"{path} is of an earlier version ({error}): run ./build") from error
+    if not _has_firsts(library):
+        raise ImportError(f"{path} is of an earlier version (its breaks have three numbers): run ./build")
+    return library
 
 
 def _typed(library):
@@ -159,6 +167,13 @@ def _typed(library):
     library.mztab_split_fee.argtypes = [u64, u32_place, size, ctypes.POINTER(u64), size, u32_place]
     library.mztab_split_fee.restype = None
     return library
+
+
+def _has_firsts(library) -> bool:
+    """Whether a break has four numbers, by the first of a file of no bytes. Where it has three, the fourth place stays as it was."""
+    places, number = (ctypes.c_uint32 * 4)(*[77] * 4), ctypes.c_uint32()
+    library.mztab_judge(b"", 0, places, 4, number)
+    return list(places) == [21, 1, 1, 0]
 
 
 _library = _load()
@@ -203,15 +218,15 @@ def judge(data: bytes, most: Optional[int] = None) -> List[Break]:
     wanted = found if most is None else min(most, found)
     if wanted > room:
         found, places = _judge(data, wanted)
-    return [Break(places[k + 1], places[k + 2], places[k]) for k in range(0, 3 * wanted, 3)]
+    return [Break(places[k + 1], places[k + 2], places[k], places[k + 3]) for k in range(0, 4 * wanted, 4)]
 
 
 def _judge(data: bytes, room: int):
     """The count of all breaks, and a list with room for some of them."""
     # A list of no length would have no address of its own, so one place more is made than is lent.
-    places = (ctypes.c_uint32 * (3 * room + 1))()
+    places = (ctypes.c_uint32 * (4 * room + 1))()
     number = ctypes.c_uint32()
-    found = _library.mztab_judge(data, len(data), places, 3 * room, number)
+    found = _library.mztab_judge(data, len(data), places, 4 * room, number)
     _refuse(number.value)
     return found, places
 

@@ -26,14 +26,14 @@ def read(text):
 
 class Judging(unittest.TestCase):
     def test_the_papers_example(self):
-        self.assertEqual(mztab.judge(YEAST), [(7, 6, 15), (8, 6, 19), (9, 2, 20), (10, 500, 22), (10, 900, 22), (10, 1000, 22)])
-        self.assertEqual(mztab.judge(YEAST)[0].rule, 15)
+        self.assertEqual(mztab.judge(YEAST), [(7, 6, 15, 0), (8, 6, 19, 0), (9, 2, 20, 0), (10, 500, 22, 0), (10, 900, 22, 0), (10, 1000, 22, 0)])
+        self.assertEqual(mztab.judge(YEAST)[0], mztab.Break(line=7, cell=6, rule=15, first=0))
         self.assertEqual(mztab.judge(ACCEPTED), [])
         self.assertEqual(mztab.count(ACCEPTED), 0)
         self.assertEqual(mztab.judge(EXPONENTS), [])
 
     def test_an_empty_file(self):
-        self.assertEqual(mztab.judge(b""), [(1, cell, 21) for cell in range(1, 6)])
+        self.assertEqual(mztab.judge(b""), [(1, cell, 21, 0) for cell in range(1, 6)])
 
     def test_what_mode_and_type_ask_for(self):
         lines = [
@@ -46,10 +46,10 @@ class Judging(unittest.TestCase):
             b"MTD\tstudy_variable[3]-description\tc",
         ]
         cells = [203, 400, 900, 1000, 1100, 1502]
-        self.assertEqual(mztab.judge(b"\n".join(lines)), [(8, cell, 22) for cell in cells])
+        self.assertEqual(mztab.judge(b"\n".join(lines)), [(8, cell, 22, 0) for cell in cells])
         # Where the type is not valid nothing is asked for.
         lines[2] = b"MTD\tmzTab-type\tquantification"
-        self.assertEqual(mztab.judge(b"\n".join(lines)), [(3, 3, 7)])
+        self.assertEqual(mztab.judge(b"\n".join(lines)), [(3, 3, 7, 0)])
 
     def test_bad_indices(self):
         for line, cell, rule in [
@@ -68,7 +68,52 @@ class Judging(unittest.TestCase):
             (b"MTD\tassay[1]-ms_run_ref\tassay[077]", 3, 7),
             (b"SMH\tidentifier\tcharge\tbest_search_engine_score[1a]", 4, 12),
         ]:
-            self.assertEqual(mztab.judge(line, 2), [(1, cell, rule), (2, 1, 21)], line)
+            self.assertEqual(mztab.judge(line, 2), [(1, cell, rule, 0), (2, 1, 21, 0)], line)
+
+    def again(self, file, expected):
+        """The breaks of a file but those of rule 21 are these, and so are the first of them."""
+        found = mztab.judge(file)
+        self.assertEqual([fault for fault in found if fault.rule != 21], expected, file)
+        for most in range(len(found) + 2):
+            self.assertEqual(mztab.judge(file, most), found[:most], file)
+
+    def test_a_key_that_comes_again(self):
+        # The earliest line, not the nearest; empty lines and comments count.
+        file = b"\nMTD\ttitle\ta\nCOM\nMTD\ttitle\tb\nMTD\tcontact[1]-name\ta\nMTD\ttitle\tc\nMTD\tcontact[2]-name\ta\nMTD\tcontact[1]-name\ta"
+        self.again(file, [(4, 2, 6, 2), (6, 2, 6, 2), (8, 2, 6, 5)])
+        self.assertEqual(mztab.judge(file)[0].first, 2)
+        # Lines of two and of four cells do not count; one whose value is wrong does.
+        self.again(b"MTD\ttitle\nMTD\ttitle\ta\t\nMTD\ttitle\ta\nMTD\ttitle\ta\n", [(1, 1, 3, 0), (2, 1, 3, 0), (4, 2, 6, 3)])
+        self.again(b"MTD\tsoftware[1]\ta\nMTD\tsoftware[1]\t[, , a, ]\n", [(1, 3, 7, 0), (2, 2, 6, 1)])
+
+    def test_a_header_that_comes_again(self):
+        # The earliest of the same section.
+        peptides, molecules = b"PEH\tsequence\taccession\tcharge\tmass_to_charge\n", b"SMH\tidentifier\tcharge\n"
+        file = b"COM\n" + peptides + molecules + b"SML\ta\t1\n" + molecules + peptides + molecules
+        self.again(file, [(5, 1, 9, 3), (6, 1, 9, 2), (6, 1, 10, 0), (7, 1, 9, 3)])
+
+    def test_a_name_that_comes_again(self):
+        # The first cell, not the nearest; two names of one header; this header alone.
+        file = b"SMH\tidentifier\tcharge\tcharge\tidentifier\tcharge\n"
+        self.again(file, [(1, 4, 13, 3), (1, 5, 13, 2), (1, 6, 13, 3)])
+        file = b"SMH\tidentifier\tcharge\topt_a\nSMH\tcharge\tidentifier\topt_a\topt_a\n"
+        self.again(file, [(2, 1, 9, 1), (2, 5, 13, 4)])
+
+    def test_other_rules_have_no_first(self):
+        file = b"MTD\tx\ta\nMTD\tsample[0]-description\ta\nx\n" * 2
+        self.again(file, [(line, cell, rule, 0) for line, cell, rule in [(1, 2, 5), (2, 2, 23), (3, 1, 2), (4, 2, 5), (5, 2, 23), (6, 1, 2)]])
+
+    def test_more_firsts_than_the_first_list(self):
+        found = mztab.judge(b"MTD\ttitle\ta\n" * 10_000)
+        self.assertEqual(found[:-5], [(line, 2, 6, 1) for line in range(2, 10_001)])
+
+    def test_a_library_without_firsts(self):
+        class Earlier:
+            def mztab_judge(self, data, length, places, room, number):
+                places[:3] = [21, 1, 1]
+                return 5
+
+        self.assertFalse(mztab._has_firsts(Earlier()))
 
     def test_the_first_breaks(self):
         for most in range(9):
@@ -77,7 +122,7 @@ class Judging(unittest.TestCase):
     def test_more_breaks_than_the_first_list(self):
         file = b"x\n" * 10_000
         self.assertEqual(len(mztab.judge(file)), 10_005)
-        self.assertEqual(mztab.judge(file)[9_999], (10_000, 1, 2))
+        self.assertEqual(mztab.judge(file)[9_999], (10_000, 1, 2, 0))
         self.assertEqual(len(mztab.judge(file, 5_000)), 5_000)
         self.assertEqual(mztab.count(file), 10_005)
 

@@ -39,7 +39,7 @@ fn one(name: &str, file: &[u8], breaks: u32, folder: &Path) -> Result<(), String
     let path = folder.join("judged.mztab");
     fs::write(&path, file)
         .map_err(|error| format!("{} cannot be written ({error})", path.display()))?;
-    let mut places = vec![0; 3 * LIST];
+    let mut places = vec![0; 4 * LIST];
     let mut count = 0;
     let judge = best(|| count = mztab::raw::judge(file, &mut places).count);
     let mut expected = 0;

@@ -58,7 +58,7 @@ fn one(name: &str, file: &[u8], folder: &Path, tool: &Path) -> Result<(), String
         let mut bytes = Vec::with_capacity(file.len() + 1);
         let _ = File::open(&path).and_then(|mut file| file.read_to_end(&mut bytes));
     });
-    let mut places = vec![0; 3 * mztab::FIRST_LIST];
+    let mut places = vec![0; 4 * mztab::FIRST_LIST];
     let mut count = 0;
     let judge = best(|| count = mztab::raw::judge(file, &mut places).count);
     let mut status = None;

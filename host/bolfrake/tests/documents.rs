@@ -48,7 +48,7 @@ fn printed(lines: &[String]) -> String {
     let judged = mztab::judge_all((lines.join("\n") + "\n").as_bytes()).unwrap();
     let breaks = judged.breaks();
     let breaks: Vec<String> = breaks
-        .map(|at| format!("\n{} {} {}", at.line, at.cell, at.rule))
+        .map(|at| format!("\n{} {} {} {}", at.line, at.cell, at.rule, at.first))
         .collect();
     match breaks.len() {
         0 => "OK".to_string(),
@@ -65,7 +65,7 @@ fn page(rule: u32) -> &'static str {
     between(RULES_PAGE, &format!("\n## Rule {rule}:"), &next)
 }
 
-/// The file of a rule's example, and its break as `LINE CELL RULE`.
+/// The file of a rule's example, and its break as `LINE CELL RULE FIRST`.
 fn example(rule: u32) -> (Vec<String>, &'static str) {
     let page = page(rule);
     let words = between(page, "**Example**", "```");
@@ -93,7 +93,8 @@ fn the_example_of_each_rule() {
     for rule in 1..=RULES {
         let (lines, shown) = example(rule);
         assert_eq!(printed(&lines), format!("FAULTS 1\n{shown}"), "rule {rule}");
-        assert!(shown.ends_with(&format!(" {rule}")), "rule {rule}");
+        let third = shown.split(' ').nth(2);
+        assert_eq!(third, Some(rule.to_string().as_str()), "rule {rule}");
     }
 }
 
@@ -108,12 +109,12 @@ fn what_breaks_rules_23_and_24() {
     let words = between(page(23), "decides between rules 23 and 24: ", "stays.");
     let (two, others) = words.split_once('.').unwrap();
     let keys = quoted(two);
-    assert_eq!(broken(keys[0]), "FAULTS 1\n10 2 23");
-    assert_eq!(broken(keys[1]), "FAULTS 1\n10 2 24");
+    assert_eq!(broken(keys[0]), "FAULTS 1\n10 2 23 0");
+    assert_eq!(broken(keys[1]), "FAULTS 1\n10 2 24 0");
     assert_eq!(quoted(others).len(), 4);
     for bracket in quoted(others) {
         let key = format!("sample{bracket}-description");
-        assert_eq!(broken(&key), "FAULTS 1\n10 2 5", "{key}");
+        assert_eq!(broken(&key), "FAULTS 1\n10 2 5 0", "{key}");
     }
 }
 
@@ -226,11 +227,11 @@ fn values_that_are_fixed_or_null() {
     };
     assert!(RULES_PAGE.contains("Of it: `Summary` for `mzTab-mode`. Not of it: `summary`."));
     assert_eq!(with_mode("Summary"), "OK");
-    assert_eq!(with_mode("summary"), "FAULTS 1\n2 3 7");
+    assert_eq!(with_mode("summary"), "FAULTS 1\n2 3 7 0");
     assert!(RULES_PAGE.contains("Missing: `null`. Not missing: `NULL`, `NA`, `-`; these are text, and break rule 20 in a column of another kind."));
     assert_eq!(printed(&with_value("Whole", "null")), "OK");
     for text in ["NULL", "NA", "-"] {
-        assert_eq!(printed(&with_value("Whole", text)), "FAULTS 1\n15 3 20");
+        assert_eq!(printed(&with_value("Whole", text)), "FAULTS 1\n15 3 20 0");
         assert_eq!(printed(&with_value("Text", text)), "OK");
     }
 }

@@ -162,13 +162,13 @@ fn demands_for_programs() {
     for (line, (cell, key, reason)) in lines.iter().zip(DEMANDED) {
         let detail = format!("no MTD line of three cells has the key `{key}`: {reason}");
         let mark = if reason.contains(',') { "\"" } else { "" };
-        let expected = format!("q.mztab,10,{cell},22,{TITLE_22},,{mark}{detail}{mark}");
+        let expected = format!("q.mztab,10,{cell},22,0,{TITLE_22},,{mark}{detail}{mark}");
         assert_eq!(*line, expected);
     }
     let run = folder.run(&["check", "--format", "json", "--max", "1", "q.mztab"]);
     let (cell, key, reason) = DEMANDED[0];
     let expected = format!(
-        "\n  {{\"line\": 10, \"cell\": {cell}, \"rule\": 22, \"words\": \"{TITLE_22}\", \"shown\": null, \
+        "\n  {{\"line\": 10, \"cell\": {cell}, \"rule\": 22, \"first\": 0, \"words\": \"{TITLE_22}\", \"shown\": null, \
         \"detail\": \"no MTD line of three cells has the key `{key}`: {reason}\"}}]}}"
     );
     assert!(run.out.contains(&expected), "{}", run.out);
@@ -226,14 +226,114 @@ fn indices_for_programs() {
         let title = title_of(rule);
         let mark = if detail.contains(',') { "\"" } else { "" };
         let expected =
-            format!("i.mztab,{line},{cell},{rule},{title},`{shown}`,{mark}{detail}{mark}");
+            format!("i.mztab,{line},{cell},{rule},0,{title},`{shown}`,{mark}{detail}{mark}");
         assert_eq!(*found, expected);
     }
     let run = folder.run(&["check", "--format", "json", "i.mztab"]);
     for (line, cell, rule, shown, detail) in BAD_INDICES_TOLD {
         let title = title_of(rule);
         let expected = format!(
-            "\n  {{\"line\": {line}, \"cell\": {cell}, \"rule\": {rule}, \"words\": \"{title}\", \"shown\": \"{shown}\", \"detail\": \"{detail}\"}}"
+            "\n  {{\"line\": {line}, \"cell\": {cell}, \"rule\": {rule}, \"first\": 0, \"words\": \"{title}\", \"shown\": \"{shown}\", \"detail\": \"{detail}\"}}"
+        );
+        assert!(run.out.contains(&expected), "{}", run.out);
+    }
+}
+
+/// A key, a header and column names that come again, two names of one header among them, and an unknown key, which has no first.
+const COME_AGAIN: &str = "MTD\ttitle\ta\nMTD\tx\ta\nMTD\tx\ta\nMTD\ttitle\tb\nMTD\ttitle\tc\n\
+    SMH\tidentifier\tcharge\tcharge\topt_a\topt_a\topt_a\nSML\tC1\t1\t1\tx\tx\tx\n\
+    SMH\tidentifier\tcharge\nSML\tC1\t1\nSMH\tidentifier\tcharge\n";
+
+/// What is told of them: the line, the cell, the rule, the words, the cell that is shown, where it stands first, and that in words.
+const COME_AGAIN_TOLD: [(u32, u32, u32, &str, &str, u32, &str); 9] = [
+    (11, 2, 5, "unknown key", "x", 0, ""),
+    (12, 2, 5, "unknown key", "x", 0, ""),
+    (13, 2, 6, "key comes again", "title", 10, "first on line 10"),
+    (14, 2, 6, "key comes again", "title", 10, "first on line 10"),
+    (
+        15,
+        4,
+        13,
+        "column name comes again",
+        "charge",
+        3,
+        "first in cell 3",
+    ),
+    (
+        15,
+        6,
+        13,
+        "column name comes again",
+        "opt_a",
+        5,
+        "first in cell 5",
+    ),
+    (
+        15,
+        7,
+        13,
+        "column name comes again",
+        "opt_a",
+        5,
+        "first in cell 5",
+    ),
+    (
+        17,
+        1,
+        9,
+        "second header of a section",
+        "SMH",
+        15,
+        "first on line 15",
+    ),
+    (
+        19,
+        1,
+        9,
+        "second header of a section",
+        "SMH",
+        15,
+        "first on line 15",
+    ),
+];
+
+#[test]
+fn what_comes_again() {
+    let folder = Folder::new("again");
+    let run = folder
+        .write("a.mztab", headed(COME_AGAIN))
+        .run(&["check", "a.mztab"]);
+    let mut expected = String::new();
+    for (line, cell, rule, words, shown, _, detail) in COME_AGAIN_TOLD {
+        let comma = if detail.is_empty() { "" } else { ", " };
+        expected +=
+            &format!("a.mztab:{line}:{cell}: rule {rule}: {words}: `{shown}`{comma}{detail}\n");
+    }
+    expected +=
+        "a.mztab: 9 breaks\n1 file: 0 accepted, 1 with breaks, 0 not judged; 9 breaks in all\n";
+    assert_eq!((run.status, run.out), (1, expected));
+    // A name of no byte.
+    folder.write("a.mztab", headed("SMH\tidentifier\tcharge\t\t\n"));
+    let run = folder.run(&["check", "a.mztab"]);
+    let expected =
+        "a.mztab:10:5: rule 13: column name comes again: an empty cell, first in cell 4\n";
+    assert!(run.out.contains(expected), "{}", run.out);
+}
+
+#[test]
+fn what_comes_again_for_programs() {
+    let folder = Folder::new("again for programs");
+    folder.write("a.mztab", headed(COME_AGAIN));
+    let run = folder.run(&["check", "--format", "csv", "a.mztab"]);
+    let mut expected = "file,line,cell,rule,first,words,shown,detail\n".to_string();
+    for (line, cell, rule, words, shown, first, detail) in COME_AGAIN_TOLD {
+        expected += &format!("a.mztab,{line},{cell},{rule},{first},{words},`{shown}`,{detail}\n");
+    }
+    assert_eq!((run.status, run.out), (1, expected));
+    let run = folder.run(&["check", "--format", "json", "a.mztab"]);
+    for (line, cell, rule, words, shown, first, detail) in COME_AGAIN_TOLD {
+        let expected = format!(
+            "\n  {{\"line\": {line}, \"cell\": {cell}, \"rule\": {rule}, \"first\": {first}, \"words\": \"{words}\", \"shown\": \"{shown}\", \"detail\": \"{detail}\"}}"
         );
         assert!(run.out.contains(&expected), "{}", run.out);
     }
@@ -476,7 +576,12 @@ fn files_of_the_run_tests() {
     hold_to(&folder, &stored);
 }
 
-/// Checks the files of a folder, `--max 4096`, and holds the breaks of each to those stored.
+/// The number of a file of that folder, by its name.
+fn number_of(name: &str) -> usize {
+    name[2..6].parse().unwrap()
+}
+
+/// Checks the files of a folder, `--max 4096`, and holds the breaks of each to those stored: as text line, cell and rule, as CSV the first too.
 fn hold_to(folder: &Folder, stored: &[(&[u8], Vec<String>)]) -> Run {
     for (k, (file, _)) in stored.iter().enumerate() {
         folder.write(&format!("d/{k:04}.mztab"), file);
@@ -485,12 +590,22 @@ fn hold_to(folder: &Folder, stored: &[(&[u8], Vec<String>)]) -> Run {
     let mut found = vec![Vec::new(); stored.len()];
     for line in run.out.lines().filter(|line| line.contains(": rule ")) {
         let words: Vec<&str> = line.splitn(5, ':').collect();
-        let k: usize = words[0][2..6].parse().unwrap();
         let rule = words[3].strip_prefix(" rule ").unwrap();
-        found[k].push(format!("{} {} {rule}", words[1], words[2]));
+        found[number_of(words[0])].push(format!("{} {} {rule}", words[1], words[2]));
     }
-    for (found, (file, breaks)) in found.iter().zip(stored) {
-        assert_eq!(found, breaks, "{}", file.escape_ascii());
+    let csv = folder.run(&["check", "--format", "csv", "--max", "4096", "d"]);
+    let mut found_with_first = vec![Vec::new(); stored.len()];
+    for line in csv.out.lines().skip(1) {
+        let fields: Vec<&str> = line.splitn(6, ',').collect();
+        found_with_first[number_of(fields[0])].push(fields[1..5].join(" "));
+    }
+    for (k, (file, breaks)) in stored.iter().enumerate() {
+        assert_eq!(found_with_first[k], *breaks, "{}", file.escape_ascii());
+        let places: Vec<&str> = breaks
+            .iter()
+            .map(|at| at.rsplit_once(' ').unwrap().0)
+            .collect();
+        assert_eq!(found[k], places, "{}", file.escape_ascii());
     }
     run
 }
@@ -531,8 +646,8 @@ fn as_csv() {
     );
     let run = folder.run(&["check", "--format", "csv", "a,b.mztab"]);
     let expected = "\
-file,line,cell,rule,words,shown,detail
-\"a,b.mztab\",11,3,20,cell not of its column's kind,\"`\"\"2\"\",`\",in the column `charge`
+file,line,cell,rule,first,words,shown,detail
+\"a,b.mztab\",11,3,20,0,cell not of its column's kind,\"`\"\"2\"\",`\",in the column `charge`
 ";
     assert_eq!((run.status, run.out.as_str()), (1, expected));
     assert_eq!(
@@ -551,7 +666,7 @@ fn as_json() {
     let expected = r#"{"files": [
 {"file": "a.mztab", "status": "accepted", "bytes": 314, "count": 0, "shown": 0, "breaks": []},
 {"file": "b.mztab", "status": "broken", "bytes": 318, "count": 1, "shown": 1, "breaks": [
-  {"line": 10, "cell": 1, "rule": 2, "words": "unknown line code", "shown": "x\\\\\"", "detail": ""}]},
+  {"line": 10, "cell": 1, "rule": 2, "first": 0, "words": "unknown line code", "shown": "x\\\\\"", "detail": ""}]},
 {"file": "c.mztab", "status": "not judged", "reason": "cannot be read (No such file or directory (os error 2)): check the name, or the folder that you are in"}
 ], "accepted": 1, "broken": 1, "not_judged": 1, "breaks": 1}
 "#;

@@ -9,7 +9,15 @@
 //! assert_eq!(mztab::cell(file, 4, 1, 2), Ok(b"2+" as &[u8]));
 //! ```
 //!
-//! No call keeps what it is lent. Calls may run at the same time; a judging call needs some 250 KB of stack, and a thread of Rust has 2 MB.
+//! Of what comes again a break says where it stands first ([`Break::first`]):
+//!
+//! ```
+//! let judged = mztab::judge_all(b"MTD\ttitle\ta\nCOM\nMTD\ttitle\tb\n").unwrap();
+//! let again = judged.breaks().next().unwrap();
+//! assert_eq!((again.line, again.cell, again.rule, again.first), (3, 2, 6, 1));
+//! ```
+//!
+//! No call keeps what it is lent. Calls may run at the same time; a judging call needs some 350 KB of stack, and a thread of Rust has 2 MB.
 
 #![deny(unsafe_code)]
 

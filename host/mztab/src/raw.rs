@@ -86,12 +86,18 @@ mod c {
 
 /// A place where a file breaks a rule, laid out as `struct mztab_fault`. Lines, cells and rules count from 1. Rules 21 and 22 stand at the
 /// line after the last, and their cell for the key that is absent ([`crate::format`]); all others at a cell.
+///
+/// Breaks are in order of line, then cell, then rule, and no two have the same three.
 #[repr(C)]
 #[derive(Clone, Copy, Debug, Default, PartialEq, Eq)]
 pub struct Break {
     pub rule: u32,
     pub line: u32,
     pub cell: u32,
+    /// Where that which comes again stands first. Of rule 6 it is a line, that of the earliest metadata line of three cells with the same
+    /// key; of rule 9 a line, that of the earliest header of the same section; of rule 13 a cell of the same line, that of the first equal
+    /// name in this header. It is 0 for all other rules: they are of nothing that comes again.
+    pub first: u32,
 }
 
 /// What `mztab_cell` writes and answers.
@@ -222,7 +228,7 @@ pub fn reading(file: &[u8], section: u32, row: u32, column: u32) -> Reading {
     answer
 }
 
-/// Judges into plain places, three for each break: rule, line, cell.
+/// Judges into plain places, four for each break: rule, line, cell, first. One to three at the end that no whole break fills stay as they were.
 pub fn judge(file: &[u8], places: &mut [u32]) -> Judged {
     let mut number = UNSET;
     // As above; a slice that is lent to be written overlaps nothing else that is lent.
@@ -241,7 +247,7 @@ pub fn judge(file: &[u8], places: &mut [u32]) -> Judged {
 /// Judges into records, one for each break.
 pub fn faults(file: &[u8], list: &mut [Break]) -> Judged {
     let mut number = UNSET;
-    // As above; a record is three numbers in the order that C declares, and any numbers make one.
+    // As above; a record is four numbers in the order that C declares, and any numbers make one.
     let count = unsafe {
         c::mztab_faults(
             file.as_ptr(),

@@ -10,8 +10,25 @@ const ACCEPTED: &[u8] = include_bytes!("../../../examples/accepted.mztab");
 const EXPONENTS: &[u8] = include_bytes!("../../../examples/exponents.mztab");
 const FEE: &[u8] = include_bytes!("../../../examples/fee.mztab");
 
+/// A break of something that does not come again.
 fn broken(line: u32, cell: u32, rule: u32) -> Break {
-    Break { rule, line, cell }
+    again(line, cell, rule, 0)
+}
+
+/// A break of something that comes again, and where it stands first.
+fn again(line: u32, cell: u32, rule: u32, first: u32) -> Break {
+    Break {
+        rule,
+        line,
+        cell,
+        first,
+    }
+}
+
+/// The breaks of a file but those of rule 21.
+fn breaks_of(file: &str) -> Vec<Break> {
+    let judged = judge_all(file.as_bytes()).unwrap();
+    judged.breaks().filter(|at| at.rule != 21).collect()
 }
 
 #[test]
@@ -103,9 +120,16 @@ fn bad_indices_stop_what_an_unknown_name_stops() {
     let file = "SMH\tidentifier\tcharge\topt_a\tbest_search_engine_score[0]\tbest_search_engine_score[0]\tsmallmolecule_abundance_assay[65]\n\
         SML\tC1\t1\tx\tx\tx\tx\n";
     let breaks: Vec<Break> = judge_all(file.as_bytes()).unwrap().breaks().collect();
-    let at = |cell: u32, rules: &[u32]| rules.iter().map(|rule| broken(1, cell, *rule)).collect();
-    let expected: [Vec<Break>; 3] = [at(5, &[14, 23]), at(6, &[13, 14, 23]), at(7, &[14, 24])];
-    assert_eq!(breaks[..7], expected.concat());
+    let expected = [
+        broken(1, 5, 14),
+        broken(1, 5, 23),
+        again(1, 6, 13, 5),
+        broken(1, 6, 14),
+        broken(1, 6, 23),
+        broken(1, 7, 14),
+        broken(1, 7, 24),
+    ];
+    assert_eq!(breaks[..7], expected);
     assert!(breaks[7..].iter().all(|at| at.rule == 21));
 }
 
@@ -155,18 +179,137 @@ fn many_calls_at_once() {
     });
 }
 
+/// Lists of every length, of places and of records: what no whole break fills is as it was.
+fn lists_of(file: &[u8], all: &[Break]) {
+    let numbers: Vec<u32> = all
+        .iter()
+        .flat_map(|at| [at.rule, at.line, at.cell, at.first])
+        .collect();
+    for length in 0..numbers.len() + 7 {
+        let mut places = vec![77; length];
+        assert_eq!(raw::judge(file, &mut places).count as usize, all.len());
+        let filled = (length / 4).min(all.len()) * 4;
+        assert_eq!(places[..filled], numbers[..filled]);
+        assert!(places[filled..].iter().all(|place| *place == 77));
+    }
+    let marked = again(77, 77, 77, 77);
+    for length in 0..all.len() + 3 {
+        let mut list = vec![marked; length];
+        assert_eq!(raw::faults(file, &mut list).count as usize, all.len());
+        let filled = length.min(all.len());
+        assert_eq!(list[..filled], all[..filled]);
+        assert!(list[filled..].iter().all(|at| *at == marked));
+    }
+}
+
 #[test]
 fn places_that_no_break_fills() {
     let all = [
-        15, 7, 6, 19, 8, 6, 20, 9, 2, 22, 10, 500, 22, 10, 900, 22, 10, 1000,
+        broken(7, 6, 15),
+        broken(8, 6, 19),
+        broken(9, 2, 20),
+        broken(10, 500, 22),
+        broken(10, 900, 22),
+        broken(10, 1000, 22),
     ];
-    for length in 0..23 {
-        let mut places = vec![77; length];
-        assert_eq!(raw::judge(YEAST, &mut places).count, 6);
-        let filled = (length / 3).min(6) * 3;
-        assert_eq!(places[..filled], all[..filled]);
-        assert!(places[filled..].iter().all(|place| *place == 77));
+    lists_of(YEAST, &all);
+    // The fourth number of each break is its own.
+    let file = "MTD\ttitle\ta\nMTD\ttitle\ta\nSMH\tidentifier\tcharge\tcharge\tidentifier\nSMH\tidentifier\tcharge\n";
+    let mut all = vec![
+        again(2, 2, 6, 1),
+        again(3, 4, 13, 3),
+        again(3, 5, 13, 2),
+        again(4, 1, 9, 3),
+    ];
+    all.extend((1..=5).map(|cell| broken(5, cell, 21)));
+    lists_of(file.as_bytes(), &all);
+}
+
+#[test]
+fn a_key_that_comes_again() {
+    // The earliest line, not the nearest; empty lines and comments count.
+    let file = "\nMTD\ttitle\ta\nCOM\nMTD\ttitle\tb\r\nMTD\tcontact[1]-name\ta\nMTD\ttitle\tc\nMTD\tcontact[2]-name\ta\nMTD\tcontact[1]-name\ta";
+    let expected = [again(4, 2, 6, 2), again(6, 2, 6, 2), again(8, 2, 6, 5)];
+    assert_eq!(breaks_of(file), expected);
+    // Lines of two and four cells, comments and rows have no key.
+    let file = "MTD\ttitle\nMTD\ttitle\ta\t\nCOM\ttitle\ta\nMTD\ttitle\ta\nMTD\ttitle\ta\n";
+    let expected = [broken(1, 1, 3), broken(2, 1, 3), again(5, 2, 6, 4)];
+    assert_eq!(breaks_of(file), expected);
+    // A line that breaks another rule has one.
+    let file = "MTD\tsoftware[1]\ta\nMTD\tsoftware[1]\t[, , a, ]\n";
+    assert_eq!(breaks_of(file), [broken(1, 3, 7), again(2, 2, 6, 1)]);
+    let file = "SMH\tidentifier\tcharge\nMTD\ttitle\ta\nMTD\ttitle\ta\n";
+    let expected = [broken(2, 1, 4), broken(3, 1, 4), again(3, 2, 6, 2)];
+    assert_eq!(breaks_of(file), expected);
+}
+
+#[test]
+fn a_header_that_comes_again() {
+    // The earliest of the same section, whatever rules it breaks and whatever stands between.
+    let file = "COM\nPSH\nSMH\tidentifier\tcharge\nPSH\n\nSMH\tidentifier\tcharge\nPSH\n";
+    let expected = [
+        broken(2, 1, 16),
+        again(4, 1, 9, 2),
+        broken(4, 1, 10),
+        broken(4, 1, 16),
+        again(6, 1, 9, 3),
+        again(7, 1, 9, 2),
+        broken(7, 1, 10),
+        broken(7, 1, 16),
+    ];
+    assert_eq!(breaks_of(file), expected);
+    // A row is no header.
+    let file = "SML\ta\t1\nSMH\tidentifier\tcharge\nSML\ta\t1\nSMH\tidentifier\tcharge\n";
+    assert_eq!(breaks_of(file), [broken(1, 1, 17), again(4, 1, 9, 2)]);
+    // One that is too wide is one.
+    let wide = format!("SMH{}\nSMH\tidentifier\tcharge\n", "\tx".repeat(256));
+    assert_eq!(breaks_of(&wide), [broken(1, 1, 11), again(2, 1, 9, 1)]);
+}
+
+#[test]
+fn a_name_that_comes_again() {
+    // The first cell, not the nearest; two names in one header.
+    let file = "SMH\tidentifier\tcharge\tcharge\tidentifier\tcharge\n";
+    let expected = [again(1, 4, 13, 3), again(1, 5, 13, 2), again(1, 6, 13, 3)];
+    assert_eq!(breaks_of(file), expected);
+    // In this header alone; unknown and empty names too.
+    let file = "SMH\tidentifier\tcharge\topt_a\nSMH\topt_a\tx\t\tx\t\tidentifier\tcharge\n";
+    let expected = [
+        again(2, 1, 9, 1),
+        broken(2, 3, 12),
+        broken(2, 3, 14),
+        broken(2, 4, 12),
+        broken(2, 4, 14),
+        broken(2, 5, 12),
+        again(2, 5, 13, 3),
+        broken(2, 5, 14),
+        broken(2, 6, 12),
+        again(2, 6, 13, 4),
+        broken(2, 6, 14),
+        broken(2, 7, 14),
+        broken(2, 8, 14),
+    ];
+    assert_eq!(breaks_of(file), expected);
+    // Over the whole width of a header.
+    let names: String = (0..255).map(|k| format!("\topt_{}", k % 100)).collect();
+    let breaks = breaks_of(&format!("SMH{names}\n"));
+    assert_eq!(breaks.len(), 156);
+    for at in &breaks[1..] {
+        let first = (at.cell - 2) % 100 + 2;
+        assert_eq!(*at, again(1, at.cell, 13, first));
     }
+}
+
+#[test]
+fn other_rules_have_no_first() {
+    // What comes again and breaks another rule: an unknown key, a bad index, an unknown code, a unit of a column.
+    let lines = "MTD\tx\ta\nMTD\tsample[0]-description\ta\nMTD\tassay[1]-ms_run_ref\tx\nx\nMTD\tcolunit-protein\taccession=[, , a, ]\n";
+    let mut found = breaks_of(&lines.repeat(3));
+    // The key of the third line comes again beside its value.
+    found.retain(|at| at.rule != 6);
+    let rules: Vec<u32> = found.iter().map(|at| at.rule).collect();
+    assert_eq!(rules, [5, 23, 7, 2].repeat(3));
+    assert!(found.iter().all(|at| at.first == 0));
 }
 
 #[test]

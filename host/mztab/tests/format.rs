@@ -13,12 +13,23 @@ fn breaks(file: &str) -> Vec<Break> {
     judge_all(file.as_bytes()).unwrap().breaks().collect()
 }
 
+/// A break of something that does not come again.
+fn broken(rule: u32, line: u32, cell: u32) -> Break {
+    Break {
+        rule,
+        line,
+        cell,
+        first: 0,
+    }
+}
+
 /// The cells at which rule 22 alone is broken, at the line after the last.
 fn lacking(file: &str) -> Vec<u32> {
     let after = file.lines().count() as u32 + 1;
     let at = |found: &Break| {
-        assert_eq!((found.rule, found.line), (22, after), "{file}");
-        found.cell
+        let cell = found.cell;
+        assert_eq!(*found, broken(22, after, cell), "{file}");
+        cell
     };
     breaks(file).iter().map(at).collect()
 }
@@ -90,9 +101,9 @@ fn required_keys() {
     for (mode, kind) in combinations() {
         assert_eq!(breaks(&metadata(mode, kind, &keys)), []);
         for (k, key) in REQUIRED_KEYS.iter().enumerate() {
-            let (rule, line, cell) = (21, keys.len() as u32, k as u32 + 1);
+            let expected = broken(21, keys.len() as u32, k as u32 + 1);
             let found = breaks(&metadata(mode, kind, &without(&keys, key)));
-            assert_eq!(found, [Break { rule, line, cell }], "{key}");
+            assert_eq!(found, [expected], "{key}");
         }
     }
 }
@@ -123,8 +134,7 @@ fn modes_and_types() {
     // The values are those of lines 2 and 3.
     for (mode, kind, line) in [("summary", "Quantification", 2), ("Complete", "", 3)] {
         let found = breaks(&metadata(mode, kind, &keys));
-        let (rule, cell) = (7, 3);
-        assert_eq!(found, [Break { rule, line, cell }]);
+        assert_eq!(found, [broken(7, line, 3)]);
     }
 }
 

@@ -25,6 +25,15 @@ fn every_call(sample: &Hostile) {
         "{}",
         sample.name
     );
+    // The key that comes again stands on line 1, and so does the header; the name is that of cell 2.
+    for at in judged.breaks() {
+        let first = match at.rule {
+            6 | 9 => 1,
+            13 => 2,
+            _ => 0,
+        };
+        assert_eq!(at.first, first, "{}: {at:?}", sample.name);
+    }
     let shown = cell(file, 1, 1, 1).map(|_| ());
     assert_eq!(shown, reading(file, 1, 1, 1).map(|_| ()), "{}", sample.name);
     assert_eq!(

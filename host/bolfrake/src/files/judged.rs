@@ -5,7 +5,7 @@ use mztab::{judge_once, Judged, FIRST_LIST};
 use crate::files::{Source, Unread};
 use crate::output::in_order::Out;
 
-/// A list of more breaks than this is made for one file at a time: 12 MB.
+/// A list of more breaks than this is made for one file at a time: 16 MB.
 const MANY: usize = 1_000_000;
 
 /// The file's bytes, and its first `most` breaks; or why it cannot be judged.

@@ -21,7 +21,7 @@ const PART: usize = 64 * 1024;
 const PARTS: usize = 4;
 /// So many pieces, for each core, may be begun before their turn.
 const AHEAD: usize = 64;
-/// A judging call needs some 500 KB of it.
+/// A judging call needs some 350 KB of it.
 const STACK: usize = 2 * 1024 * 1024;
 /// So often the progress is looked at.
 const GLANCE: Duration = Duration::from_millis(100);

@@ -158,6 +158,19 @@ mod tests {
     }
 
     #[test]
+    fn pages_of_what_comes_again_say_where_it_stands_first() {
+        for rule in 1..=RULES {
+            let page = page_of(&rule.to_string()).unwrap();
+            let said =
+                ["with `first`, the ", "`bolfrake check` says "].map(|words| page.contains(words));
+            match rule {
+                6 | 9 | 13 => assert_eq!(said, [true, true], "rule {rule}"),
+                _ => assert!(!said[0], "rule {rule}"),
+            }
+        }
+    }
+
+    #[test]
     fn other_pages() {
         assert!(page_of("values").unwrap().contains("**Whole**"));
         assert!(page_of("names").unwrap().starts_with("## Known names\n"));

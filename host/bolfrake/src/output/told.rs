@@ -66,6 +66,9 @@ impl<'a> Teller<'a> {
         let line = self.finder.line();
         match at.rule {
             3 | 11 => format!("the line has {}", count(line)),
+            // Of what comes again, where it stands first.
+            6 | 9 => format!("first on line {}", at.first),
+            13 => format!("first in cell {}", at.first),
             7 | 8 => for_key(line),
             16 => format!("the header has no {}", self.lacking(line)),
             18 => format!(
@@ -223,6 +226,67 @@ mod tests {
                 assert!(named, "{}: {detail}", case.label);
             }
         }
+    }
+
+    /// What stands first of that which comes again, as the independent reading cuts it: a key, the code of a header, or a name.
+    fn first_of(file: &[u8], at: Break) -> Option<&[u8]> {
+        let (line, cell) = match at.rule {
+            13 => (at.line, at.first),
+            _ => (at.first, at.cell),
+        };
+        cell_of(file, Break { line, cell, ..at })
+    }
+
+    #[test]
+    fn what_comes_again_stands_first_where_it_is_said() {
+        let titles = Titles::new();
+        let mut told = [0; 3];
+        for case in independent::cases::judging::all() {
+            let judged = mztab::judge_all(&case.file).unwrap();
+            let mut teller = Teller::new(&case.file, &titles);
+            for at in judged.breaks() {
+                let detail = teller.tell(at).detail;
+                let label = format!("{}: {at:?}, {detail}", case.label);
+                let (k, words, before) = match at.rule {
+                    6 => (0, "first on line", at.line),
+                    9 => (1, "first on line", at.line),
+                    13 => (2, "first in cell", at.cell),
+                    _ => {
+                        assert_eq!(at.first, 0, "{label}");
+                        assert!(!detail.contains("first "), "{label}");
+                        continue;
+                    }
+                };
+                told[k] += 1;
+                assert_eq!(detail, format!("{words} {}", at.first), "{label}");
+                assert!(0 < at.first && at.first < before, "{label}");
+                let first = first_of(&case.file, at);
+                assert_eq!(first, cell_of(&case.file, at), "{label}");
+            }
+        }
+        assert!(told.iter().all(|count| *count > 4), "{told:?}");
+    }
+
+    #[test]
+    fn what_comes_again() {
+        let lines = told(
+            b"MTD\ttitle\ta\nMTD\tsoftware[1]\tx\n\nMTD\ttitle\tb\nMTD\ttitle\tc\nMTD\tsoftware[1]\tx\n\
+            SMH\tidentifier\tcharge\t\tcharge\t\tcharge\nSMH\tidentifier\tcharge\n",
+        );
+        let expected = [
+            "7 value not of its kind Some(\"x\") for the key `software[1]`",
+            "6 key comes again Some(\"title\") first on line 1",
+            "6 key comes again Some(\"title\") first on line 1",
+            "6 key comes again Some(\"software[1]\") first on line 2",
+            "7 value not of its kind Some(\"x\") for the key `software[1]`",
+            "12 unknown column name Some(\"\") ",
+            "13 column name comes again Some(\"charge\") first in cell 3",
+            "12 unknown column name Some(\"\") ",
+            "13 column name comes again Some(\"\") first in cell 4",
+            "13 column name comes again Some(\"charge\") first in cell 3",
+            "9 second header of a section Some(\"SMH\") first on line 7",
+        ];
+        assert_eq!(lines[..expected.len()], expected);
     }
 
     #[test]

@@ -78,7 +78,7 @@ impl Format {
     pub fn opening(self) -> &'static str {
         match self {
             Format::Text { .. } => "",
-            Format::Csv => "file,line,cell,rule,words,shown,detail\n",
+            Format::Csv => "file,line,cell,rule,first,words,shown,detail\n",
             Format::Json => "{\"files\": [",
         }
     }
@@ -190,11 +190,12 @@ fn csv(name: &str, told: &Told, out: &mut dyn Write) -> io::Result<()> {
     let shown = told.shown.as_ref().map(|shown| format!("`{shown}`"));
     writeln!(
         out,
-        "{},{},{},{},{},{},{}",
+        "{},{},{},{},{},{},{},{}",
         quoted(name),
         at.line,
         at.cell,
         at.rule,
+        at.first,
         quoted(told.words),
         quoted(&shown.unwrap_or_default()),
         quoted(&told.detail)
@@ -218,10 +219,11 @@ fn json_break(k: usize, told: &Told, out: &mut dyn Write) -> io::Result<()> {
         .map_or("null".to_string(), |shown| json(shown));
     write!(
         out,
-        "{comma}\n  {{\"line\": {}, \"cell\": {}, \"rule\": {}, \"words\": {}, \"shown\": {shown}, \"detail\": {}}}",
+        "{comma}\n  {{\"line\": {}, \"cell\": {}, \"rule\": {}, \"first\": {}, \"words\": {}, \"shown\": {shown}, \"detail\": {}}}",
         at.line,
         at.cell,
         at.rule,
+        at.first,
         json(told.words),
         json(&told.detail)
     )

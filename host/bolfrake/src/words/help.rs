@@ -36,15 +36,17 @@ Judges each file by the 24 rules and prints each break as
 by line, then cell, then rule, then a line for each file and one for all. Lines and cells count from 1; cell 1 is the
 line code. Breaks of rules 21 and 22 stand at the line after the last and say which key is absent, and of rule 22 why it
 is asked for. Those of rules 23 and 24 say which index is wrong, and how; they stand in place of 5, 7 and 12 where a key,
-a reference or a column name is right but for its indices. In a cell, bytes that do not print are shown as \\xNN, a
-backslash as \\\\, and what does not fit is cut with an ellipsis.
+a reference or a column name is right but for its indices. Those of rules 6, 9 and 13, of a key, a header or a column
+name that comes again, say where it stands first: on which line, or in which cell of the same line. In a cell, bytes that
+do not print are shown as \\xNN, a backslash as \\\\, and what does not fit is cut with an ellipsis.
 
   --format text   as above (the default)
-  --format csv    a line for each break: file,line,cell,rule,words,shown,detail; the cell stands between backticks, so that a
-                  table program takes it as text; the summary is on standard error
-  --format json   one document: files, each with its breaks, and the summary
+  --format csv    a line for each break: file,line,cell,rule,first,words,shown,detail; first is the number of the line, for
+                  rule 13 of the cell, where that which comes again stands first, and 0 for all other rules; the cell stands
+                  between backticks, so that a table program takes it as text; the summary is on standard error
+  --format json   one document: files, each with its breaks, and the summary; a break has first as in CSV
   --max N         print the first N breaks of each file; the counts are still of all (the default prints all of them,
-                  and takes 12 bytes of memory for each)
+                  and takes 16 bytes of memory for each)
 
 Files are judged on all cores; what is printed is in the order of the arguments. `bolfrake explain N` explains rule N.
 Exit status: 0 every file accepted; 1 breaks; 2 a file that cannot be read or is too long.
