@@ -53,8 +53,8 @@ pub struct Step {
     pub state: State,
 }
 
-// A line, whatever its sort, under what is carried of the lines above it: the step, the kinds of the nearest header's columns, the first lines of the keys and headers that came,
-// and stamps that make the search for equal names short; `flags` are the ids that the whole file declares. The answer is the step after it.
+// A line, whatever its sort, under what is carried of the lines above it: the step, the kinds of the nearest header's columns, the first lines of the keys and
+// headers that came, and stamps that make the search for equal names short; `flags` are the ids that the whole file declares. The answer is the step after it.
 pub fn judge_line(
     places: &mut [u32],
     step: Step,

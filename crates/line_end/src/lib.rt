@@ -132,8 +132,8 @@ fn judge_demands(
     c
 }
 
-// What of the demanded metadata is absent, at the line after the last: by the first lines of the keys that came, the ids that are declared, and what the state has of
-// the file: what decides whether something is asked, and the sections that are present.
+// What of the demanded metadata is absent, at the line after the last: by the first lines of the keys that came, the ids that are declared, and what the state has
+// of the file: what decides whether something is asked, and the sections that are present.
 pub fn judge_end(
     places: &mut [u32],
     count: u32,

@@ -24,7 +24,8 @@ ghost use Rattle.scan.specs.Machine.{idsOf, headBreaks, headFirst, nameBreaks};
 ghost use Rattle.line_head_stamps.specs.Stamps.{ROOM as room};
 ghost use Rattle.line_head.specs.Heads.{Kept, KeepsKinds};
 
-// A header, beside its bytes: its line, its section, what decides which columns are asked, the line of the first header of its section above (0 for none), and whether one of a later section stands above.
+// A header, beside its bytes: its line, its section, what decides which columns are asked, the line of the first header of its section above (0 for none), and
+// whether one of a later section stands above.
 pub struct Head {
     pub tag: Tag,
     pub section: u32,

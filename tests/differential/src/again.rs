@@ -15,8 +15,8 @@ pub fn repeat(file: &mut Vec<u8>, draws: &mut Draws) {
     let mut all = pieces(file, b'\n');
     for _ in 0..draws.below(MOST) + 1 {
         match draws.below(3) {
-            0 => repeat_key(&mut all, draws),
-            1 => repeat_header(&mut all, draws),
+            0 => repeat_line(&mut all, is_metadata, near_metadata, draws),
+            1 => repeat_line(&mut all, is_header, near_header, draws),
             _ => repeat_name(&mut all, draws),
         }
     }
@@ -28,6 +28,14 @@ fn pieces(bytes: &[u8], cut: u8) -> Vec<Vec<u8>> {
         .split(|byte| *byte == cut)
         .map(<[u8]>::to_vec)
         .collect()
+}
+
+fn is_metadata(code: Code) -> bool {
+    matches!(code, Code::Metadata)
+}
+
+fn is_header(code: Code) -> bool {
+    matches!(code, Code::Header(_))
 }
 
 /// Some line of such a code, if there is one.
@@ -50,18 +58,23 @@ fn place(at: usize, all: &[Vec<u8>], draws: &mut Draws) -> usize {
     }
 }
 
-/// An MTD line comes again, some of its copies with other values, and some with a cell less or more.
-fn repeat_key(all: &mut Vec<Vec<u8>>, draws: &mut Draws) {
-    let is_metadata = |code| matches!(code, Code::Metadata);
-    if let Some(at) = some_line(all, is_metadata, draws) {
+/// A line of such a code comes again, in copies that are near to it.
+fn repeat_line(
+    all: &mut Vec<Vec<u8>>,
+    such: fn(Code) -> bool,
+    near: fn(&[u8], &mut Draws) -> Vec<u8>,
+    draws: &mut Draws,
+) {
+    if let Some(at) = some_line(all, such, draws) {
         let line = all[at].clone();
         for _ in 0..draws.below(MOST) + 1 {
             let to = place(at, all, draws);
-            all.insert(to, near_metadata(&line, draws));
+            all.insert(to, near(&line, draws));
         }
     }
 }
 
+/// An MTD line, with another value, or a cell less or more.
 fn near_metadata(line: &[u8], draws: &mut Draws) -> Vec<u8> {
     let mut cells = pieces(line, b'\t');
     match draws.below(8) {
@@ -76,18 +89,7 @@ fn near_metadata(line: &[u8], draws: &mut Draws) -> Vec<u8> {
     cells.join(&b'\t')
 }
 
-/// A header comes again, some of its copies with only the code, too wide, or with the code of another section.
-fn repeat_header(all: &mut Vec<Vec<u8>>, draws: &mut Draws) {
-    let is_header = |code| matches!(code, Code::Header(_));
-    if let Some(at) = some_line(all, is_header, draws) {
-        let line = all[at].clone();
-        for _ in 0..draws.below(MOST) + 1 {
-            let to = place(at, all, draws);
-            all.insert(to, near_header(&line, draws));
-        }
-    }
-}
-
+/// A header, with only the code, too wide, or with the code of another section.
 fn near_header(line: &[u8], draws: &mut Draws) -> Vec<u8> {
     let (code, names) = line.split_at(3);
     match draws.below(10) {
@@ -100,7 +102,6 @@ fn near_header(line: &[u8], draws: &mut Draws) -> Vec<u8> {
 
 /// A name of a header comes again in it, in place of others and beside them.
 fn repeat_name(all: &mut [Vec<u8>], draws: &mut Draws) {
-    let is_header = |code| matches!(code, Code::Header(_));
     if let Some(at) = some_line(all, is_header, draws) {
         let (line, end) = match all[at].strip_suffix(b"\r") {
             Some(line) => (line, b"\r" as &[u8]),

@@ -246,12 +246,17 @@ impl Run {
         }
     }
 
+    /// Prints and counts that the files lack something, so that they show too little.
+    fn too_little(&mut self, lacking: &str) {
+        println!("differential: {lacking}, so the files show too little");
+        self.different += 1;
+    }
+
     /// Files that never break a rule would show nothing of it.
     fn every_rule(&mut self) {
-        for (rule, broken) in self.tried.rules.iter().enumerate().skip(1) {
-            if *broken == 0 {
-                println!("differential: no file breaks rule {rule}, so the files show too little");
-                self.different += 1;
+        for rule in 1..self.tried.rules.len() {
+            if self.tried.rules[rule] == 0 {
+                self.too_little(&format!("no file breaks rule {rule}"));
             }
         }
     }
@@ -261,10 +266,7 @@ impl Run {
         for rule in INDEX_RULES {
             for what in WITH_INDEX {
                 if !self.tried.indices.contains_key(&(rule, what)) {
-                    println!(
-                        "differential: no {what} breaks rule {rule}, so the files show too little"
-                    );
-                    self.different += 1;
+                    self.too_little(&format!("no {what} breaks rule {rule}"));
                 }
             }
         }
@@ -275,10 +277,9 @@ impl Run {
         for rule in AGAIN {
             for such in MISTAKEN {
                 if !self.tried.firsts.contains_key(&(rule, such)) {
-                    println!(
-                        "differential: no first of rule {rule} can be mistaken for {such:?}, so the files show too little"
-                    );
-                    self.different += 1;
+                    self.too_little(&format!(
+                        "no first of rule {rule} can be mistaken for {such:?}"
+                    ));
                 }
             }
         }
@@ -288,19 +289,11 @@ impl Run {
     fn every_demand(&mut self) {
         for field in &independent::demands::FIELDS {
             if !self.tried.fields.contains_key(&field.cell) {
-                println!(
-                    "differential: no file misses `{}`, so the files show too little",
-                    field.key
-                );
-                self.different += 1;
+                self.too_little(&format!("no file misses `{}`", field.key));
             }
         }
         if self.tried.sorts.len() < SORTS {
-            println!(
-                "differential: accepted files are {:?} alone, so the files show too little",
-                self.tried.sorts
-            );
-            self.different += 1;
+            self.too_little(&format!("accepted files are {:?} alone", self.tried.sorts));
         }
     }
 
@@ -308,18 +301,12 @@ impl Run {
     fn every_reading(&mut self) {
         for case in 0..CASES {
             if !self.tried.cases.contains_key(&case) {
-                println!(
-                    "differential: no cell reads as case {case}, so the files show too little"
-                );
-                self.different += 1;
+                self.too_little(&format!("no cell reads as case {case}"));
             }
         }
         for power in POWERS {
             if !self.tried.powers.contains_key(&power) {
-                println!(
-                    "differential: no decimal has the power {power}, so the files show too little"
-                );
-                self.different += 1;
+                self.too_little(&format!("no decimal has the power {power}"));
             }
         }
     }
@@ -327,11 +314,7 @@ impl Run {
     /// The same of weights, and of the numbers that a split can answer.
     fn every_number(&mut self) {
         if self.weighed * WEIGHED < self.drawn {
-            println!(
-                "differential: {} drawn files have weights, so the files show too little",
-                self.weighed
-            );
-            self.different += 1;
+            self.too_little(&format!("{} drawn files have weights", self.weighed));
         }
         for number in [0, 15, 16, 17] {
             if !self.tried.splits.contains_key(&number) {

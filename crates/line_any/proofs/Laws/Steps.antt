@@ -28,6 +28,10 @@ module _ (book : Book) (ids : Ids) (s : State) (kinds slots : List ℕ) (n : ℕ
   pub line-puts : {m : ℕ} {o o' : Lent} → Puts (sortBreaks book σ ids s kinds slots (controlCell l) n (cells l)) m o o' → m ≤ LINE-MOST → Puts (lineBreaks book ids s kinds slots n l) LINE-MOST o o'
   line-puts h k = record { does = λ rest. rw e (h .does rest); most = omega (arith, h .most) }
 
+-- a line that does not pass changes no first
+unchanged : (first n : ℕ) {t : Bool} → t ≡ false → first ≡ firstKept first t n
+unchanged first n e = kept-none first n ∙ sym (ap (λ (t : Bool). firstKept first t n) e)
+
 -- a line that is no metadata line has no slot
 no-slot : (book : Book) (l : Bytes) {σ : Sort} → sortOf book l ≡ σ → metaIn σ ≡ false → (i : ℕ) → hasSlot book i l ≡ false
 unfolding hasSlot isField
@@ -43,8 +47,8 @@ module _ {book : Book} {s : State} {kinds slots : List ℕ} {n : ℕ} {l : Bytes
   follows-kept z m = record {
     state = rw e;
     columns = λ l₀ h. rw (e, z) h;
-    keys = λ i h. kept-none (getD slots i 0) n ∙ sym (ap (λ (t : Bool). firstKept (getD slots i 0) t n) (no-slot book l e m i));
-    headers = λ i p h. kept-none (getD slots (headerSlot i) 0) n ∙ sym (ap (λ (t : Bool). firstKept (getD slots (headerSlot i) 0) t n) (no-header book l e z i p));
+    keys = λ i h. unchanged (getD slots i 0) n (no-slot book l e m i);
+    headers = λ i p h. unchanged (getD slots (headerSlot i) 0) n (no-header book l e z i p);
     kind-places = kp;
     key-places = sp;
   }
@@ -56,7 +60,7 @@ follows-meta {book} {slots = slots} {n = n} {l = l} e kp k hs sp = record {
   state = rw e;
   columns = λ l₀ h. rw e h;
   keys = k;
-  headers = λ i p h. hs i ∙ kept-none (getD slots (headerSlot i) 0) n ∙ sym (ap (λ (t : Bool). firstKept (getD slots (headerSlot i) 0) t n) (no-header book l e refl i p));
+  headers = λ i p h. hs i ∙ unchanged (getD slots (headerSlot i) 0) n (no-header book l e refl i p);
   kind-places = kp;
   key-places = sp;
 }
@@ -68,7 +72,7 @@ follows-header : {book : Book} → Sized book → {s : State} {kinds kinds' slot
 follows-header {book} sized {slots = slots} {n = n} {l = l} h e sp k kp = record {
   state = rw e;
   columns = λ l₀ q. rw (e, lt-ltb 0 h (header-section book sized l h e .0), e) k;
-  keys = λ i q. getD-set-other slots (headerSlot h) i (firstKept (getD slots (headerSlot h) 0) true n) 0 (λ z. omega (arith, q, z)) ∙ kept-none (getD slots i 0) n ∙ sym (ap (λ (t : Bool). firstKept (getD slots i 0) t n) (no-slot book l e refl i));
+  keys = λ i q. getD-set-other slots (headerSlot h) i (firstKept (getD slots (headerSlot h) 0) true n) 0 (λ z. omega (arith, q, z)) ∙ unchanged (getD slots i 0) n (no-slot book l e refl i);
   headers = λ i p q. at i q (eqb h i) refl;
   kind-places = kp;
   key-places = length-set slots (headerSlot h) (firstKept (getD slots (headerSlot h) 0) true n) ∙ sp;
