@@ -14,7 +14,7 @@ use Rattle.text_bytes.specs.Places.{part}
 use Rattle.value_parameters.specs.Parameters.{turn, separates, quotedAfter, cutOutside, hasFields, isParameter}
 use Rattle.value_parameters.specs.Scan.{state, start, oneMore, held, step, run, good}
 use Rattle.value_parameters.specs.declared.Scan.{Scan}
-use Rattle.value_parameters.proofs.Laws.Scans.{run-goes, run-all}
+use Rattle.value_parameters.proofs.Laws.Scans.{part-final, run-goes, run-all}
 
 -- WHAT IS LEFT DECIDES, GIVEN THE STATE
 
@@ -167,12 +167,6 @@ both (x ∷ (y ∷ ys)) i a z =
 
 -- A PART, by positions
 
-pub part-whole : (l : List ℕ) (e : ℕ) → e ≡ length l → isParameter (part 0 e l) ≡ isParameter l
-part-whole l e q = ap isParameter (take-all (e - 0) l (omega arith))
-
-pub part-empty : (l : List ℕ) (at e : ℕ) → e ≡ at → isParameter (part at e l) ≡ false
-part-empty l at e q = let z : e - at ≡ 0 = omega arith in rw z (first-not [] (λ a. omega arith))
-
 module _ (l : List ℕ) (at e : ℕ) (h : at < e) (k : e ≤ length l) where
   long : length (part at e l) ≡ e - at
   long = length-take-le (e - at) (drop at l) (omega (arith, length-drop at l))
@@ -183,25 +177,11 @@ module _ (l : List ℕ) (at e : ℕ) (h : at < e) (k : e ≤ length l) where
       getD-take (e - at) (drop at l) 0 0 (omega arith) ∙ getD-drop at l 0 0 ∙ ap (λ (j : ℕ). getD l j 0) z
 
   final-byte : getD (part at e l) (length (part at e l) - 1) 0 ≡ getD l (e - 1) 0
-  final-byte =
-      let z : at + (e - at - 1) ≡ e - 1 = omega arith in
-      ap (λ (n : ℕ). getD (part at e l) (n - 1) 0) long ∙ getD-take (e - at) (drop at l) (e - at - 1) 0 (omega arith) ∙ getD-drop at l (e - at - 1) 0 ∙ ap (λ (j : ℕ). getD l j 0) z
-
-  pub part-first : (getD l at 0 ≡ 91 → ⊥) → isParameter (part at e l) ≡ false
-  part-first n = first-not (part at e l) (λ z. n (sym first-byte ∙ z))
+  final-byte = ap (λ (n : ℕ). getD (part at e l) (n - 1) 0) long ∙ part-final l at e h
 
   pub part-last : (getD l (e - 1) 0 ≡ 93 → ⊥) → isParameter (part at e l) ≡ false
   part-last n = last-not (part at e l) (λ z. n (sym final-byte ∙ z))
 
   module _ (st : Scan) (a : getD l at 0 ≡ 91) (z : getD l (e - 1) 0 ≡ 93) (w : st ≡ run false (start at) (part at e l)) where
-    part-is : isParameter (part at e l) ≡ good st
+    pub part-is : isParameter (part at e l) ≡ good st
     part-is = both (part at e l) at (first-byte ∙ a) (final-byte ∙ z) ∙ ap good (sym w)
-
-    pub part-commas : (st .commas ≡ 3 → ⊥) → isParameter (part at e l) ≡ false
-    part-commas n = part-is ∙ rw (ne-eqb (st .commas) 3 n)
-
-    pub part-quoted : st .commas ≡ 3 → st .quoted ≡ true → isParameter (part at e l) ≡ false
-    part-quoted n q = part-is ∙ rw (n, q)
-
-    pub part-filled : st .commas ≡ 3 → st .quoted ≡ false → isParameter (part at e l) ≡ st .filled
-    part-filled n q = part-is ∙ rw (n, q)

@@ -10,7 +10,7 @@ use native.Mathlib.Omega.{arith}
 use borrow.Author.Tests.{eq-eqb, ne-eqb, eqb-true}
 use lib.Dec.{eqb}
 use lib.ListN.{length, take, drop, getD, length-drop, take-append-drop, drop-of-length-le}
-use lib.Seq.{drop-drop, take-all, length-take-le}
+use lib.Seq.{drop-drop, take-all, length-take-le, getD-take, getD-drop}
 use Rattle.text_bytes.specs.Bytes.{all, onFirst}
 use Rattle.text_bytes.specs.Places.{part}
 use Rattle.text_bytes.proofs.Laws.Pieces.{drop-step}
@@ -20,8 +20,14 @@ use Rattle.value_parameters.specs.declared.Scan.{Scan}
 
 -- ONE BYTE MORE
 
-part-none : (e : ℕ) (l : List ℕ) → part e e l ≡ []
+pub part-none : (e : ℕ) (l : List ℕ) → part e e l ≡ []
 part-none e l = let z : e - e ≡ 0 = omega arith in rw z
+
+-- the last byte of a part
+pub part-final : (l : List ℕ) (at e : ℕ) → at < e → getD (part at e l) (e - at - 1) 0 ≡ getD l (e - 1) 0
+part-final l at e h =
+    let z : at + (e - at - 1) ≡ e - 1 = omega arith in
+    getD-take (e - at) (drop at l) (e - at - 1) 0 (omega arith) ∙ getD-drop at l (e - at - 1) 0 ∙ ap (λ (j : ℕ). getD l j 0) z
 
 pub run-none : (bars : Bool) (st : Scan) (e : ℕ) (l : List ℕ) → run bars st (part e e l) ≡ st
 unfolding run
@@ -111,6 +117,16 @@ run-stands bars st (b ∷ x) y h = go (bars && separates 124 (st .quoted) b) h (
     go true k ih = refl
     go false k ih = ih (omega arith)
 
+-- one that stands where it began is as it was
+run-same : (bars : Bool) (st : Scan) (x : List ℕ) → (run bars st x) .at ≡ st .at → run bars st x ≡ st
+unfolding run
+run-same bars st [] h = refl
+run-same bars st (b ∷ x) h = go (bars && separates 124 (st .quoted) b) h (run-least bars (step st b) x)
+  where
+    go : (t : Bool) → (cond t st (run bars (step st b) x)) .at ≡ st .at → st .at + 1 ≤ (run bars (step st b) x) .at → cond t st (run bars (step st b) x) ≡ st
+    go true k m = refl
+    go false k m = absurd (omega arith)
+
 module _ (bars : Bool) (l : List ℕ) (st r : Scan) (e : ℕ) (h : st .at ≤ e) (k : e ≤ length l) (w : r ≡ run bars st (part (st .at) e l)) where
   long : length (part (st .at) e l) ≡ e - st .at
   long = length-take-le (e - st .at) (drop (st .at) l) (omega (arith, length-drop (st .at) l))
@@ -125,6 +141,9 @@ module _ (bars : Bool) (l : List ℕ) (st r : Scan) (e : ℕ) (h : st .at ≤ e)
 
   pub block-within : (st .at ≤ r .at) × (r .at ≤ e)
   block-within = (omega (arith, reached, run-least bars st (part (st .at) e l)), omega (arith, reached, long, run-most bars st (part (st .at) e l)))
+
+  pub block-same : r .at ≡ st .at → r ≡ st
+  block-same q = w ∙ run-same bars st (part (st .at) e l) (sym reached ∙ q)
 
   pub block-end : e ≤ r .at → r .at ≡ e
   block-end q = omega (arith, block-within .1)
