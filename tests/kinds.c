@@ -57,6 +57,26 @@ static void marks(size_t n) {
     expect("marks in the third field", PARAMETERS, n, (n - 5) % 2 == 0);
 }
 
+/* Two parts, where the bar between them stands near the end of a block of the scans: the byte before it counts, in whichever block it was read. */
+static void blocks(void) {
+    for (size_t n = 1000; n <= 1050; n++) {
+        third_field('a', n);
+        memcpy(buffer + n, "|[,,b,]", 7);
+        expect("two parts", PARAMETERS, n + 7, 1);
+        expect("two parts", PARAMETER, n + 7, 0);
+        expect("a part and a bar", PARAMETERS, n + 1, 0);
+        buffer[n - 1] = 'a';
+        expect("two parts, the first not closed", PARAMETERS, n + 7, 0);
+        third_field(' ', n);
+        expect("a third field of spaces", PARAMETER, n, 0);
+        buffer[n - 3] = 'a';
+        expect("spaces and a letter in the third field", PARAMETER, n, 1);
+        third_field('"', n);
+        memcpy(buffer + n, "|[,,b,]", 7);
+        expect("marks in the third field and another part", PARAMETERS, n + 7, (n - 5) % 2 == 0);
+    }
+}
+
 /* Exponents at the very end of a value, between bars, and where none may stand. */
 static void exponents(void) {
     memset(buffer, '1', MOST);
@@ -108,6 +128,7 @@ static void answers(void) {
     buffer[MOST / 2] = '|';
     expect("two decimals", WINDOW, MOST, 1);
     exponents();
+    blocks();
     expect("nothing", TEXT, 0, 0);
     expect("one byte", TEXT, 1, 1);
 }
@@ -146,6 +167,12 @@ static void measure(const char *what, void (*fill)(size_t)) {
 }
 
 #define EACH(name, b) static void name(size_t n) { memset(buffer, b, n); }
+/* the same with a `[` before them: the first byte of a part that has none shows that it is no parameter */
+#define BEHIND(name, b) static void name(size_t n) { memset(buffer, b, n); buffer[0] = '['; }
+BEHIND(bracket_marks, '"')
+BEHIND(bracket_bars, '|')
+BEHIND(bracket_spaces, ' ')
+BEHIND(bracket_commas, ',')
 EACH(all_marks, '"')
 EACH(all_bars, '|')
 EACH(all_digits, '7')
@@ -186,6 +213,10 @@ static void run(void) {
     measure("all spaces", all_spaces);
     measure("all [", all_opens);
     measure("all commas", all_commas);
+    measure("[ and marks", bracket_marks);
+    measure("[ and bars", bracket_bars);
+    measure("[ and spaces", bracket_spaces);
+    measure("[ and commas", bracket_commas);
 }
 
 int main(int words, char **word) {

@@ -26,6 +26,7 @@ pub fn files() -> Vec<(String, Vec<u8>)> {
             value_everywhere(&value),
         ));
     }
+    all.extend(long_parameters());
     for (label, file) in by_hand_again::files() {
         all.push((label.to_string(), file));
     }
@@ -64,6 +65,22 @@ fn value_everywhere(value: &[u8]) -> Vec<u8> {
     file.extend(header);
     line(&mut file, &[&[b"PEP" as &[u8]], &[value; 10][..]].concat());
     file
+}
+
+/// Two parameters each, the first about as long as the blocks in which the library scans, of one byte over and over.
+fn long_parameters() -> Vec<(String, Vec<u8>)> {
+    let mut all = Vec::new();
+    for length in 1_020..=1_030 {
+        for byte in *b"a \"|" {
+            let value = [b"[,,", vec![byte; length - 5].as_slice(), b",]|[,,b,]"].concat();
+            let label = format!(
+                "a part of {length} bytes, most of them b\"{}\"",
+                byte.escape_ascii()
+            );
+            all.push((label, value_everywhere(&value)));
+        }
+    }
+    all
 }
 
 /// Of such files rule 22 asks for the most.

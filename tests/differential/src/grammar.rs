@@ -616,7 +616,7 @@ impl<'d> Source<'d> {
         }
     }
 
-    /// Most often no value of the kind; of decimals and references half are near ones.
+    /// Most often no value of the kind; of decimals, parameters and references half are near ones.
     fn wrong_value(&mut self, kind: Kind) -> Vec<u8> {
         if self.draws.once_in(4) {
             return Vec::new();
@@ -628,6 +628,8 @@ impl<'d> Source<'d> {
                 Kind::Window => {
                     return format!("{}|{}", self.decimal(), self.near_decimal()).into_bytes()
                 }
+                Kind::Parameter => return self.near_parameter().into_bytes(),
+                Kind::ParameterList => return self.many("|", Source::near_parameter).into_bytes(),
                 Kind::Reference(family) | Kind::ReferenceList(family) => {
                     return self.near_references(family.word()).into_bytes()
                 }
@@ -802,13 +804,48 @@ impl<'d> Source<'d> {
             "[x]",
         ];
         let third = ["Mascot", " x", "\"N,O-diacetyl\"", "\"\"", "a]|b", "\"|\" "];
+        let long = self.draws.once_in(20).then(|| self.long("x"));
         format!(
-            "[{},{},{},{}]",
+            "[{},{},{}{},{}]",
             self.draws.one_of(&fields),
             self.draws.one_of(&fields),
             self.draws.one_of(&third),
+            long.unwrap_or_default(),
             self.draws.one_of(&fields)
         )
+    }
+
+    /// The text over and over, near so long as the blocks in which a parameter may be scanned.
+    fn long(&mut self, text: &str) -> String {
+        text.repeat(self.draws.below(60) + 980)
+    }
+
+    /// What is near a parameter: something in it is missing or is there once more, once or over and over, its third field holds spaces
+    /// alone, or it is put together from pieces. Some are right.
+    fn near_parameter(&mut self) -> String {
+        let pieces = [
+            "[", "]", ",", ",", "\"", "|", " ", "a", "\u{e9}", "{", "[,,", ",]", "\"a,b\"", "]|[",
+        ];
+        let mut drawn: Vec<String> = self.parameter().chars().map(String::from).collect();
+        let place = self.draws.below(drawn.len());
+        match self.draws.below(6) {
+            0 => drop(drawn.remove(place)),
+            1 | 2 => drawn.insert(place, self.draws.one_of(&pieces).to_string()),
+            3 => {
+                let text = self.draws.one_of(&pieces);
+                drawn.insert(place, self.long(text));
+            }
+            4 => drawn = vec!["[,,".into(), " ".repeat(self.draws.below(3)), ",]".into()],
+            _ => {
+                let count = self.draws.below(8);
+                drawn = (0..count)
+                    .map(|_| self.draws.one_of(&pieces).to_string())
+                    .collect();
+                drawn.insert(0, "[,".into());
+                drawn.push(",]".into());
+            }
+        }
+        drawn.concat()
     }
 }
 
