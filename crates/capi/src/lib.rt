@@ -4,6 +4,7 @@ use faults::judge;
 use fee::Cents;
 use fee::split_places;
 use judged::judge_places;
+use judged_line::judge_line_places;
 use mztab::cells::locate;
 use mztab::cells::reading;
 use rows::rows;
@@ -15,6 +16,7 @@ use value_cases::whole_of;
 ghost use mathlib.Core.Path.{_≡_};
 ghost use Rattle.mztab.specs.Shown.{sought};
 ghost use Rattle.judged.specs.Judged.{outcome, judged};
+ghost use Rattle.judged_line.specs.Judged.{judgedLine};
 ghost use Rattle.mztab.specs.Readings.{readingOf};
 ghost use Rattle.faults.specs.Records.{outcome as recorded, judged as judgedRecords};
 ghost use Rattle.fee.specs.Amounts.{added, sumOf};
@@ -30,6 +32,19 @@ pub extern "C" fn mztab_judge(file: &[u8], places: &mut [u32], number: &mut u32)
     ensures { λ r. ⌜ outcome (now (number .exit)) r (now (places .exit)) ≡ judged (now (file .entry)) (now (places .entry)) ⌝ }
 {
     judge_places(file, places, number)
+}
+
+// The judging call for one line, 1 to N, under the whole file: answers the count of its breaks, and writes those that fit, as mztab_judge does.
+#[no_mangle]
+pub extern "C" fn mztab_judge_line(
+    file: &[u8],
+    line: u32,
+    places: &mut [u32],
+    number: &mut u32,
+) -> u32
+    ensures { λ r. ⌜ outcome (now (number .exit)) r (now (places .exit)) ≡ judgedLine (now (file .entry)) line (now (places .entry)) ⌝ }
+{
+    judge_line_places(file, line, places, number)
 }
 
 // The judging call over records: the same, with a record for each break.

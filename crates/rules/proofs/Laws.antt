@@ -4,3 +4,6 @@ pub mod Listing
 pub mod Firsts
 pub mod Promises
 pub mod Accepted
+pub mod Renewing
+pub mod Alike
+pub mod Locality

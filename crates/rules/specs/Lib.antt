@@ -3,3 +3,4 @@ pub mod Breaks
 pub mod Rules
 pub mod Cases
 pub mod Promised
+pub mod Edited

@@ -5,3 +5,4 @@ pub mod Openings
 pub mod Counts
 pub mod Control
 pub mod Runs
+pub mod Splicing

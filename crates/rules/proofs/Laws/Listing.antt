@@ -104,10 +104,10 @@ module _ (p : Spot) (n c : ℕ) where
 -- A LINE
 
 module _ (rs : List Rule) (p : Spot) (n : ℕ) where
-  abbrev InLine : Break → Type 0
+  abbrev pub InLine : Break → Type 0
   InLine g = (isSilent (p .here) ≡ false) × ((g .line ≡ n) × ((1 ≤ g .cell) × ((g .cell ≤ width (p .here)) × Broken rs p (g .cell) (g .rule) (g .first))))
 
-  line-in : (g : Break) → In g (atLine rs p n) → InLine g
+  pub line-in : (g : Break) → In g (atLine rs p n) → InLine g
   unfolding atLine
   line-in g h = go (isSilent (p .here)) refl h
     where

@@ -1,0 +1,2 @@
+-- Laws over plain lists, with no code in them.
+pub mod Alone
