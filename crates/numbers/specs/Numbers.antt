@@ -9,7 +9,7 @@ TOO-LONG = 1
 abbrev pub NO-SECTION : ℕ
 NO-SECTION = 2
 
--- no such row
+-- no such row, or no such line
 abbrev pub NO-ROW : ℕ
 NO-ROW = 3
 

@@ -6,7 +6,7 @@ pub const TOO_LONG: u32 = 1;
 // The section is not 1 to 4.
 pub const NO_SECTION: u32 = 2;
 
-// No such row.
+// No such row, or no such line.
 pub const NO_ROW: u32 = 3;
 
 // No such cell.

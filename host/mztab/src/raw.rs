@@ -48,6 +48,15 @@ mod c {
             number: *mut u32,
         ) -> u32;
 
+        pub fn mztab_judge_line(
+            file: *const u8,
+            file_length: usize,
+            line: u32,
+            places: *mut u32,
+            places_length: usize,
+            number: *mut u32,
+        ) -> u32;
+
         pub fn mztab_faults(
             file: *const u8,
             file_length: usize,
@@ -129,7 +138,7 @@ pub struct Reading {
     pub decimal: f64,
 }
 
-/// What `mztab_judge` and `mztab_faults` write beside the list, and answer.
+/// What `mztab_judge`, `mztab_judge_line` and `mztab_faults` write beside the list, and answer.
 #[derive(Clone, Copy, Debug, PartialEq, Eq)]
 pub struct Judged {
     pub number: u32,
@@ -236,6 +245,23 @@ pub fn judge(file: &[u8], places: &mut [u32]) -> Judged {
         c::mztab_judge(
             file.as_ptr(),
             file.len(),
+            places.as_mut_ptr(),
+            places.len(),
+            &mut number,
+        )
+    };
+    Judged { number, count }
+}
+
+/// Judges one line, 1 to the last, under the whole file, into plain places as [`judge`] does.
+pub fn judge_line(file: &[u8], line: u32, places: &mut [u32]) -> Judged {
+    let mut number = UNSET;
+    // As above.
+    let count = unsafe {
+        c::mztab_judge_line(
+            file.as_ptr(),
+            file.len(),
+            line,
             places.as_mut_ptr(),
             places.len(),
             &mut number,
