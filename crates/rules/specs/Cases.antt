@@ -6,7 +6,9 @@ use Prim.Native.Nat.{ℕ}
 use lib.Dec.{eqb}
 use Rattle.book_kinds.specs.Cases.{Case, isA, agrees, cases}
 use Rattle.text_bytes.specs.Bytes.{Bytes, bytes, same, begins, isEmpty, any, all, firstFrom, onFirst, splitOn, isSpace}
+use Rattle.text_bytes.specs.Places.{after}
 use Rattle.text.specs.Lines.{lines, startsLf, coded, cell, isField, control}
+use Rattle.text.specs.Edits.{editedFile}
 use Rattle.value_references.specs.Index.{written, digits, number, bracketed, indexAt}
 use Rattle.values.specs.Values.{areDigits, unsigned, unmarked, dotted, isE, mantissa, exponent, isExponent, isUnsigned, isText, isWhole, isNumeral, isDecimal, isDecimals, isWindow, isNull}
 use Rattle.value_parameters.specs.Parameters.{quotedAfter, cutOutside, hasFields, isParameter, isParameters}
@@ -22,9 +24,16 @@ use Rattle.book_kinds.specs.Kinds.{familyNumber, isKept, isFixed, ofKind, kindF
 use Rattle.rules.specs.Sorts.{codeSort, sortOf, isSilent}
 use Rattle.rules.specs.Breaks.{Break, breakWith, breakAt, each, atCell, atLine, inLines, atEnd}
 use Rattle.rules.specs.Rules.{sameKey, namedIn, isUndeclared, lacksColumn, nearestIn, flawAt, rules, isPresent, isAsked, hasKey, isUnmet, endRules, breaksBy, breaks}
+use Rattle.rules.specs.Edited.{kept, renewed}
 
-pub example : breaks (bytes "MTD\tmzTab-version\t1.0.0\nMTD\tmzTab-mode\tSummary\nMTD\tmzTab-type\tIdentification\nMTD\tdescription\tYeast check\nMTD\tms_run[1]-location\tfile:///a.mzML\n\nPRH\taccession\tdescription\tdatabase\tsearch_engine\tnum_psms_ms_run[2]\nPRT\tY1\tnull\tdb\tnull\t\nPRT\tnull\tx\tdb\tnull\t4\n")
-    ≡ breakAt 7 6 15 ∷ breakAt 8 6 19 ∷ breakAt 9 2 20 ∷ breakAt 10 500 22 ∷ breakAt 10 900 22 ∷ breakAt 10 1000 22 ∷ []
+-- the paper's example, and its breaks
+abbrev yeast : Bytes
+yeast = bytes "MTD\tmzTab-version\t1.0.0\nMTD\tmzTab-mode\tSummary\nMTD\tmzTab-type\tIdentification\nMTD\tdescription\tYeast check\nMTD\tms_run[1]-location\tfile:///a.mzML\n\nPRH\taccession\tdescription\tdatabase\tsearch_engine\tnum_psms_ms_run[2]\nPRT\tY1\tnull\tdb\tnull\t\nPRT\tnull\tx\tdb\tnull\t4\n"
+
+abbrev yeasts : List Break
+yeasts = breakAt 7 6 15 ∷ breakAt 8 6 19 ∷ breakAt 9 2 20 ∷ breakAt 10 500 22 ∷ breakAt 10 900 22 ∷ breakAt 10 1000 22 ∷ []
+
+pub example : breaks yeast ≡ yeasts
 unfolding bytes same begins isEmpty any all onFirst splitOn lines startsLf coded cell isField control firstFrom written digits number bracketed indexAt areDigits unsigned unmarked dotted isE mantissa exponent isExponent isUnsigned isText isWhole isNumeral isDecimal isDecimals isWindow isNull quotedAfter cutOutside isSpace hasFields isParameter isParameters piecesFrom entryOf fits firstOf keys isColunit proteinColumns peptideColumns psmColumns moleculeColumns proteinRequired peptideRequired psmRequired moleculeRequired mzTab demands bookOf isSection sectionOf codedFrom keyOf isOpt optOf columnOf declares refIn refTo refFlaw trimmed refsTo isReferences flawAmong refsFlaw familyNumber isKept isFixed namedIn ofKind kindFlaw cellOfKind codeSort sortOf isSilent each atCell atLine inLines atEnd sameKey isUndeclared lacksColumn nearestIn flawAt rules hasForm hasKey asks modeOf typeOf earliest isPresent isAsked upFrom wantsOf wantsIn isUnmet lastCell endRules breaksBy breaks
 example = refl
 
@@ -70,6 +79,10 @@ repeats =
     breakAt 1 1 3 ∷ breakWith 4 2 6 2 ∷ breakWith 6 2 6 2 ∷ breakAt 7 1 16 ∷ breakWith 7 4 13 3 ∷ breakWith 7 5 13 2 ∷ breakWith 7 6 13 3 ∷ breakAt 8 1 16
     ∷ breakWith 9 1 9 7 ∷ breakAt 9 1 10 ∷ breakAt 9 1 16 ∷ breakWith 10 1 9 7 ∷ breakAt 10 1 10 ∷ breakAt 10 1 16 ∷ []
 
+-- the paper's example with a text in place of the empty cell, of request 2026-14: its breaks are the old ones with those of line 8 anew
+abbrev edited : Bytes
+edited = editedFile 8 6 (bytes "many") yeast
+
 unfoldable pub files : List Case
 files =
     isA (hasBreaks (allAbsent 1)) (bytes "")
@@ -77,8 +90,9 @@ files =
     ∷ isA (hasBreaks unmet) quantified
     ∷ isA (hasBreaks (misnumbers ++ allAbsent 11)) misnumbered
     ∷ isA (hasBreaks (repeats ++ allAbsent 11)) repeated
+    ∷ isA (hasBreaks (renewed 8 (breakAt 8 6 20 ∷ []) yeasts)) edited
     ∷ []
 
 pub all-hold : all agrees (cases ++ files) ≡ true
-unfolding cases files sameBreaks bytes same begins isEmpty any all onFirst splitOn lines startsLf coded cell isField control firstFrom written digits number bracketed indexAt areDigits unsigned unmarked dotted isE mantissa exponent isExponent isUnsigned isText isWhole isNumeral isDecimal isDecimals isWindow isNull quotedAfter cutOutside isSpace hasFields isParameter isParameters piecesFrom entryOf fits firstOf keys isColunit proteinColumns peptideColumns psmColumns moleculeColumns proteinRequired peptideRequired psmRequired moleculeRequired mzTab demands bookOf isSection sectionOf codedFrom keyOf isOpt optOf columnOf declares refIn refTo refFlaw trimmed refsTo isReferences flawAmong refsFlaw familyNumber isKept isFixed namedIn ofKind kindFlaw cellOfKind codeSort sortOf isSilent each atCell atLine inLines atEnd sameKey isUndeclared lacksColumn nearestIn flawAt rules hasForm hasKey asks modeOf typeOf earliest isPresent isAsked upFrom wantsOf wantsIn isUnmet lastCell endRules breaksBy breaks
+unfolding cases files sameBreaks kept after bytes same begins isEmpty any all onFirst splitOn lines startsLf coded cell isField control firstFrom written digits number bracketed indexAt areDigits unsigned unmarked dotted isE mantissa exponent isExponent isUnsigned isText isWhole isNumeral isDecimal isDecimals isWindow isNull quotedAfter cutOutside isSpace hasFields isParameter isParameters piecesFrom entryOf fits firstOf keys isColunit proteinColumns peptideColumns psmColumns moleculeColumns proteinRequired peptideRequired psmRequired moleculeRequired mzTab demands bookOf isSection sectionOf codedFrom keyOf isOpt optOf columnOf declares refIn refTo refFlaw trimmed refsTo isReferences flawAmong refsFlaw familyNumber isKept isFixed namedIn ofKind kindFlaw cellOfKind codeSort sortOf isSilent each atCell atLine inLines atEnd sameKey isUndeclared lacksColumn nearestIn flawAt rules hasForm hasKey asks modeOf typeOf earliest isPresent isAsked upFrom wantsOf wantsIn isUnmet lastCell endRules breaksBy breaks
 all-hold = refl

@@ -18,6 +18,10 @@ unfoldable pub kept : (ℕ → Bool) → List Break → List Break
 kept t [] = []
 kept t (b ∷ bs) = cond (t (b .line)) (b ∷ kept t bs) (kept t bs)
 
+-- those of line n
+abbrev pub onLine : ℕ → List Break → List Break
+onLine n bs = kept (λ i. eqb i n) bs
+
 -- those of all lines but line n
 abbrev pub others : ℕ → List Break → List Break
 others n bs = kept (λ i. not (eqb i n)) bs

@@ -1,7 +1,7 @@
 -- The rules are local: of other lines they know codes, metadata and headers, never what a row's cells hold. So an edit of a row's cell changes the breaks of
 -- that line alone. Assumes nothing.
-use mathlib.Core.Path.{_≡_, refl, sym, _∙_}
-use mathlib.Core.Bool.{Bool, true, false, cond, not}
+use mathlib.Core.Path.{_≡_, refl, sym, ap, _∙_}
+use mathlib.Core.Bool.{Bool, true, false, cond, not, _&&_}
 use mathlib.Core.List.{List, [], _∷_, _++_, map, append-assoc, append-nil}
 use Prim.Native.Nat.{ℕ, _+_, _-_, _≤_}
 use native.Mathlib.Omega.{arith}
@@ -9,28 +9,27 @@ use lib.Dec.{eqb, ltb}
 use lib.ListN.{length, getD, take, set, length-set}
 use lib.Seq.{getD-set-same, getD-set-other}
 use borrow.Author.Tests.{lt-ltb, le-ltb, eqb-false}
-use Rattle.text_bytes.specs.Bytes.{Bytes, bytes, any, all}
+use Rattle.text_bytes.specs.Bytes.{Bytes, bytes, any, all, isEmpty, same, splitOn, onFirst}
 use Rattle.text_bytes.proofs.Laws.Tests.{absurd-bool}
 use Rattle.text.specs.Lines.{lines, cells, cell}
 use Rattle.text.specs.Edits.{Edit, editedLine, editedFile}
 use Rattle.text.proofs.Laws.Splicing.{edited-cells, edited-some, edited-lines}
 use Rattle.value_references.specs.Index.{MOST}
 use Rattle.book.specs.Letters.{ASSAYS}
-use Rattle.book.specs.Book.{Book, Demand, Want, want, sectionOf, upFrom, bookOf}
+use Rattle.book.specs.Book.{Book, Demand, Want, want, sectionOf, upFrom, bookOf, mzTab, codedFrom}
 use Rattle.book_names.specs.declared.Found.{Found}
 use Rattle.book_names.specs.declared.Found.the-variants.{Unknown as NotFound, Known}
 use Rattle.book_kinds.specs.Kinds.{familyNumber}
 use Rattle.book_ids.specs.Ids.{declares}
 use Rattle.book_facts.specs.Facts.{modeIn, typeIn, modeOf, typeOf}
 use Rattle.book_facts.specs.Asked.{isDeclared, askedOf}
-use Rattle.rules.specs.Sorts.{sortOf, rowIn, header, isRow}
+use Rattle.rules.specs.Sorts.{sortOf, codeSort, rowIn, header, isRow}
 use Rattle.rules.specs.declared.sorts.Sort.{Sort}
 use Rattle.rules.specs.declared.sorts.Sort.the-variants.{Silent, Unknown, Meta, Header, Row}
-use Rattle.rules.specs.Breaks.{Break, spot, spotAt, Rule, each, atCell, atLine, inLines, atEnd}
+use Rattle.rules.specs.Breaks.{Break, spot, spotAt, Rule, rule, each, atCell, atLine, inLines, atEnd}
 use Rattle.rules.specs.Rules.{isUndeclared, lastIndex, namedIn, namesUndeclared, columnUndeclared, hasColumn, lacksColumn, flawAt, isPresent, isAsked, isUnmet, isBrokenAt, rules, endRules, ends, breaksBy, breaks}
-use Rattle.rules.specs.Edited.{kept, others, renewed, ofLine, Alike, Alikes, Local}
-use Rattle.rules.proofs.Laws.Listing.{line-in, listed-lacks}
-use Rattle.rules.proofs.Laws.Renewing.{kept-append, kept-line, kept-each, each-same, each-renewed}
+use Rattle.rules.specs.Edited.{others, renewed, ofLine, Alike, rows, Alikes, done, next, Local}
+use Rattle.rules.proofs.Laws.Renewing.{listed, kept-all, each-same, each-renewed}
 use Rattle.rules.proofs.Laws.Alike.{alikes-set, alike-code, spot-alike, spot-same, end-alike, any-blind, first-blind, nearest-alike, earliest-alike, table-blind, section-blind, later-blind, in-section-blind, same-key-blind, has-key-blind, declares-blind}
 
 -- tests that agree on every element
@@ -120,20 +119,6 @@ end-rules-local b here n c above above′ file file′ a f = rw (broken-alike b 
 -- ONE LINE EDITED, for any local rules
 
 module _ (b : Book) (rs es : List Rule) (w : ℕ) (g : Local b rs) (h : Local b es) where
-  abbrev listed : List Bytes → List Break
-  listed file = inLines rs file ++ atEnd es w file
-
-  -- what is kept of all breaks, line by line
-  kept-all : (t : ℕ → Bool) (file : List Bytes)
-      → kept t (listed file) ≡ each (length file) 1 (λ i. cond (t i) (atLine rs (spotAt file i) i) []) ++ cond (t (length file + 1)) (atEnd es w file) []
-  unfolding inLines
-  kept-all t file =
-      kept-append t (inLines rs file) (atEnd es w file)
-      ∙ rw (
-        kept-each t (λ i. atLine rs (spotAt file i) i) (λ i x m. line-in rs (spotAt file i) i x m .1 .0) (length file) 1,
-        kept-line t (length file + 1) (atEnd es w file) (λ x m. listed-lacks es w file (x .line) (x .cell) (x .rule) (x .first) m .line),
-      )
-
   module _ (file : List Bytes) (n : ℕ) (low : 1 ≤ n) (high : n ≤ length file) (line : Bytes) (a : Alike b (getD file (n - 1) []) line) where
     abbrev edited : List Bytes
     edited = set file (n - 1) line
@@ -146,22 +131,22 @@ module _ (b : Book) (rs es : List Rule) (w : ℕ) (g : Local b rs) (h : Local b 
     afresh = spot-alike b rs g (alikes-set b file (n - 1) line a) n ∙ rw (getD-set-same file (n - 1) line [] (omega arith))
 
     -- all breaks on other lines, line N + 1 included, are the same
-    pub edit-others : others n (listed edited) ≡ others n (listed file)
+    pub edit-others : others n (listed rs es w edited) ≡ others n (listed rs es w file)
     edit-others =
-        kept-all (λ i. not (eqb i n)) edited
+        kept-all rs es w edited (λ i. not (eqb i n))
         ∙ rw (
           length-set file (n - 1) line,
           end-alike b es h (alikes-set b file (n - 1) line a) w,
           each-same (length file) 1 (λ i. cond (not (eqb i n)) (atLine rs (spotAt edited i) i) []) (λ i. cond (not (eqb i n)) (atLine rs (spotAt file i) i) []) (λ i p q. go i p (eqb i n) refl),
         )
-        (sym (kept-all (λ i. not (eqb i n)) file))
+        (sym (kept-all rs es w file (λ i. not (eqb i n))))
       where
         go : (i : ℕ) → 1 ≤ i → (t : Bool) → eqb i n ≡ t → cond (not t) (atLine rs (spotAt edited i) i) [] ≡ cond (not t) (atLine rs (spotAt file i) i) []
         go i p true e = refl
         go i p false e = other i p (eqb-false i n e)
 
     -- and the whole list is the old one with that line's part worked out afresh
-    pub edit-renewed : listed edited ≡ renewed n (atLine rs (spotAt edited n) n) (listed file)
+    pub edit-renewed : listed rs es w edited ≡ renewed n (atLine rs (spotAt edited n) n) (listed rs es w file)
     unfolding inLines
     edit-renewed =
         let f : ℕ → List Break = λ i. atLine rs (spotAt file i) i in
@@ -173,8 +158,8 @@ module _ (b : Book) (rs es : List Rule) (w : ℕ) (g : Local b rs) (h : Local b 
           length-set file (n - 1) line,
           end-alike b es h (alikes-set b file (n - 1) line a) w,
           each-renewed n f f′ (length file) 1 low (omega arith) (λ i p q ne. other i p ne),
-          kept-all (λ i. ltb i n) file,
-          kept-all (λ i. ltb n i) file,
+          kept-all rs es w file (λ i. ltb i n),
+          kept-all rs es w file (λ i. ltb n i),
           le-ltb (length file + 1) n (omega arith),
           lt-ltb n (length file + 1) (omega arith),
           append-nil lo,
@@ -219,3 +204,14 @@ module _ {file : Bytes} {n c : ℕ} {new : Bytes} (e : Edit file n c new) (row :
   unfolding breaks breaksBy bookOf
   edited-breaks = rw (edited-lines e)
       (edit-renewed book (rules book) (endRules book) (ends book) (rules-local book) (end-rules-local book) (lines file) n (e .line-low) (e .line-high) (editedLine c new line) edited-alike)
+
+-- WORKED EXAMPLE: a rule that looks at cell 2 of a row above is not local; the rows are `PRT⇥` and `PRT⇥x`
+peeping : Rule
+peeping = rule 99 (λ p c. any (λ l. isRow mzTab l && isEmpty (cell 2 l)) (p .above))
+
+peeping-not : Local mzTab (peeping ∷ []) → ⊥
+unfolding peeping atCell any isEmpty cell sortOf codeSort codedFrom mzTab same bytes splitOn onFirst
+peeping-not h =
+    let l : Bytes = bytes "PRT\t" in
+    let m : Bytes = bytes "PRT\tx" in
+    omega (arith, ap length (h [] 1 1 (l ∷ []) (m ∷ []) [] [] (next (rows {s = 1} refl refl) done) done))

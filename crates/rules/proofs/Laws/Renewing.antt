@@ -1,15 +1,19 @@
--- A list of breaks with one line's part worked out afresh. Assumes nothing.
+-- A list of breaks line by line: what is kept of it, the part of one line, and that part worked out afresh. Assumes nothing.
 use mathlib.Core.Path.{_≡_, refl, sym, ap, _∙_}
 use mathlib.Core.Bool.{Bool, true, false, cond}
-use mathlib.Core.List.{List, [], _∷_, _++_, append-assoc}
+use mathlib.Core.List.{List, [], _∷_, _++_, append-assoc, append-nil}
 use mathlib.Core.Logic.{⊎-elim, inl, inr}
 use Prim.Native.Nat.{ℕ, zero, suc, _+_, _≤_, _<_}
 use native.Mathlib.Nat.{eq-or-lt-of-le}
 use native.Mathlib.Omega.{arith}
-use lib.Dec.{ltb}
-use borrow.Author.Tests.{lt-ltb, le-ltb}
-use Rattle.rules.specs.Breaks.{Break, each, In}
-use Rattle.rules.specs.Edited.{kept}
+use lib.Dec.{ltb, eqb}
+use lib.ListN.{length}
+use borrow.Author.Tests.{lt-ltb, le-ltb, eqb-true, eq-eqb, ne-eqb}
+use Rattle.text_bytes.specs.Bytes.{Bytes}
+use Rattle.text_bytes.proofs.Laws.Tests.{absurd-bool}
+use Rattle.rules.specs.Breaks.{Break, spotAt, Rule, each, atLine, inLines, atEnd, In, Sorted}
+use Rattle.rules.specs.Edited.{kept, onLine}
+use Rattle.rules.proofs.Laws.Listing.{line-in, listed-lacks}
 
 -- all breaks of a list stand on line n
 abbrev pub Lined : ℕ → List Break → Type 0
@@ -41,6 +45,38 @@ module _ (t : ℕ → Bool) where
       go true = refl
       go false = refl
 
+  -- what is kept stood in the list, and passes the test
+  pub kept-in : (bs : List Break) (g : Break) → In g (kept t bs) → (t (g .line) ≡ true) × In g bs
+  unfolding kept
+  kept-in [] g h = absurd h
+  kept-in (b ∷ bs) g h = go (t (b .line)) refl (λ m. let r = kept-in bs g m in (r .0, inr (r .1))) h
+    where
+      Kept : Type 0
+      Kept = (t (g .line) ≡ true) × In g (b ∷ bs)
+
+      go : (u : Bool) → t (b .line) ≡ u → (In g (kept t bs) → Kept) → In g (cond u (b ∷ kept t bs) (kept t bs)) → Kept
+      go true e ih h = ⊎-elim (λ (q : g ≡ b). (ap (λ (x : Break). t (x .line)) q ∙ e, inl q)) ih h
+      go false e ih h = ih h
+
+  pub in-kept : (bs : List Break) (g : Break) → t (g .line) ≡ true → In g bs → In g (kept t bs)
+  unfolding kept
+  in-kept [] g e h = absurd h
+  in-kept (b ∷ bs) g e h = go (t (b .line)) refl (in-kept bs g e)
+    where
+      go : (u : Bool) → t (b .line) ≡ u → (In g bs → In g (kept t bs)) → In g (cond u (b ∷ kept t bs) (kept t bs))
+      go true q ih = ⊎-elim (λ (p : g ≡ b). inl p) (λ (m : In g bs). inr (ih m)) h
+      go false q ih = ⊎-elim (λ (p : g ≡ b). absurd-bool (sym q ∙ sym (ap (λ (x : Break). t (x .line)) p) ∙ e)) ih h
+
+  -- in the order that it had
+  pub kept-sorted : (bs : List Break) → Sorted bs → Sorted (kept t bs)
+  unfolding kept
+  kept-sorted [] s = s
+  kept-sorted (b ∷ bs) s = go (t (b .line)) (kept-sorted bs (s .1))
+    where
+      go : (u : Bool) → Sorted (kept t bs) → Sorted (cond u (b ∷ kept t bs) (kept t bs))
+      go true ih = ((λ g h. s .0 g (kept-in bs g h .1)), ih)
+      go false ih = ih
+
   pub kept-each : (f : ℕ → List Break) → ((i : ℕ) → Lined i (f i)) → (left m : ℕ) → kept t (each left m f) ≡ each left m (λ i. cond (t i) (f i) [])
   unfolding each kept
   kept-each f h zero m = refl
@@ -56,6 +92,39 @@ pub each-none : (left m : ℕ) (f : ℕ → List Break) → ((i : ℕ) → m ≤
 unfolding each
 each-none zero m f h = refl
 each-none (suc left) m f h = rw (h m (omega arith), each-none left (suc m) f (λ i p. h i (omega arith)))
+
+-- of f at each of them, with a test that only n passes, f at n is left
+pub each-one : (n : ℕ) (f : ℕ → List Break) (left m : ℕ) → m ≤ n → n < m + left → each left m (λ i. cond (eqb i n) (f i) []) ≡ f n
+unfolding each
+each-one n f zero m a b = absurd (omega arith)
+each-one n f (suc left) m a b = ⊎-elim
+    (λ (e : m ≡ n).
+    let l : each left (suc m) (λ i. cond (eqb i n) (f i) []) ≡ [] = each-none left (suc m) (λ i. cond (eqb i n) (f i) []) (λ i p. rw (ne-eqb i n (λ z. omega arith))) in
+    rw (l, eq-eqb m n e, append-nil (f m), e))
+    (λ (lt : m < n). rw (ne-eqb m n (λ z. omega arith), each-one n f left (suc m) lt (omega arith)))
+    (eq-or-lt-of-le a)
+
+-- ALL BREAKS OF A FILE, by any rules
+
+module _ (rs es : List Rule) (w : ℕ) (file : List Bytes) where
+  abbrev pub listed : List Break
+  listed = inLines rs file ++ atEnd es w file
+
+  -- what is kept of them, line by line
+  pub kept-all : (t : ℕ → Bool) → kept t listed ≡ each (length file) 1 (λ i. cond (t i) (atLine rs (spotAt file i) i) []) ++ cond (t (length file + 1)) (atEnd es w file) []
+  unfolding inLines
+  kept-all t =
+      kept-append t (inLines rs file) (atEnd es w file)
+      ∙ rw (
+        kept-each t (λ i. atLine rs (spotAt file i) i) (λ i x m. line-in rs (spotAt file i) i x m .1 .0) (length file) 1,
+        kept-line t (length file + 1) (atEnd es w file) (λ x m. listed-lacks es w file (x .line) (x .cell) (x .rule) (x .first) m .line),
+      )
+
+  -- those of line n, one of the file's, are what the rules break there
+  pub line-part : (n : ℕ) → 1 ≤ n → n ≤ length file → onLine n listed ≡ atLine rs (spotAt file n) n
+  line-part n low high =
+      kept-all (λ i. eqb i n)
+      ∙ rw (each-one n (λ i. atLine rs (spotAt file i) i) (length file) 1 low (omega arith), ne-eqb (length file + 1) n (λ e. omega arith), append-nil (atLine rs (spotAt file n) n))
 
 -- ONE LINE ANEW
 
