@@ -2,6 +2,8 @@
 // for the sections 0 to 5, three lines `weights` for lists of 64, 63 and 65 places, each with the number and the places afterwards, which held 9 before, and a
 // line '.'.
 use rows::rows;
+use test_places::print_next;
+use test_places::print_places;
 use text_bytes::seek;
 use weights::weights;
 ghost use Prim.Native.Nat.{_≤_};
@@ -10,11 +12,6 @@ const FILE_END: u8 = 30;
 
 // The longest list that is lent.
 const MOST: usize = 65;
-
-fn print_next(n: u32) {
-    io::write_all(1, b" ");
-    io::print_decimal(1, n as u64);
-}
 
 // The rows of the sections 0 to 5.
 fn run_rows(file: &[u8]) {
@@ -26,15 +23,6 @@ fn run_rows(file: &[u8]) {
         print_next(number);
         print_next(n);
         section += 1;
-    }
-    io::write_all(1, b"\n");
-}
-
-fn print_places(places: &[u32]) {
-    let mut i = 0;
-    while i < places.len() {
-        print_next(places[i]);
-        i += 1;
     }
     io::write_all(1, b"\n");
 }

@@ -1,9 +1,9 @@
--- `test_weights::print_places` is safe and ends: every place stays within its slice. Assumes nothing.
+-- `test_places::print_places` is safe and ends: every place stays within its slice. Assumes nothing.
 use Prim.Native.Nat.{_-_, _≤_}
 use lib.ListN.{length}
 use borrow.Author.Needs.{needs}
-use Rattle.test_weights.proofs.print_places.Statement.{statement}
-use Rattle.test_weights.proofs.print_places.Tie as tie
+use Rattle.test_places.proofs.print_places.Statement.{statement}
+use Rattle.test_places.proofs.print_places.Tie as tie
 
 abbrev Inv-loop : tie.InvT-loop
 Inv-loop places i₀ t3 i = i ≤ length places
