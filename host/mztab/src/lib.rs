@@ -17,6 +17,13 @@
 //! assert_eq!((again.line, again.cell, again.rule, again.first), (3, 2, 6, 1));
 //! ```
 //!
+//! Where one cell of a row is edited, no other line's breaks change. [`judge_line`] judges the one line, and not the others again:
+//!
+//! ```
+//! let edited = b"SMH\tidentifier\tcharge\nSML\tCID:00027395\t2\n";
+//! assert_eq!(mztab::judge_line_all(edited, 2).unwrap().count, 0);
+//! ```
+//!
 //! No call keeps what it is lent. Calls may run at the same time; a judging call needs some 350 KB of stack, and a thread of Rust has 2 MB.
 
 #![deny(unsafe_code)]
@@ -53,7 +60,7 @@ pub enum Refusal {
     TooLong,
     /// The section is not 1 to 4.
     NoSection,
-    /// The section has no such row.
+    /// The section has no such row, or the file no such line.
     NoRow,
     /// The row has no such cell.
     NoCell,
@@ -88,7 +95,7 @@ impl fmt::Display for Refusal {
         out.write_str(match self {
             Refusal::TooLong => "the file is longer than 16,777,216 bytes",
             Refusal::NoSection => "the section is not 1 to 4",
-            Refusal::NoRow => "the section has no such row",
+            Refusal::NoRow => "there is no such row, or no such line",
             Refusal::NoCell => "the row has no such cell",
             Refusal::NotAccepted => "the file breaks a rule",
             Refusal::NotAsMany => "the weights are not 1 to 64, or the shares are not as many",
@@ -120,10 +127,10 @@ fn refused(number: u32) -> Result<(), Refusal> {
 
 pub use raw::Break;
 
-/// How many breaks a file has, and the first of them.
+/// How many breaks a file, or one line of it, has, and the first of them.
 #[derive(Clone, Debug, PartialEq, Eq)]
 pub struct Judged {
-    /// The count of all breaks, 0 for an accepted file.
+    /// The count of all breaks, 0 for an accepted file and for a line that breaks no rule.
     pub count: u32,
     breaks: Vec<Break>,
 }
@@ -178,6 +185,65 @@ pub fn judge_once(file: &[u8], list: usize) -> Result<Judged, Refusal> {
         count: judged.count,
         breaks,
     })
+}
+
+/// Judges one line under the whole file and lists its first breaks, `most` of them or fewer. Its breaks are those that [`judge`] reports on
+/// that line. Lines are 1 to N; 0 and N + 1 are none, so the breaks of rules 21 and 22, which are reported on line N + 1, are never listed.
+///
+/// Where bytes other than tab, CR and LF take the place of one cell of a row, from cell 2 on, the breaks on all other lines stay the same,
+/// those on line N + 1 too: this call says all that the edit changes. The first list is that of [`judge`]. The call needs as much stack as
+/// that one.
+///
+/// ```
+/// let file = b"SMH\tidentifier\tcharge\nSML\t\t2+\n";
+/// let judged = mztab::judge_line(file, 2, 1).unwrap();
+/// let first = judged.breaks().next().unwrap();
+/// assert_eq!((judged.count, first.line, first.cell, first.rule), (2, 2, 2, 19));
+/// assert_eq!(mztab::judge_line(file, 3, 1), Err(mztab::Refusal::NoRow));
+/// ```
+pub fn judge_line(file: &[u8], line: u32, most: usize) -> Result<Judged, Refusal> {
+    let judged = judge_line_once(file, line, most.min(FIRST_LIST))?;
+    match judged.wanted(most) {
+        0 => Ok(judged),
+        longer => judge_line_once(file, line, longer),
+    }
+}
+
+/// Judges one line under the whole file and lists all its breaks.
+///
+/// ```
+/// let file = b"SMH\tidentifier\tcharge\nSML\t\t2+\n";
+/// let judged = mztab::judge_line_all(file, 2).unwrap();
+/// let rules: Vec<u32> = judged.breaks().map(|at| at.rule).collect();
+/// assert_eq!(rules, [19, 20]);
+/// ```
+pub fn judge_line_all(file: &[u8], line: u32) -> Result<Judged, Refusal> {
+    judge_line(file, line, usize::MAX)
+}
+
+/// Judges one line in one call, with a list of this length.
+fn judge_line_once(file: &[u8], line: u32, list: usize) -> Result<Judged, Refusal> {
+    let mut places = vec![0; PLACES * list];
+    let judged = raw::judge_line(file, line, &mut places);
+    refused(judged.number)?;
+    let listed = places.chunks_exact(PLACES).take(judged.count as usize);
+    Ok(Judged {
+        count: judged.count,
+        breaks: listed.map(broken).collect(),
+    })
+}
+
+/// A break has so many places in a list of plain places.
+const PLACES: usize = 4;
+
+/// The break that its places hold.
+fn broken(places: &[u32]) -> Break {
+    Break {
+        rule: places[0],
+        line: places[1],
+        cell: places[2],
+        first: places[3],
+    }
 }
 
 /// Shows a cell as a part of the file. Sections: 1 protein, 2 peptide, 3 PSM, 4 small molecule. Row 0 is the section's first header, row r

@@ -1,8 +1,9 @@
 //! The calls, through the binding: answers, refusals, and lists of every length.
 
 use mztab::{
-    add_cents, cell, cell_or, count, judge, judge_all, raw, reading, rows, split_fee, weights,
-    Break, Reading, Refusal, Value, FEE_LIMIT, FIRST_LIST, LIMIT, STUDY_VARIABLES, WEIGHT_LIMIT,
+    add_cents, cell, cell_or, count, judge, judge_all, judge_line, judge_line_all, raw, reading,
+    rows, split_fee, weights, Break, Reading, Refusal, Value, FEE_LIMIT, FIRST_LIST, LIMIT,
+    STUDY_VARIABLES, WEIGHT_LIMIT,
 };
 
 const YEAST: &[u8] = include_bytes!("../../../examples/yeast.mztab");
@@ -310,6 +311,182 @@ fn other_rules_have_no_first() {
     let rules: Vec<u32> = found.iter().map(|at| at.rule).collect();
     assert_eq!(rules, [5, 23, 7, 2].repeat(3));
     assert!(found.iter().all(|at| at.first == 0));
+}
+
+/// How many lines a file has, as the independent reading cuts it.
+fn lines_of(file: &[u8]) -> u32 {
+    independent::lines::lines(file).count() as u32
+}
+
+/// The breaks of each line, one line after the other, and then those of the line after the last, are those of the whole file.
+fn lines_make_the_list(file: &[u8], label: &str) {
+    let all: Vec<Break> = judge_all(file).unwrap().breaks().collect();
+    let last = lines_of(file);
+    let mut found = Vec::new();
+    for line in 1..=last {
+        let judged = judge_line_all(file, line).unwrap();
+        assert_eq!(judged.count as usize, judged.breaks().len(), "{label}");
+        assert!(judged.breaks().all(|at| at.line == line), "{label}");
+        found.extend(judged.breaks());
+    }
+    let after = all.iter().filter(|at| at.line > last);
+    found.extend(after);
+    assert_eq!(found, all, "{label}");
+    for line in [0, last + 1, last + 2, u32::MAX] {
+        let refused = Err(Refusal::NoRow);
+        assert_eq!(judge_line_all(file, line), refused, "{label}: {line}");
+    }
+}
+
+#[test]
+fn lines_of_the_examples() {
+    for file in [YEAST, ACCEPTED, EXPONENTS, FEE, b"", b"\n", b"\r", b"x"] {
+        lines_make_the_list(file, &file.escape_ascii().to_string());
+    }
+    for export in &samples::EXPORTS {
+        lines_make_the_list(export.file, export.name);
+    }
+}
+
+#[test]
+fn lines_of_the_independent_cases() {
+    let cases = independent::cases::judging::all();
+    assert!(cases.len() > 400, "{}", cases.len());
+    for case in cases {
+        lines_make_the_list(&case.file, case.label);
+    }
+}
+
+#[test]
+fn a_line_of_the_paper() {
+    let found: Vec<Vec<Break>> = (7..10)
+        .map(|line| judge_line_all(YEAST, line).unwrap().breaks().collect())
+        .collect();
+    let expected = [broken(7, 6, 15), broken(8, 6, 19), broken(9, 2, 20)];
+    assert_eq!(found, expected.map(|at| vec![at]));
+    // What the whole file lacks stands on line 10, which is none.
+    assert_eq!(judge_line_all(YEAST, 10), Err(Refusal::NoRow));
+}
+
+/// A line is judged under the whole file: by the header above it, the lines before it, and the ids that lines after it declare.
+#[test]
+fn a_line_under_the_whole_file() {
+    let file = "MTD\ttitle\ta\nMTD\ttitle\tb\nMTD\tassay[1]-ms_run_ref\tms_run[1]\nMTD\tms_run[1]-location\tx\n\
+        SMH\tidentifier\tcharge\tcharge\nSML\tC1\t2+\t1\nSMH\tidentifier\tcharge\nSML\tC1\t\r\nMTD\ttitle\tc";
+    let expected = [
+        vec![],
+        vec![again(2, 2, 6, 1)],
+        vec![],
+        vec![],
+        vec![again(5, 4, 13, 3)],
+        vec![broken(6, 3, 20)],
+        vec![again(7, 1, 9, 5)],
+        vec![broken(8, 3, 19)],
+        vec![broken(9, 1, 4), again(9, 2, 6, 1)],
+    ];
+    for (line, expected) in (1..).zip(expected) {
+        let judged = judge_line_all(file.as_bytes(), line).unwrap();
+        let found: Vec<Break> = judged.breaks().collect();
+        assert_eq!(found, expected, "{line}");
+    }
+}
+
+/// A row of a header's full width, each cell empty but the line code.
+fn row_of_empty_cells() -> String {
+    let names: String = (0..253).map(|k| format!("\topt_{k}")).collect();
+    let empty = "\t".repeat(255);
+    format!("SMH\tidentifier\tcharge{names}\nSML{empty}\n")
+}
+
+#[test]
+fn short_lists_of_a_line() {
+    let file = row_of_empty_cells();
+    for most in [0, 1, 2, 254, 255, 256, usize::MAX] {
+        let judged = judge_line(file.as_bytes(), 2, most).unwrap();
+        let found: Vec<Break> = judged.breaks().collect();
+        let expected = (2..257).map(|cell| broken(2, cell, 19)).take(most);
+        assert_eq!((judged.count, found), (255, expected.collect()));
+    }
+}
+
+/// The line with the most breaks that is known: a second header with one unknown name over and over, behind an optional one, and a control byte. It fits
+/// in the first list.
+#[test]
+fn the_most_breaks_of_a_line() {
+    let names = "\tx".repeat(254);
+    let file = format!("PEH\nSMH\nPEH\topt_a{names}\x01\nPEP");
+    let judged = judge_line_all(file.as_bytes(), 3).unwrap();
+    let found: Vec<Break> = judged.breaks().collect();
+    let all = judge_all(file.as_bytes()).unwrap();
+    let expected: Vec<Break> = all.breaks().filter(|at| at.line == 3).collect();
+    assert_eq!(found, expected);
+    // Cell 1 breaks rules 9, 10 and 16; each name rules 12 and 14, and all but the first rule 13; the last has the byte, and so is another name.
+    assert_eq!(found.len(), 3 + 2 * 254 + 252 + 1);
+    assert_eq!(found[5], broken(3, 4, 12));
+    assert_eq!(found[6], again(3, 4, 13, 3));
+    assert!(2 * found.len() < FIRST_LIST);
+}
+
+#[test]
+fn places_that_no_break_of_a_line_fills() {
+    let file = "SMH\tidentifier\tcharge\tidentifier\nSML\t\t2+\t\n";
+    let numbers = [19, 2, 2, 0, 20, 2, 3, 0, 19, 2, 4, 0];
+    for length in 0..20 {
+        let mut places = vec![77; length];
+        let judged = raw::judge_line(file.as_bytes(), 2, &mut places);
+        assert_eq!((judged.number, judged.count), (0, 3));
+        let filled = (length / 4).min(3) * 4;
+        assert_eq!(places[..filled], numbers[..filled]);
+        assert!(places[filled..].iter().all(|place| *place == 77));
+    }
+}
+
+#[test]
+fn lines_refuse_in_their_order() {
+    let long = vec![b'\n'; LIMIT + 1];
+    for (file, line, number) in [
+        (&long[..], 1, 1),
+        (&long[..], 0, 1),
+        (&long[..], u32::MAX, 1),
+        (&long[1..], 0, 3),
+        (&long[1..], LIMIT as u32, 0),
+        (&long[1..], LIMIT as u32 + 1, 3),
+        (b"", 0, 3),
+        (b"", 1, 3),
+        (YEAST, 0, 3),
+        (YEAST, 10, 3),
+        (YEAST, u32::MAX, 3),
+    ] {
+        let mut places = [77; 9];
+        let judged = raw::judge_line(file, line, &mut places);
+        assert_eq!((judged.number, judged.count), (number, 0), "{line}");
+        assert_eq!(places, [77; 9]);
+    }
+    assert_eq!(judge_line(&long, 1, 9), Err(Refusal::TooLong));
+    assert_eq!(judge_line(YEAST, 10, 9), Err(Refusal::NoRow));
+}
+
+/// An edit of one cell of a row changes the breaks of its own line alone.
+#[test]
+fn an_edit_changes_its_own_line_alone() {
+    let file = String::from_utf8(YEAST.to_vec()).unwrap();
+    let old: Vec<Break> = judge_all(YEAST).unwrap().breaks().collect();
+    for (cell, text) in [
+        ("Y1", ""),
+        ("Y1", "null"),
+        ("\t4\n", "\tx\n"),
+        ("db", "\x01"),
+    ] {
+        let edited = file.replacen(cell, text, 1).into_bytes();
+        let at = YEAST.iter().zip(&edited).position(|(a, b)| a != b);
+        let line = lines_of(&YEAST[..=at.unwrap()]);
+        let mut expected: Vec<Break> = old.iter().copied().filter(|at| at.line < line).collect();
+        expected.extend(judge_line_all(&edited, line).unwrap().breaks());
+        expected.extend(old.iter().filter(|at| at.line > line));
+        let new: Vec<Break> = judge_all(&edited).unwrap().breaks().collect();
+        assert_eq!(new, expected, "{cell:?} to {text:?}");
+        assert_ne!(new, old, "{cell:?} to {text:?}");
+    }
 }
 
 #[test]
@@ -655,4 +832,7 @@ fn refusals_have_their_numbers_and_words() {
         assert_eq!(refusal.number(), number);
         assert!(!refusal.to_string().is_empty());
     }
+    // One number for both.
+    let words = "there is no such row, or no such line";
+    assert_eq!(Refusal::NoRow.to_string(), words);
 }

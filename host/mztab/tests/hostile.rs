@@ -1,7 +1,7 @@
 //! Hostile files of 16 MB, each on a thread with a stack of 2 MB: the count of breaks is right and no call needs more. Under an emulator, which is slow,
 //! they are of 1 MB.
 
-use mztab::{cell, judge, reading, rows, weights, Refusal, LIMIT};
+use mztab::{cell, judge, judge_line, reading, rows, weights, Refusal, LIMIT};
 use samples::{hostile, Hostile};
 
 const STACK: usize = 2 * 1024 * 1024;
@@ -51,6 +51,26 @@ fn every_call(sample: &Hostile) {
     let accepted = sample.breaks == 0;
     let expected = Some(Refusal::NotAccepted).filter(|_| !accepted);
     assert_eq!(weighed.err(), expected, "{}", sample.name);
+    lines(sample);
+}
+
+/// The last line and one in the middle, each judged by itself, and the line after the last, which is none.
+fn lines(sample: &Hostile) {
+    let (file, name) = (&sample.file, sample.name);
+    let ends = file.iter().filter(|byte| **byte == b'\n').count() as u32;
+    let last = match file.last() {
+        Some(b'\n') => ends,
+        _ => ends + 1,
+    };
+    for line in [last, (last + 1) / 2] {
+        let judged = judge_line(file, line, 1_000).expect(name);
+        assert!(judged.count <= sample.breaks, "{name}");
+        let listed = judged.breaks().len();
+        assert_eq!(listed, 1_000.min(judged.count as usize), "{name}");
+        assert!(judged.breaks().all(|at| at.line == line), "{name}");
+    }
+    let after = judge_line(file, last + 1, 1_000);
+    assert_eq!(after, Err(Refusal::NoRow), "{name}");
 }
 
 #[test]
