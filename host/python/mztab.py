@@ -8,6 +8,10 @@
     print(mztab.reading(data, mztab.PROTEIN, 2, 5).value)
     print(mztab.rows(data, mztab.PROTEIN))
 
+of one line, judged under the whole file, which is all that the edit of one cell of a row can change
+
+    print(mztab.judge_line(data, 8))
+
 and of an accepted file, with study variables, a fee in cents over them
 
     data = open("fee.mztab", "rb").read()
@@ -55,7 +59,7 @@ class NoSection(Refusal):
 
 
 class NoRow(Refusal):
-    """The section has no such row."""
+    """There is no such row, or no such line."""
 
     number = 3
 
@@ -158,6 +162,8 @@ def _typed(library):
     library.mztab_reading.restype = u32
     library.mztab_judge.argtypes = file + [u32_place, size, u32_place]
     library.mztab_judge.restype = u32
+    library.mztab_judge_line.argtypes = file + [u32, u32_place, size, u32_place]
+    library.mztab_judge_line.restype = u32
     library.mztab_rows.argtypes = file + [u32, u32_place]
     library.mztab_rows.restype = u32
     library.mztab_weights.argtypes = file + [u32_place, size, u32_place]
@@ -213,20 +219,45 @@ def count(data: bytes) -> int:
 def judge(data: bytes, most: Optional[int] = None) -> List[Break]:
     """The breaks of a file, none for an accepted one: all of them, or the first `most`. By line, then cell, then rule. Raises TooLong."""
     data = _bytes(data)
+    return _listed(lambda room: _judge(data, room), most)
+
+
+def judge_line(data: bytes, line: int, most: Optional[int] = None) -> List[Break]:
+    """The breaks of one line, judged under the whole file: all of them, or the first `most`. By cell, then rule.
+
+    They are those that `judge` reports on that line. Lines are 1 to N: what rules 21 and 22 report stands on line N + 1, which is none. Where bytes other
+    than tab, CR and LF take the place of one cell of a row, from cell 2 on, the breaks on all other lines, line N + 1 included, stay the same. Raises
+    TooLong, NoRow, in this order.
+    """
+    data, line = _bytes(data), _whole("lines", line, _U32_MAX)
+    return _listed(lambda room: _judge_line(data, line, room), most)
+
+
+def _listed(judge_with, most: Optional[int]) -> List[Break]:
+    """The first breaks, all or `most`, of a call that answers their count and a list with room for some; a longer list is made only where it is needed."""
     room = _FIRST_LIST if most is None else min(most, _FIRST_LIST)
-    found, places = _judge(data, room)
+    found, places = judge_with(room)
     wanted = found if most is None else min(most, found)
     if wanted > room:
-        found, places = _judge(data, wanted)
+        found, places = judge_with(wanted)
     return [Break(places[k + 1], places[k + 2], places[k], places[k + 3]) for k in range(0, 4 * wanted, 4)]
 
 
 def _judge(data: bytes, room: int):
     """The count of all breaks, and a list with room for some of them."""
+    return _filled(room, lambda places, number: _library.mztab_judge(data, len(data), places, 4 * room, number))
+
+
+def _judge_line(data: bytes, line: int, room: int):
+    """The same of one line."""
+    return _filled(room, lambda places, number: _library.mztab_judge_line(data, len(data), line, places, 4 * room, number))
+
+
+def _filled(room: int, call):
+    """What a judging call answers, and the list that it fills."""
     # A list of no length would have no address of its own, so one place more is made than is lent.
-    places = (ctypes.c_uint32 * (4 * room + 1))()
-    number = ctypes.c_uint32()
-    found = _library.mztab_judge(data, len(data), places, 4 * room, number)
+    places, number = (ctypes.c_uint32 * (4 * room + 1))(), ctypes.c_uint32()
+    found = call(places, number)
     _refuse(number.value)
     return found, places
 

@@ -8,6 +8,7 @@ import pathlib
 import random
 import struct
 import unittest
+import unittest.mock
 
 import mztab
 
@@ -146,6 +147,105 @@ class Judging(unittest.TestCase):
         with concurrent.futures.ThreadPoolExecutor(8) as pool:
             for found in pool.map(mztab.judge, [YEAST, ACCEPTED] * 100):
                 self.assertIn(len(found), (0, 6))
+
+
+class Lines(unittest.TestCase):
+    """One line, judged under the whole file."""
+
+    def test_the_papers_example(self):
+        self.assertEqual([mztab.judge_line(YEAST, line) for line in (6, 7, 8, 9)], [[], [(7, 6, 15, 0)], [(8, 6, 19, 0)], [(9, 2, 20, 0)]])
+        self.assertEqual(mztab.judge_line(YEAST, 8)[0], mztab.Break(line=8, cell=6, rule=19, first=0))
+
+    def lines_of(self, file):
+        """How many lines a file has: bytes after the last LF are one if there are any."""
+        return file.count(b"\n") + (not file.endswith(b"\n") and file != b"")
+
+    def test_all_lines_make_the_list(self):
+        again = b"MTD\ttitle\ta\r\nMTD\ttitle\tb\nSMH\tidentifier\tcharge\tcharge\nSML\t\t2+\t1\nSMH\n\nMTD\tx\ta"
+        for file in (YEAST, ACCEPTED, EXPONENTS, FEE, again, b"", b"x", b"\n", b"\r"):
+            last = self.lines_of(file)
+            found = [fault for line in range(1, last + 1) for fault in mztab.judge_line(file, line)]
+            after = [fault for fault in mztab.judge(file) if fault.line > last]
+            self.assertEqual(found + after, mztab.judge(file), file)
+
+    def test_an_edit_of_one_cell(self):
+        # The breaks of all other lines, and those of the line after the last, stay the same.
+        for old, new, line in [(b"Y1", b"", 8), (b"\t\n", b"\t3\n", 8), (b"\tnull\tx", b"\tY2\tx", 9), (b"4\n", b"x\n", 9)]:
+            edited = YEAST.replace(old, new, 1)
+            self.assertNotEqual(mztab.judge_line(edited, line), mztab.judge_line(YEAST, line))
+            others = [fault for fault in mztab.judge(YEAST) if fault.line != line]
+            self.assertEqual(mztab.judge(edited), sorted(others + mztab.judge_line(edited, line)))
+
+    def test_the_first_breaks(self):
+        names = b"".join(b"\topt_%d" % k for k in range(253))
+        file = b"SMH\tidentifier\tcharge" + names + b"\nSML" + b"\t" * 255
+        found = [(2, cell, 19, 0) for cell in range(2, 257)]
+        self.assertEqual(mztab.judge_line(file, 2), found)
+        for most in (0, 1, 254, 255, 256, 10_000):
+            self.assertEqual(mztab.judge_line(file, 2, most), found[:most])
+
+    def test_a_list_that_is_too_short(self):
+        lent = []
+
+        def judge_with(room):
+            lent.append(room)
+            return 5_000, list(range(4 * room))
+
+        self.assertEqual(len(mztab._listed(judge_with, None)), 5_000)
+        self.assertEqual(lent, [4_096, 5_000])
+
+    def test_refusals_in_their_order(self):
+        for file, line, kind in [
+            (LONG, 0, mztab.TooLong),
+            (LONG, 1, mztab.TooLong),
+            (YEAST, 0, mztab.NoRow),
+            (YEAST, 10, mztab.NoRow),
+            (YEAST, 2**32 - 1, mztab.NoRow),
+            (YEAST, 2**32 + 8, mztab.NoRow),
+            (YEAST, 2**100, mztab.NoRow),
+            (b"", 0, mztab.NoRow),
+            (b"", 1, mztab.NoRow),
+        ]:
+            for most in (None, 0, 1):
+                with self.assertRaises(kind) as caught:
+                    mztab.judge_line(file, line, most)
+                self.assertEqual(caught.exception.number, kind.number)
+        with self.assertRaises(mztab.NoRow) as caught:
+            mztab.judge_line(YEAST, 10)
+        self.assertEqual(str(caught.exception), "There is no such row, or no such line.")
+
+    def test_what_is_no_line(self):
+        with self.assertRaises(ValueError):
+            mztab.judge_line(YEAST, -1)
+        for file, line in [(YEAST, 1.0), (YEAST, "8"), (YEAST, None), ("text", 1)]:
+            with self.assertRaises(TypeError):
+                mztab.judge_line(file, line)
+
+    def test_bytes_of_other_sorts(self):
+        self.assertEqual(mztab.judge_line(bytearray(YEAST), 8), mztab.judge_line(YEAST, 8))
+        self.assertEqual(mztab.judge_line(memoryview(YEAST), 8), mztab.judge_line(YEAST, 8))
+
+    def test_many_at_once(self):
+        with concurrent.futures.ThreadPoolExecutor(8) as pool:
+            for found in pool.map(mztab.judge_line, [YEAST] * 100, [8] * 100):
+                self.assertEqual(found, [(8, 6, 19, 0)])
+
+    def test_a_library_without_the_call(self):
+        class Call:
+            pass
+
+        class Earlier:
+            """The calls of the version before, each of which can be given its types."""
+
+            def __init__(self):
+                for name in ("cell", "cell_or", "reading", "judge", "rows", "weights", "add_cents", "split_fee"):
+                    setattr(self, "mztab_" + name, Call())
+
+        with self.assertRaises(AttributeError):
+            mztab._typed(Earlier())
+        with unittest.mock.patch("ctypes.CDLL", lambda path: Earlier()):
+            with self.assertRaisesRegex(ImportError, r"is of an earlier version \(.*mztab_judge_line.*\): run \./build"):
+                mztab._load()
 
 
 class Cells(unittest.TestCase):
@@ -408,7 +508,7 @@ class Readme(unittest.TestCase):
         self.addCleanup(os.chdir, folder)
         os.chdir(ROOT)  # the calls name examples/
         calls = [line for line in (ROOT / "README.md").read_text().splitlines() if line.startswith("    mztab.")]
-        self.assertEqual(len(calls), 2)
+        self.assertEqual(len(calls), 3)
         for call in calls:
             code, answer = call.strip().split("  # ")
             found = repr(eval(code, {"mztab": mztab, "open": open}))
