@@ -25,6 +25,28 @@ pub fn coloured() -> bool {
     is_terminal(OUTPUT) && !dumb && env::var_os("NO_COLOR").map_or(true, |word| word.is_empty())
 }
 
+/// What begins a colour, and what ends it; no byte where nothing is coloured.
+pub struct Colours {
+    pub bold: &'static str,
+    pub yellow: &'static str,
+    pub green: &'static str,
+    pub red: &'static str,
+    pub plain: &'static str,
+}
+
+impl Colours {
+    pub fn new(coloured: bool) -> Colours {
+        let code = |code| if coloured { code } else { "" };
+        Colours {
+            bold: code("\x1b[1m"),
+            yellow: code("\x1b[33m"),
+            green: code("\x1b[32m"),
+            red: code("\x1b[31m"),
+            plain: code("\x1b[0m"),
+        }
+    }
+}
+
 /// Writes a line to standard error. Where nobody reads it, nothing is lost.
 pub fn say(words: &str) {
     let _ = writeln!(io::stderr(), "{words}");

@@ -5,6 +5,7 @@ use std::io::{self, Write};
 
 use crate::files::Unread;
 use crate::output::show::{count, counted};
+use crate::output::terminal::{self, Colours};
 use crate::output::told::Told;
 
 #[derive(Clone, Copy, PartialEq, Eq)]
@@ -74,6 +75,25 @@ impl Sum {
 }
 
 impl Format {
+    /// The words for them, as `--format` takes them.
+    pub const NAMES: [&'static str; 3] = ["text", "csv", "json"];
+
+    /// The one that such a word names.
+    pub fn named(name: &str) -> Format {
+        match name {
+            "csv" => Format::Csv,
+            "json" => Format::Json,
+            _ => Format::for_people(),
+        }
+    }
+
+    /// Text, coloured where standard output is to be.
+    pub fn for_people() -> Format {
+        Format::Text {
+            coloured: terminal::coloured(),
+        }
+    }
+
     /// What stands before the first file.
     pub fn opening(self) -> &'static str {
         match self {
@@ -147,7 +167,8 @@ impl Format {
     }
 }
 
-fn summary(breaks: u32, shown: usize) -> String {
+/// How many breaks there are, and how many of them are shown.
+pub fn summary(breaks: u32, shown: usize) -> String {
     let all = counted(u64::from(breaks), "break");
     match (breaks, shown) {
         (0, _) => "accepted".to_string(),
@@ -161,11 +182,12 @@ fn summary(breaks: u32, shown: usize) -> String {
 
 /// `FILE:LINE:CELL: rule N: words: the cell, detail`
 fn text(name: &str, told: &Told, coloured: bool, out: &mut dyn Write) -> io::Result<()> {
-    let (bold, yellow, plain) = if coloured {
-        ("\x1b[1m", "\x1b[33m", "\x1b[0m")
-    } else {
-        ("", "", "")
-    };
+    let Colours {
+        bold,
+        yellow,
+        plain,
+        ..
+    } = Colours::new(coloured);
     let at = told.at;
     write!(
         out,

@@ -10,9 +10,12 @@ pub const ALL: &str = "\
 bolfrake judges mzTab 1.0 files: exactly which rules a file breaks, and where.
 
   bolfrake check FILE|DIR...                every break, with its place and the cell that stands there
+  bolfrake check --line N FILE              the breaks of one line
   bolfrake rows FILE|DIR...                 rows and columns of each section, and how many rows break a rule
   bolfrake cell FILE SECTION ROW COLUMN     a cell, as the very bytes that stand there
   bolfrake read FILE SECTION ROW COLUMN     a cell read as a number, exactly
+  bolfrake edit FILE SECTION ROW COLUMN TEXT
+                                            what a text in place of a cell would change; -o NEW writes the edited copy
   bolfrake fee FILE AMOUNT                  a fee split over the study variables of a file, to the cent
   bolfrake explain RULE                     what breaks a rule, an example, and how to mend the file
 
@@ -22,12 +25,14 @@ FILE may be - for standard input. Of a folder every file is taken whose name end
 the folders in it the same, sorted by name; links to folders are not followed. A file that is named itself is taken
 whatever its name.
 
-Exit status: 0 done, and every file accepted; 1 a file breaks a rule, or there is no such section, row or cell, or no
-weight to split a fee by; 2 a file cannot be read or is longer than 16,777,216 bytes, or the words were not understood.
+Exit status: 0 done, and every file accepted; 1 a file breaks a rule, or there is no such section, row, cell or
+line, or no weight to split a fee by; 2 a file cannot be read or written or is longer than 16,777,216 bytes, or the words
+were not understood.
 ";
 
 const CHECK: &str = "\
 bolfrake check [--format text|csv|json] [--max N] FILE|DIR...
+bolfrake check --line N [--format text|csv|json] [--max N] FILE
 
 Judges each file by the 24 rules and prints each break as
 
@@ -47,9 +52,14 @@ do not print are shown as \\xNN, a backslash as \\\\, and what does not fit is c
   --format json   one document: files, each with its breaks, and the summary; a break has first as in CSV
   --max N         print the first N breaks of each file; the counts are still of all (the default prints all of them,
                   and takes 16 bytes of memory for each)
+  --line N        judge line N of one file alone, as the whole file asks of it, and print its breaks in the same form, then
+                  FILE: line N: 2 breaks, or FILE: line N breaks no rule. What the whole file lacks, rules 21 and 22, is
+                  on no line of it. JSON is then one document: file, line, status (keeps: the line breaks no rule;
+                  breaks: it does), count, shown and breaks
 
 Files are judged on all cores; what is printed is in the order of the arguments. `bolfrake explain N` explains rule N.
-Exit status: 0 every file accepted; 1 breaks; 2 a file that cannot be read or is too long.
+Exit status: 0 every file accepted, or the line breaks no rule; 1 breaks, or no such line; 2 a file that cannot be read or
+is too long.
 ";
 
 const ROWS: &str = "\
@@ -86,6 +96,31 @@ ten to the power. 1.2E-5 is printed as decimal 1.2e-5, numerals 12, power -6. A 
 exponent, or a power that is not -22 to 22.
 
 Exit status: 0 read; 1 no such section, row or cell; 2 a file that cannot be read or is too long.
+";
+
+const EDIT: &str = "\
+bolfrake edit [--format text|csv|json] [-o NEW [--force]] FILE SECTION ROW COLUMN TEXT
+
+Says what the edit of one cell changes: TEXT in place of the cell, found as by `bolfrake cell`. Nothing is written unless -o
+says where. Prints where the cell stands and what becomes of it, each break of its line marked as gone, stays or new, and
+how many the line had and has. No other line's breaks change, nor what the whole file lacks (rules 21 and 22): that is
+proved of every edit of one cell of a row, so the one line alone is judged.
+
+  ROW             from 1 on: an edit of a header can change what every row below it is judged by, and is refused
+  TEXT            any bytes but tab, CR and LF. In quotation marks where it has a space or is to be empty; after -- where it
+                  begins with a minus and is no number
+  -o NEW          write the edited copy to the file NEW: the whole of it, or nothing is changed. - is standard output, and
+                  what is printed is then on standard error
+  --force         write over NEW where it exists, FILE itself too, and keep its permissions
+  --format text   as above (the default)
+  --format csv    a line for each break: change (gone, stays or new), and then as `bolfrake check` has it; the rest is on
+                  standard error
+  --format json   one document: file, line, cell, column (its name; null where no header of the row's section is nearest
+                  above it, or that has no such column), old, new, both whole, breaks_before, breaks_after, each as
+                  `bolfrake check` has them, and written (the name of NEW, or null)
+
+Exit status: 0 the edited line breaks no rule; 1 it breaks one, or there is no such section, row or cell, or the edit is
+refused; 2 a file that cannot be read or written or is too long, or words that are not understood.
 ";
 
 const FEE: &str = "\
@@ -133,6 +168,7 @@ pub fn of(command: &str) -> &'static str {
         "rows" => ROWS,
         "cell" => CELL,
         "read" => READ,
+        "edit" => EDIT,
         "fee" => FEE,
         "explain" => EXPLAIN,
         _ => ALL,

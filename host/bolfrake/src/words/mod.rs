@@ -68,7 +68,7 @@ impl Words {
         Ok(plain)
     }
 
-    /// The next word; `--name=value` gives the option, and its value next. `-` and `--` are plain, and so is a negative number, with a dot or without.
+    /// The next word; `--name=value` gives the option, and its value next. `-` and `--` are plain, and so is a negative number: a minus and a digit, or a dot.
     fn next(&mut self) -> Option<Word> {
         let word = self.left.pop_front()?;
         let text = match word.to_str() {
@@ -77,8 +77,7 @@ impl Words {
             }
             _ => return Some(Word::Plain(word)),
         };
-        let of_number = |byte: u8| byte.is_ascii_digit() || byte == b'.';
-        if text[1..].bytes().all(of_number) {
+        if text[1..].starts_with(|c: char| c.is_ascii_digit() || c == '.') {
             return Some(Word::Plain(word));
         }
         match text.split_once('=') {

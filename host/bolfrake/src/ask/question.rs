@@ -1,110 +1,23 @@
-//! `bolfrake cell` and `bolfrake read`: one cell of one file.
+//! Which cell of which file is meant, and what is said where there is none.
 
 use std::ffi::OsString;
-use std::io::{self, Write};
-use std::os::unix::ffi::OsStringExt;
 
 use mztab::format::SECTIONS;
-use mztab::{Refusal, Value};
+use mztab::Refusal;
 
 use crate::files::tables;
 use crate::files::{self, Unread};
 use crate::output::show;
 use crate::words::failure::Failure;
-use crate::words::{misused, number, Words};
+use crate::words::{misused, number};
 
 /// Which cell of which file.
-struct Question {
-    name: String,
-    file: Vec<u8>,
-    section: u32,
-    row: u32,
-    column: u32,
-}
-
-/// Prints the cell's bytes, or what stands in where it is `null`, and a line end.
-pub fn cell(words: Words) -> Result<u8, Failure> {
-    let mut stand_in: Option<OsString> = None;
-    let plain = words.sort(|name, words| {
-        if name != "--or" {
-            return Ok(false);
-        }
-        stand_in = Some(words.value(name)?);
-        Ok(true)
-    })?;
-    let asked = question("cell", plain)?;
-    let stand_in = stand_in.map_or(b"null".to_vec(), OsString::into_vec);
-    let shown = mztab::cell_or(
-        &asked.file,
-        asked.section,
-        asked.row,
-        asked.column,
-        &stand_in,
-    );
-    let shown = shown.map_err(|refusal| asked.refused(refusal))?;
-    let mut output = io::stdout().lock();
-    output.write_all(shown)?;
-    output.write_all(b"\n")?;
-    output.flush()?;
-    Ok(0)
-}
-
-/// Prints where the cell stands and what it reads as.
-pub fn read(words: Words) -> Result<u8, Failure> {
-    let plain = words.sort(|_, _| Ok(false))?;
-    let asked = question("read", plain)?;
-    let reading = mztab::reading(&asked.file, asked.section, asked.row, asked.column);
-    let reading = reading.map_err(|refusal| asked.refused(refusal))?;
-    let line = format!(
-        "{}:{}:{}: {}\n",
-        asked.name,
-        reading.line,
-        reading.cell,
-        said(&reading.value)
-    );
-    io::stdout().write_all(line.as_bytes())?;
-    Ok(0)
-}
-
-/// A reading in words.
-fn said(value: &Value) -> String {
-    match value {
-        Value::Missing => "missing".to_string(),
-        Value::Whole(value) => format!("whole {value}"),
-        Value::Decimal {
-            numerals,
-            power,
-            double,
-        } => format!("decimal {double:?}, numerals {numerals}, power {power}"),
-        Value::Infinite => "infinite".to_string(),
-        Value::NotANumber => "not a number".to_string(),
-        Value::LongDecimal => "long decimal".to_string(),
-        Value::Text => "text".to_string(),
-    }
-}
-
-fn question(command: &str, words: Vec<OsString>) -> Result<Question, Failure> {
-    let [file, section, row, column]: [OsString; 4] = match words.try_into() {
-        Ok(four) => four,
-        Err(_) => return Err(misused(command, "takes FILE SECTION ROW COLUMN")),
-    };
-    let section = tables::section(&section).ok_or_else(|| {
-        let shown = section.to_string_lossy();
-        misused(
-            command,
-            &format!("knows the sections {}, and not `{shown}`", every_section()),
-        )
-    })?;
-    let row = number(command, "ROW", &row)?;
-    let column = number(command, "COLUMN", &column)?;
-    let (name, file) = files::one(file)?;
-    Ok(Question {
-        name,
-        file,
-        section,
-        row,
-        column,
-    })
+pub struct Question {
+    pub name: String,
+    pub file: Vec<u8>,
+    pub section: u32,
+    pub row: u32,
+    pub column: u32,
 }
 
 fn every_section() -> String {
@@ -116,8 +29,30 @@ fn every_section() -> String {
 }
 
 impl Question {
+    /// FILE SECTION ROW COLUMN, as the words of a command have them. The file is read.
+    pub fn new(command: &str, words: [OsString; 4]) -> Result<Question, Failure> {
+        let [file, section, row, column] = words;
+        let section = tables::section(&section).ok_or_else(|| {
+            let shown = section.to_string_lossy();
+            misused(
+                command,
+                &format!("knows the sections {}, and not `{shown}`", every_section()),
+            )
+        })?;
+        let row = number(command, "ROW", &row)?;
+        let column = number(command, "COLUMN", &column)?;
+        let (name, file) = files::one(file)?;
+        Ok(Question {
+            name,
+            file,
+            section,
+            row,
+            column,
+        })
+    }
+
     /// The refusal in words, with what there is to ask for.
-    fn refused(&self, refusal: Refusal) -> Failure {
+    pub fn refused(&self, refusal: Refusal) -> Failure {
         let words = match refusal {
             Refusal::TooLong => {
                 return Failure::Stopped(format!("{} {}", self.name, Unread::TooLong))
@@ -227,29 +162,5 @@ mod tests {
         );
         let words = asked(2, 1).refused(Refusal::NoCell).to_string();
         assert_eq!(words, "row 2 of section protein has no column 1, it has none: its line has the line code alone");
-    }
-
-    #[test]
-    fn readings_in_words() {
-        for (numerals, power, double, expected) in [
-            (
-                -12_340,
-                -3,
-                -12.34,
-                "decimal -12.34, numerals -12340, power -3",
-            ),
-            (0, -1, -0.0, "decimal -0.0, numerals 0, power -1"),
-            (12, -6, 1.2e-5, "decimal 1.2e-5, numerals 12, power -6"),
-            (3, 2, 300.0, "decimal 300.0, numerals 3, power 2"),
-            (-7, 22, -7e22, "decimal -7e22, numerals -7, power 22"),
-        ] {
-            let decimal = Value::Decimal {
-                numerals,
-                power,
-                double,
-            };
-            assert_eq!(said(&decimal), expected);
-        }
-        assert_eq!(said(&Value::Whole(-7)), "whole -7");
     }
 }

@@ -1,5 +1,7 @@
 //! `bolfrake check`: judges files on all cores and prints their breaks.
 
+mod line;
+
 use std::io::{self, Write};
 
 use mztab::Judged;
@@ -17,19 +19,23 @@ use crate::words::{self, Words};
 struct Options {
     format: Format,
     most: usize,
+    /// The one line that is asked for.
+    line: Option<u32>,
     /// Read from the document once, for all files.
     titles: Titles,
 }
 
 pub fn run(words: Words) -> Result<u8, Failure> {
     let mut options = Options {
-        format: Format::Text {
-            coloured: terminal::coloured(),
-        },
+        format: Format::for_people(),
         most: usize::MAX,
+        line: None,
         titles: Titles::new(),
     };
     let plain = words.sort(|name, words| option(name, words, &mut options))?;
+    if let Some(line) = options.line {
+        return line::run(line, plain, &options);
+    }
     let sources = files::named("check", plain)?;
     let sum = judge_all(&sources, &options)?;
     if options.format == Format::Csv {
@@ -40,11 +46,10 @@ pub fn run(words: Words) -> Result<u8, Failure> {
 
 fn option(name: &str, words: &mut Words, options: &mut Options) -> Result<bool, Failure> {
     match name {
-        "--format" => match words.choice(name, &["text", "csv", "json"])? {
-            "csv" => options.format = Format::Csv,
-            "json" => options.format = Format::Json,
-            _ => {}
-        },
+        "--format" => options.format = Format::named(words.choice(name, &Format::NAMES)?),
+        "--line" => {
+            options.line = Some(words::number("check", "N of --line", &words.value(name)?)?)
+        }
         "--max" => {
             options.most = words::number("check", "N of --max", &words.value(name)?)? as usize
         }
