@@ -2,9 +2,11 @@
 
 mod common;
 
+use std::ffi::OsStr;
 use std::fs;
 use std::io::Write;
-use std::os::unix::fs::symlink;
+use std::os::unix::ffi::OsStrExt;
+use std::os::unix::fs::{symlink, PermissionsExt};
 use std::path::PathBuf;
 use std::process::{Command, Stdio};
 
@@ -35,6 +37,16 @@ impl Folder {
         fs::create_dir_all(path.parent().unwrap()).unwrap();
         fs::write(path, bytes).unwrap();
         self
+    }
+
+    /// The names in it, sorted: hidden ones too.
+    fn names(&self) -> Vec<String> {
+        let entries = fs::read_dir(&self.0).unwrap();
+        let mut names: Vec<String> = entries
+            .map(|entry| entry.unwrap().file_name().into_string().unwrap())
+            .collect();
+        names.sort();
+        names
     }
 
     /// The tool, to be run in this folder.
@@ -876,13 +888,20 @@ fn help_and_wrong_uses() {
         .out
         .contains("bolfrake check FILE|DIR..."));
     assert!(folder.run(&[]).out.contains("Exit status"));
-    for command in ["check", "rows", "cell", "read", "fee", "explain"] {
+    for command in ["check", "rows", "cell", "read", "edit", "fee", "explain"] {
         let run = folder.run(&[command, "--help"]);
         assert!(run.out.starts_with(&format!("bolfrake {command} ")));
+        assert_eq!(run.out, folder.run(&["help", command]).out);
         let run = folder.run(&[command, "--wrong"]);
-        let expected = format!("bolfrake: {command} takes no option `--wrong` (`bolfrake {command} --help` tells how)\n");
+        let hint = match command {
+            "edit" => ": where that is the TEXT, write -- before it",
+            _ => "",
+        };
+        let expected = format!("bolfrake: {command} takes no option `--wrong`{hint} (`bolfrake {command} --help` tells how)\n");
         assert_eq!((run.status, run.out.as_str(), run.error), (2, "", expected));
     }
+    let every = "use check, rows, cell, read, edit, fee or explain";
+    assert!(folder.run(&["frob"]).error.contains(every));
     assert!(folder.run(&["--version"]).out.starts_with("bolfrake 0."));
     // All that name a number of rules name the same.
     for (words, rules) in [
@@ -899,6 +918,20 @@ fn help_and_wrong_uses() {
         &["check", "--format", "xml", "f"],
         &["cell", "f"],
         &["cell", "f", "x", "1", "1"],
+        &["check", "--line"],
+        &["check", "--line", "1"],
+        &["check", "--line", "1", "f", "g"],
+        &["check", "--line", "-1", "f"],
+        &["check", "--line", "x", "f"],
+        &["edit"],
+        &["edit", "f", "1", "1", "1"],
+        &["edit", "f", "1", "1", "1", "two", "words"],
+        &["edit", "f", "x", "1", "1", "a"],
+        &["edit", "f", "1", "x", "1", "a"],
+        &["edit", "f", "1", "1", "-1", "a"],
+        &["edit", "f", "1", "1", "1", "a", "--format", "table"],
+        &["edit", "f", "1", "1", "1", "a", "-o"],
+        &["edit", "f", "1", "1", "1", "a", "--force"],
         &["fee"],
         &["fee", "f"],
         &["fee", "f", "1", "2"],
@@ -922,6 +955,688 @@ fn names_that_look_like_options() {
         folder.run(&["check", "--", "--max"]).out.lines().next(),
         Some("--max: accepted")
     );
+}
+
+/// A header, a row with two breaks, one with none, and one of the wrong width.
+const MOLECULES: &str = "SMH\tidentifier\tcharge\nSML\t\t2+\nSML\tC1\t1\nSML\tC2\n";
+
+#[test]
+fn one_line() {
+    let folder = Folder::new("line");
+    folder.write("l.mztab", headed(MOLECULES));
+    let run = folder.run(&["check", "--line", "11", "l.mztab"]);
+    let expected = "\
+l.mztab:11:2: rule 19: empty cell in a row, in the column `identifier`
+l.mztab:11:3: rule 20: cell not of its column's kind: `2+`, in the column `charge`
+l.mztab: line 11: 2 breaks
+";
+    assert_eq!(
+        (run.status, run.out.as_str(), run.error.as_str()),
+        (1, expected, "")
+    );
+    let run = folder.run(&["check", "l.mztab", "--line=12"]);
+    let expected = "l.mztab: line 12 breaks no rule\n";
+    assert_eq!(
+        (run.status, run.out.as_str(), run.error.as_str()),
+        (0, expected, "")
+    );
+    let run = folder.run(&["check", "--line", "11", "--max", "1", "l.mztab"]);
+    assert_eq!(run.out.lines().count(), 2);
+    assert!(run
+        .out
+        .ends_with("l.mztab: line 11: 2 breaks, of which the first 1 shown\n"));
+    let run = folder.run(&["check", "--line", "11", "--max", "0", "l.mztab"]);
+    let expected = "l.mztab: line 11: 2 breaks, none of them shown\n";
+    assert_eq!((run.status, run.out.as_str()), (1, expected));
+    let run = folder.run_with_input(
+        &["check", "--line", "13", "-"],
+        headed(MOLECULES).as_bytes(),
+    );
+    let expected = "-:13:1: rule 18: row has another number of cells: `SML`, the row has 2 cells, its header 3 cells\n-: line 13: 1 break\n";
+    assert_eq!((run.status, run.out.as_str()), (1, expected));
+}
+
+#[test]
+fn one_line_for_programs() {
+    let folder = Folder::new("line for programs");
+    folder.write("l.mztab", headed(MOLECULES));
+    let run = folder.run(&["check", "--line", "11", "--format", "csv", "l.mztab"]);
+    let expected = "\
+file,line,cell,rule,first,words,shown,detail
+l.mztab,11,2,19,0,empty cell in a row,``,in the column `identifier`
+l.mztab,11,3,20,0,cell not of its column's kind,`2+`,in the column `charge`
+";
+    assert_eq!(
+        (run.status, run.out.as_str(), run.error.as_str()),
+        (1, expected, "l.mztab: line 11: 2 breaks\n")
+    );
+    let run = folder.run(&["check", "--line", "1", "--format", "csv", "l.mztab"]);
+    assert_eq!((run.status, run.out.lines().count()), (0, 1));
+    assert_eq!(run.error, "l.mztab: line 1 breaks no rule\n");
+    let run = folder.run(&["check", "--line=11", "--format=json", "--max=1", "l.mztab"]);
+    let expected = r#"{"file": "l.mztab", "line": 11, "status": "breaks", "count": 2, "shown": 1, "breaks": [
+  {"line": 11, "cell": 2, "rule": 19, "first": 0, "words": "empty cell in a row", "shown": "", "detail": "in the column `identifier`"}]}
+"#;
+    assert_eq!(
+        (run.status, run.out.as_str(), run.error.as_str()),
+        (1, expected, "")
+    );
+    let run = folder.run(&["check", "--line", "12", "--format", "json", "l.mztab"]);
+    let expected = r#"{"file": "l.mztab", "line": 12, "status": "keeps", "count": 0, "shown": 0, "breaks": []}
+"#;
+    assert_eq!((run.status, run.out.as_str()), (0, expected));
+}
+
+#[test]
+fn lines_that_are_not_there() {
+    let folder = Folder::new("no line");
+    folder
+        .write("l.mztab", HEAD)
+        .write("1.mztab", "COM")
+        .write("e.mztab", "");
+    let beside = |name: &str| {
+        format!("; what the whole file lacks, rules 21 and 22, is reported there by `bolfrake check {name}`")
+    };
+    for (name, line, expected) in [
+        (
+            "l.mztab",
+            "0",
+            "l.mztab has no line 0, it has 9 lines: ask for line 1 to 9".to_string(),
+        ),
+        (
+            "l.mztab",
+            "12",
+            "l.mztab has no line 12, it has 9 lines: ask for line 1 to 9".to_string(),
+        ),
+        (
+            "l.mztab",
+            "4294967295",
+            "l.mztab has no line 4294967295, it has 9 lines: ask for line 1 to 9".to_string(),
+        ),
+        (
+            "l.mztab",
+            "10",
+            "l.mztab has no line 10, it has 9 lines: ask for line 1 to 9".to_string()
+                + &beside("l.mztab"),
+        ),
+        (
+            "1.mztab",
+            "2",
+            "1.mztab has no line 2, it has 1 line: ask for line 1".to_string() + &beside("1.mztab"),
+        ),
+        (
+            "e.mztab",
+            "0",
+            "e.mztab has no line 0, it is empty".to_string(),
+        ),
+        (
+            "e.mztab",
+            "1",
+            "e.mztab has no line 1, it is empty".to_string() + &beside("e.mztab"),
+        ),
+    ] {
+        for format in ["text", "csv", "json"] {
+            let run = folder.run(&["check", "--line", line, "--format", format, name]);
+            let expected = format!("bolfrake: {expected}\n");
+            assert_eq!((run.status, run.out.as_str(), run.error), (1, "", expected));
+        }
+    }
+}
+
+#[test]
+fn one_line_of_one_file() {
+    let folder = Folder::new("line of one");
+    folder.write("d/l.mztab", HEAD);
+    folder.write("long.mztab", vec![b'\n'; 16_777_217]);
+    for (words, expected) in [
+        (&["d/l.mztab", "d/l.mztab"][..], "check takes one file beside --line, or - for standard input (`bolfrake check --help` tells how)\n"),
+        (&[], "check takes one file beside --line, or - for standard input (`bolfrake check --help` tells how)\n"),
+        (&["d"], "d is a folder: name a file in it\n"),
+        (&["no.mztab"], "no.mztab cannot be read ("),
+        (&["long.mztab"], "long.mztab is longer than 16,777,216 bytes, so it is not judged"),
+    ] {
+        let run = folder.run(&[&["check", "--line", "1"], words].concat());
+        assert_eq!((run.status, run.out.as_str()), (2, ""));
+        assert!(run.error.starts_with(&format!("bolfrake: {expected}")), "{}", run.error);
+    }
+}
+
+/// The lines of a file one by one print what the whole file does, but for its summary and what it lacks.
+#[test]
+fn lines_one_by_one() {
+    let folder = Folder::new("line by line");
+    for (name, file) in [
+        ("i.mztab", headed(BAD_INDICES)),
+        ("a.mztab", headed(COME_AGAIN)),
+        ("q.mztab", QUANTIFIED.replace('\n', "\r\n")),
+    ] {
+        folder.write(name, &file);
+        let lines = file.lines().count();
+        let breaks = |run: Run| -> String {
+            let lines = run.out.lines().filter(|line| line.contains(": rule "));
+            lines.map(|line| format!("{line}\n")).collect()
+        };
+        let mut whole = breaks(folder.run(&["check", name]));
+        if let Some(lacking) = whole.find(&format!("{name}:{}:", lines + 1)) {
+            whole.truncate(lacking);
+        }
+        let each = (1..=lines).map(|line| {
+            let run = folder.run(&["check", "--line", &line.to_string(), name]);
+            assert_eq!(
+                run.status == 0,
+                run.out == format!("{name}: line {line} breaks no rule\n")
+            );
+            breaks(run)
+        });
+        assert_eq!(each.collect::<String>(), whole);
+    }
+}
+
+/// The words of an edit of these molecules: row 1 is on line 11.
+const EDIT: [&str; 4] = ["edit", "m.mztab", "small-molecule", "1"];
+
+/// Runs an edit of row 1 of these molecules.
+fn edited(folder: &Folder, words: &[&str]) -> Run {
+    folder.write("m.mztab", headed(MOLECULES));
+    folder.run(&[&EDIT, words].concat())
+}
+
+#[test]
+fn an_edit() {
+    let folder = Folder::new("edit");
+    let run = edited(&folder, &["2", "1"]);
+    let expected = "\
+m.mztab:11:3: in the column `charge`: `2+` becomes `1`
+  stays  m.mztab:11:2: rule 19: empty cell in a row, in the column `identifier`
+- gone   m.mztab:11:3: rule 20: cell not of its column's kind: `2+`, in the column `charge`
+line 11: 2 breaks before, 1 after; no other line's breaks change
+nothing was written: -o NEW writes the edited copy
+";
+    assert_eq!(
+        (run.status, run.out.as_str(), run.error.as_str()),
+        (1, expected, "")
+    );
+    assert_eq!(
+        fs::read(folder.0.join("m.mztab")).unwrap(),
+        headed(MOLECULES).as_bytes()
+    );
+    // A break that stays is told as it is after the edit; a new one comes in its place.
+    let run = edited(&folder, &["1", "\u{b}"]);
+    let expected = "\
+m.mztab:11:2: in the column `identifier`: an empty cell becomes `\\x0B`
++ new    m.mztab:11:2: rule 1: control byte: `\\x0B`
+- gone   m.mztab:11:2: rule 19: empty cell in a row, in the column `identifier`
+  stays  m.mztab:11:3: rule 20: cell not of its column's kind: `2+`, in the column `charge`
+line 11: 2 breaks before, 2 after; no other line's breaks change
+nothing was written: -o NEW writes the edited copy
+";
+    assert_eq!((run.status, run.out.as_str()), (1, expected));
+    let run = edited(&folder, &["2", "two"]);
+    assert!(run.out.contains("  stays  m.mztab:11:3: rule 20: cell not of its column's kind: `two`, in the column `charge`\n"), "{}", run.out);
+}
+
+#[test]
+fn edits_that_mend_a_line_and_that_break_one() {
+    let folder = Folder::new("edit status");
+    folder.write(
+        "m.mztab",
+        headed(MOLECULES.replacen("\t\t", "\tC0\t", 1).as_str()),
+    );
+    let run = folder.run(&["edit", "m.mztab", "4", "1", "2", "2"]);
+    assert_eq!(run.status, 0);
+    assert!(
+        run.out
+            .contains("\nline 11: 1 break before, none after; no other line's breaks change\n"),
+        "{}",
+        run.out
+    );
+    let run = folder.run(&["edit", "m.mztab", "4", "2", "1", "C9"]);
+    let expected = "\
+m.mztab:12:2: in the column `identifier`: `C1` becomes `C9`
+line 12: no break before, none after; no other line's breaks change
+nothing was written: -o NEW writes the edited copy
+";
+    assert_eq!((run.status, run.out.as_str()), (0, expected));
+    let run = folder.run(&["edit", "m.mztab", "4", "2", "2", ""]);
+    let expected = "\
+m.mztab:12:3: in the column `charge`: `1` becomes an empty cell
++ new    m.mztab:12:3: rule 19: empty cell in a row, in the column `charge`
+line 12: no break before, 1 after; no other line's breaks change
+nothing was written: -o NEW writes the edited copy
+";
+    assert_eq!((run.status, run.out.as_str()), (1, expected));
+    // The text that stands there.
+    let run = folder.run(&["edit", "m.mztab", "4", "2", "2", "1"]);
+    let expected = "\
+m.mztab:12:3: in the column `charge`: `1` stands there already
+line 12: no break before, none after; no other line's breaks change
+nothing was written: -o NEW writes the edited copy
+";
+    assert_eq!((run.status, run.out.as_str()), (0, expected));
+}
+
+#[test]
+fn an_edit_for_programs() {
+    let folder = Folder::new("edit for programs");
+    let run = edited(&folder, &["2", "1", "--format", "csv"]);
+    let expected = "\
+change,file,line,cell,rule,first,words,shown,detail
+stays,m.mztab,11,2,19,0,empty cell in a row,``,in the column `identifier`
+gone,m.mztab,11,3,20,0,cell not of its column's kind,`2+`,in the column `charge`
+";
+    let aside = "\
+m.mztab:11:3: in the column `charge`: `2+` becomes `1`
+line 11: 2 breaks before, 1 after; no other line's breaks change
+nothing was written: -o NEW writes the edited copy
+";
+    assert_eq!(
+        (run.status, run.out.as_str(), run.error.as_str()),
+        (1, expected, aside)
+    );
+    let run = edited(&folder, &["--format=json", "2", "a\"b"]);
+    let expected = r#"{"file": "m.mztab", "line": 11, "cell": 3, "column": "charge", "old": "2+", "new": "a\"b", "breaks_before": [
+  {"line": 11, "cell": 2, "rule": 19, "first": 0, "words": "empty cell in a row", "shown": "", "detail": "in the column `identifier`"},
+  {"line": 11, "cell": 3, "rule": 20, "first": 0, "words": "cell not of its column's kind", "shown": "2+", "detail": "in the column `charge`"}], "breaks_after": [
+  {"line": 11, "cell": 2, "rule": 19, "first": 0, "words": "empty cell in a row", "shown": "", "detail": "in the column `identifier`"},
+  {"line": 11, "cell": 3, "rule": 20, "first": 0, "words": "cell not of its column's kind", "shown": "a\"b", "detail": "in the column `charge`"}], "written": null}
+"#;
+    assert_eq!(
+        (run.status, run.out.as_str(), run.error.as_str()),
+        (1, expected, "")
+    );
+    // A long text is whole in JSON, and cut elsewhere.
+    let long = "x".repeat(100);
+    let run = edited(&folder, &["--format", "json", "1", &long]);
+    assert!(
+        run.out.contains(&format!("\"new\": \"{long}\"")),
+        "{}",
+        run.out
+    );
+    let run = edited(&folder, &["1", &long]);
+    let cut = format!("becomes `{}…`\n", "x".repeat(60));
+    assert!(run.out.contains(&cut), "{}", run.out);
+}
+
+#[test]
+fn edits_under_no_column_name() {
+    let folder = Folder::new("edit nameless");
+    folder.write("n.mztab", "SML\ta\nSMH\tidentifier\tcharge\nSML\ta\tb\tc\n");
+    let run = folder.run(&["edit", "n.mztab", "4", "1", "1", "b"]);
+    let expected = "\
+n.mztab:1:2: under no column name: `a` becomes `b`
+  stays  n.mztab:1:1: rule 17: row not under its own section's header: `SML`
+line 1: 1 break before, 1 after; no other line's breaks change
+";
+    assert!(run.out.starts_with(expected), "{}", run.out);
+    let run = folder.run(&["edit", "n.mztab", "4", "2", "3", "b", "--format", "json"]);
+    assert!(
+        run.out.contains("\"column\": null, \"old\": \"c\","),
+        "{}",
+        run.out
+    );
+}
+
+#[test]
+fn edits_that_are_refused() {
+    let folder = Folder::new("edit refused");
+    folder.write("m.mztab", headed(MOLECULES));
+    let todo = "leave it out, or write a space for it";
+    for (words, expected) in [
+        (["4", "1", "1", "a\tb"], format!("a cell cannot hold a tab, which begins the next cell: {todo}")),
+        (["4", "1", "1", "a\r"], format!("a cell cannot hold a CR, which belongs to a line end: {todo}")),
+        (["4", "1", "1", "\n"], format!("a cell cannot hold an LF, which ends the line: {todo}")),
+        (["4", "0", "1", "a"], "row 0 is a header, and an edit of a header can change what every row below it is judged by: edit the file and run `bolfrake check m.mztab`".to_string()),
+        (["7", "1", "1", "a"], "there is no section 7: ask for 1 protein, 2 peptide, 3 psm, 4 small-molecule".to_string()),
+        (["4", "9", "1", "a"], "m.mztab has no row 9 of section small-molecule, it has 3 rows: ask for row 1 to 3".to_string()),
+        (["psm", "1", "1", "a"], "m.mztab has no row 1 of section psm, it has 0 rows: `bolfrake rows m.mztab` says which sections have rows".to_string()),
+        (["4", "3", "2", "a"], "row 3 of section small-molecule has no column 2, it has 1 column: ask for column 1".to_string()),
+        (["4", "1", "0", "a"], "row 1 of section small-molecule has no column 0, it has 2 columns: ask for column 1 to 2".to_string()),
+    ] {
+        for format in ["text", "csv", "json"] {
+            let run = folder.run(&[&["edit", "-o", "n.mztab", "--format", format, "m.mztab"], &words[..]].concat());
+            let expected = format!("bolfrake: {expected}\n");
+            assert_eq!((run.status, run.out.as_str(), run.error), (1, "", expected));
+        }
+    }
+    assert_eq!(folder.names(), ["m.mztab"]);
+}
+
+#[test]
+fn edits_of_files_that_cannot_be_read() {
+    let folder = Folder::new("edit unread");
+    folder.write("long.mztab", vec![b'\n'; 16_777_217]);
+    for (name, words) in [
+        ("no.mztab", "no.mztab cannot be read ("),
+        (
+            "long.mztab",
+            "long.mztab is longer than 16,777,216 bytes, so it is not judged",
+        ),
+        (".", ". is a folder: name a file in it\n"),
+    ] {
+        let run = folder.run(&["edit", name, "1", "1", "1", "a"]);
+        assert_eq!((run.status, run.out.as_str()), (2, ""));
+        assert!(
+            run.error.starts_with(&format!("bolfrake: {words}")),
+            "{}",
+            run.error
+        );
+    }
+}
+
+#[test]
+fn the_edited_copy() {
+    let folder = Folder::new("edit copy");
+    let after = headed(&MOLECULES.replace("2+", "1"));
+    let read = |name: &str| fs::read_to_string(folder.0.join(name)).unwrap();
+    let run = edited(&folder, &["2", "1", "-o", "n.mztab"]);
+    let words = format!(
+        "no other line's breaks change\nn.mztab was written: {} bytes\n",
+        after.len()
+    );
+    assert!(run.out.ends_with(&words), "{}", run.out);
+    assert_eq!(
+        (run.status, read("n.mztab"), read("m.mztab")),
+        (1, after.clone(), headed(MOLECULES))
+    );
+    // One that exists is refused, and stays.
+    let run = edited(&folder, &["1", "C0", "-o", "n.mztab"]);
+    let exists = "exists: name another file, or say --force to write over it\n";
+    assert_eq!(
+        (run.status, run.out.as_str(), run.error),
+        (2, "", format!("bolfrake: n.mztab {exists}"))
+    );
+    assert_eq!(read("n.mztab"), after);
+    let run = edited(
+        &folder,
+        &["1", "C0", "-o", "n.mztab", "--force", "--format", "json"],
+    );
+    assert!(
+        run.out.ends_with("\"written\": \"n.mztab\"}\n"),
+        "{}",
+        run.out
+    );
+    let other = headed(&MOLECULES.replacen("\t\t", "\tC0\t", 1));
+    assert_eq!((run.status, read("n.mztab")), (1, other));
+    let run = edited(&folder, &["2", "1", "-o", "k.mztab", "--format", "csv"]);
+    assert!(
+        run.error
+            .ends_with(&format!("k.mztab was written: {} bytes\n", after.len())),
+        "{}",
+        run.error
+    );
+    assert_eq!(folder.names(), ["k.mztab", "m.mztab", "n.mztab"]);
+}
+
+#[test]
+fn an_edit_of_the_file_itself() {
+    let folder = Folder::new("edit itself");
+    let run = edited(&folder, &["2", "1", "-o", "m.mztab"]);
+    assert_eq!(
+        (run.status, run.error.as_str()),
+        (
+            2,
+            "bolfrake: m.mztab exists: name another file, or say --force to write over it\n"
+        )
+    );
+    let run = edited(&folder, &["2", "1", "-o", "./m.mztab"]);
+    assert_eq!(run.status, 2);
+    let path = folder.0.join("m.mztab");
+    assert_eq!(fs::read(&path).unwrap(), headed(MOLECULES).as_bytes());
+    for (mode, text) in [(0o640, "1"), (0o444, "2")] {
+        fs::set_permissions(&path, fs::Permissions::from_mode(mode)).unwrap();
+        let run = folder.run(&[&EDIT[..], &["2", text, "-o", "m.mztab", "--force"]].concat());
+        assert_eq!(run.status, 1, "{}", run.error);
+        assert_eq!(
+            fs::read(&path).unwrap(),
+            headed(&MOLECULES.replace("2+", text)).as_bytes()
+        );
+        assert_eq!(
+            fs::metadata(&path).unwrap().permissions().mode() & 0o777,
+            mode
+        );
+    }
+    assert_eq!(folder.names(), ["m.mztab"]);
+}
+
+#[test]
+fn copies_that_cannot_be_written() {
+    let folder = Folder::new("edit unwritten");
+    folder.write("d/x", "");
+    let long = "x".repeat(300);
+    for (new, words) in [
+        ("none/n.mztab", "none/n.mztab cannot be written (No such file or directory (os error 2)): make its folder first, or name another\n".to_string()),
+        ("d/x/n.mztab", "d/x/n.mztab cannot be written (".to_string()),
+        ("d", "d is a folder: name a file in it\n".to_string()),
+        ("", "`` names no file: name one\n".to_string()),
+        (&long, format!("{long} cannot be written (")),
+    ] {
+        for force in [&[][..], &["--force"]] {
+            let run = edited(&folder, &[&["2", "1", "-o", new], force].concat());
+            assert_eq!((run.status, run.out.as_str()), (2, ""));
+            assert!(run.error.starts_with(&format!("bolfrake: {words}")), "{}", run.error);
+        }
+    }
+    assert_eq!(folder.names(), ["d", "m.mztab"]);
+    let run = edited(&folder, &["2", "1", "-o", "/dev/null", "--force"]);
+    assert_eq!(
+        (run.status, run.error.as_str()),
+        (
+            2,
+            "bolfrake: /dev/null is no plain file: name another, or - for standard output\n"
+        )
+    );
+}
+
+#[test]
+fn a_folder_that_cannot_be_written() {
+    let folder = Folder::new("edit closed");
+    folder.write("m.mztab", headed(MOLECULES)).write("d/x", "");
+    let closed = folder.0.join("d");
+    fs::set_permissions(&closed, fs::Permissions::from_mode(0o555)).unwrap();
+    // Whoever may do anything may write there too.
+    if fs::write(closed.join("y"), "").is_err() {
+        for new in ["d/n.mztab", "d/x"] {
+            let run = edited(&folder, &["2", "1", "-o", new, "--force"]);
+            assert_eq!((run.status, run.out.as_str()), (2, ""));
+            let words = format!("bolfrake: {new} cannot be written (Permission denied (os error 13)): ask for leave to write there, or name another folder\n");
+            assert_eq!(run.error, words);
+        }
+        assert_eq!(fs::read_dir(&closed).unwrap().count(), 1);
+    }
+    fs::set_permissions(&closed, fs::Permissions::from_mode(0o755)).unwrap();
+}
+
+#[test]
+fn copies_on_standard_output() {
+    let folder = Folder::new("edit output");
+    let after = headed(&MOLECULES.replace("2+", "1"));
+    let run = edited(&folder, &["2", "1", "-o", "-"]);
+    assert_eq!((run.status, &run.out), (1, &after));
+    let expected = format!("line 11: 2 breaks before, 1 after; no other line's breaks change\nthe edited copy was written to standard output: {} bytes\n", after.len());
+    assert!(run
+        .error
+        .starts_with("m.mztab:11:3: in the column `charge`: `2+` becomes `1`\n"));
+    assert!(run.error.ends_with(&expected), "{}", run.error);
+    // From standard input to standard output.
+    for (format, ending) in [
+        ("csv", expected.as_str()),
+        ("json", "], \"written\": \"-\"}\n"),
+    ] {
+        let words = [
+            "edit", "-", "4", "1", "2", "1", "-o", "-", "--format", format,
+        ];
+        let run = folder.run_with_input(&words, headed(MOLECULES).as_bytes());
+        assert_eq!((run.status, &run.out), (1, &after));
+        assert!(run.error.ends_with(ending), "{}", run.error);
+    }
+    let run = folder.run_with_input(
+        &["edit", "-", "4", "1", "2", "1"],
+        headed(MOLECULES).as_bytes(),
+    );
+    assert!(run
+        .out
+        .starts_with("-:11:3: in the column `charge`: `2+` becomes `1`\n"));
+}
+
+#[test]
+fn edits_of_each_line_end() {
+    let folder = Folder::new("edit line ends");
+    for (file, row, expected) in [
+        (
+            "SMH\tidentifier\tcharge\r\nSML\tC1\tx\r\nSML\tC2\t1\r\n",
+            "1",
+            "SMH\tidentifier\tcharge\r\nSML\tC1\t2\r\nSML\tC2\t1\r\n",
+        ),
+        (
+            "SMH\tidentifier\tcharge\nSML\tC1\tx\nSML\tC2\tx",
+            "2",
+            "SMH\tidentifier\tcharge\nSML\tC1\tx\nSML\tC2\t2",
+        ),
+        (
+            "SMH\tidentifier\tcharge\nSML\tC1\t",
+            "1",
+            "SMH\tidentifier\tcharge\nSML\tC1\t2",
+        ),
+        // One CR belongs to the line end, the other to the cell; at the end of the file a CR belongs to the cell.
+        (
+            "SMH\tidentifier\tcharge\nSML\tC1\t2\r\r\n",
+            "1",
+            "SMH\tidentifier\tcharge\nSML\tC1\t2\r\n",
+        ),
+        (
+            "SMH\tidentifier\tcharge\nSML\tC1\t2\r",
+            "1",
+            "SMH\tidentifier\tcharge\nSML\tC1\t2",
+        ),
+    ] {
+        let run = folder.write("e.mztab", headed(file)).run(&[
+            "edit", "e.mztab", "4", row, "2", "2", "-o", "n.mztab", "--force",
+        ]);
+        assert_eq!(run.status, 0, "{}", run.error);
+        assert_eq!(
+            fs::read_to_string(folder.0.join("n.mztab")).unwrap(),
+            headed(expected)
+        );
+    }
+}
+
+#[test]
+fn edits_of_bytes_that_are_no_text() {
+    let folder = Folder::new("edit bytes");
+    let mut file = headed("SMH\tidentifier\tcharge\nSML\t").into_bytes();
+    file.extend(b"\xff\x80\\\t1\nSML\t\xfe\t1\n");
+    folder.write("b.mztab", &file);
+    let mut command = folder.command(&["edit", "b.mztab", "4", "1", "1"]);
+    command
+        .arg(OsStr::from_bytes(b"\xc3\xb6\xfd"))
+        .args(["-o", "n.mztab"]);
+    let run = Run::of(command.output().unwrap());
+    assert!(
+        run.out.starts_with(
+            "b.mztab:11:2: in the column `identifier`: `\\xFF\\x80\\\\` becomes `\u{f6}\\xFD`\n"
+        ),
+        "{}",
+        run.out
+    );
+    let mut expected = headed("SMH\tidentifier\tcharge\nSML\t").into_bytes();
+    expected.extend(b"\xc3\xb6\xfd\t1\nSML\t\xfe\t1\n");
+    assert_eq!(fs::read(folder.0.join("n.mztab")).unwrap(), expected);
+    // A name of such bytes is written as it is, and shown.
+    let mut command = folder.command(&["edit", "b.mztab", "4", "1", "1", "a", "-o"]);
+    command.arg(OsStr::from_bytes(b"\xff.mztab"));
+    let run = Run::of(command.output().unwrap());
+    assert!(
+        run.out.contains("\n\\xFF.mztab was written: "),
+        "{}",
+        run.out
+    );
+    assert!(folder.0.join(OsStr::from_bytes(b"\xff.mztab")).exists());
+}
+
+#[test]
+fn texts_that_begin_with_a_minus() {
+    let folder = Folder::new("edit minus");
+    for text in ["-5", "-12.50", "-1.2E-5", "-.5", "-5 EUR", "-"] {
+        let run = edited(&folder, &["2", text]);
+        assert!(
+            run.out.starts_with(&format!(
+                "m.mztab:11:3: in the column `charge`: `2+` becomes `{text}`\n"
+            )),
+            "{}",
+            run.error
+        );
+    }
+    for text in ["-INF", "--", "--force", "-h", "-o"] {
+        let run = edited(&folder, &["2", "--", text]);
+        assert!(
+            run.out.contains(&format!(": `2+` becomes `{text}`\n")),
+            "{}",
+            run.error
+        );
+    }
+    let run = edited(&folder, &["2", "-INF"]);
+    assert_eq!((run.status, run.error.as_str()), (2, "bolfrake: edit takes no option `-INF`: where that is the TEXT, write -- before it (`bolfrake edit --help` tells how)\n"));
+}
+
+#[test]
+fn an_edit_of_a_line_of_16_mb() {
+    let folder = Folder::new("edit long");
+    let limit = 16_777_216;
+    let mut file = headed("SMH\tcharge\tidentifier\nSML\t1\t").into_bytes();
+    let start = file.len();
+    file.resize(limit, b'7');
+    folder.write("l.mztab", &file);
+    let words = ["edit", "l.mztab", "4", "1", "2"];
+    let run = folder.run(&[&words[..], &["", "-o", "n.mztab"]].concat());
+    let sevens = "7".repeat(60);
+    let expected = format!("l.mztab:11:3: in the column `identifier`: `{sevens}…` becomes an empty cell\n+ new    l.mztab:11:3: rule 19: ");
+    assert!(run.out.starts_with(&expected), "{}", run.out);
+    assert_eq!(fs::read(folder.0.join("n.mztab")).unwrap(), file[..start]);
+    // A byte more is one too many.
+    let run = folder.run(&["edit", "l.mztab", "4", "1", "1", "12"]);
+    let expected = "bolfrake: l.mztab would have 16,777,217 bytes with this text, more than the 16,777,216 that are judged: take a shorter text, \
+        or write its sections, or parts of its rows, to files of their own\n";
+    assert_eq!(
+        (run.status, run.out.as_str(), run.error.as_str()),
+        (1, "", expected)
+    );
+    let run = folder.run(&["edit", "l.mztab", "4", "1", "1", "2"]);
+    assert_eq!(run.status, 0, "{}", run.error);
+    let run = folder.run(&["check", "--line", "11", "l.mztab"]);
+    assert_eq!(
+        (run.status, run.out.as_str()),
+        (0, "l.mztab: line 11 breaks no rule\n")
+    );
+}
+
+#[test]
+fn colours_of_an_edit() {
+    let folder = Folder::new("edit colour");
+    assert!(!edited(&folder, &["2", "1"]).out.contains('\x1b'));
+    match on_a_terminal(&folder, "edit m.mztab 4 1 1 '\u{b}'") {
+        None => println!("there is no `script` here: colours were not tested"),
+        Some(out) => {
+            let lines: Vec<&str> = out.lines().collect();
+            assert!(
+                lines[0].starts_with("\x1b[1mm.mztab:11:2:\x1b[0m in the column "),
+                "{out}"
+            );
+            assert!(
+                lines[1].starts_with(
+                    "\x1b[31m+ new  \x1b[0m  \x1b[1mm.mztab:11:2:\x1b[0m \x1b[33mrule 1\x1b[0m: "
+                ),
+                "{out}"
+            );
+            assert!(
+                lines[2].starts_with("\x1b[32m- gone \x1b[0m  \x1b[1mm.mztab:11:2:\x1b[0m "),
+                "{out}"
+            );
+            assert!(
+                lines[3].starts_with("  stays  \x1b[1mm.mztab:11:3:\x1b[0m "),
+                "{out}"
+            );
+        }
+    }
 }
 
 const FEE: &str = include_str!("../../../examples/fee.mztab");

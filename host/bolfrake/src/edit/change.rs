@@ -212,7 +212,7 @@ mod tests {
         for case in independent::cases::judging::all() {
             let old: Vec<Break> = mztab::judge_all(&case.file).unwrap().breaks().collect();
             for (section, row, column) in places(&case.file) {
-                for text in [&b""[..], b"null", b"\x01", b"1"] {
+                for text in [&b""[..], b"\x01"] {
                     let change = change(&case.file, section, row, column, text).unwrap();
                     let line = change.line;
                     let mut expected: Vec<Break> =
@@ -228,14 +228,14 @@ mod tests {
                 }
             }
         }
-        assert!(tried > 1_000, "{tried}");
+        assert!(tried > 500, "{tried}");
     }
 
     /// The first cells of the first rows of a file.
     fn places(file: &[u8]) -> Vec<(u32, u32, u32)> {
         let mut places = Vec::new();
         for section in 1..5 {
-            for row in 1..=mztab::rows(file, section).unwrap().min(3) {
+            for row in 1..=mztab::rows(file, section).unwrap().min(2) {
                 let there = |column: &u32| mztab::cell(file, section, row, *column).is_ok();
                 places.extend(
                     (1..9)
