@@ -205,27 +205,24 @@ mod tests {
         assert_eq!(change.old(), b"2+");
     }
 
-    /// Each cell of each row of each case, edited in a few ways: the whole list is the old one with the line's part anew.
+    /// Cells of rows of each case, emptied or filled with a control byte: the whole list is the old one with the line's part anew.
     #[test]
     fn no_other_line_changes() {
         let mut tried = 0;
         for case in independent::cases::judging::all() {
             let old: Vec<Break> = mztab::judge_all(&case.file).unwrap().breaks().collect();
             for (section, row, column) in places(&case.file) {
-                for text in [&b""[..], b"\x01"] {
-                    let change = change(&case.file, section, row, column, text).unwrap();
-                    let line = change.line;
-                    let mut expected: Vec<Break> =
-                        old.iter().copied().filter(|at| at.line < line).collect();
-                    expected.extend(change.after().breaks());
-                    expected.extend(old.iter().filter(|at| at.line > line));
-                    let new: Vec<Break> = mztab::judge_all(change.edited())
-                        .unwrap()
-                        .breaks()
-                        .collect();
-                    assert_eq!(new, expected, "{}", case.label);
-                    tried += 1;
-                }
+                let text = [&b""[..], b"\x01"][tried % 2];
+                let change = change(&case.file, section, row, column, text).unwrap();
+                let line = change.line;
+                let mut expected = old.clone();
+                expected.retain(|at| at.line < line);
+                expected.extend(change.after().breaks());
+                expected.extend(old.iter().filter(|at| at.line > line));
+                let new = mztab::judge_all(change.edited()).unwrap();
+                let new: Vec<Break> = new.breaks().collect();
+                assert_eq!(new, expected, "{}", case.label);
+                tried += 1;
             }
         }
         assert!(tried > 500, "{tried}");
