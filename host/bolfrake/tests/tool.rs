@@ -881,7 +881,7 @@ fn pages() {
 }
 
 #[test]
-fn help_and_wrong_uses() {
+fn help() {
     let folder = Folder::new("help");
     assert!(folder
         .run(&["--help"])
@@ -900,8 +900,6 @@ fn help_and_wrong_uses() {
         let expected = format!("bolfrake: {command} takes no option `--wrong`{hint} (`bolfrake {command} --help` tells how)\n");
         assert_eq!((run.status, run.out.as_str(), run.error), (2, "", expected));
     }
-    let every = "use check, rows, cell, read, edit, fee or explain";
-    assert!(folder.run(&["frob"]).error.contains(every));
     assert!(folder.run(&["--version"]).out.starts_with("bolfrake 0."));
     // All that name a number of rules name the same.
     for (words, rules) in [
@@ -911,6 +909,13 @@ fn help_and_wrong_uses() {
     ] {
         assert!(folder.run(words).out.contains(&rules), "{words:?}");
     }
+}
+
+#[test]
+fn wrong_uses() {
+    let folder = Folder::new("wrong");
+    let every = "use check, rows, cell, read, edit, fee or explain";
+    assert!(folder.run(&["frob"]).error.contains(every));
     for words in [
         &["frob"][..],
         &["check"],
@@ -1030,55 +1035,27 @@ l.mztab,11,3,20,0,cell not of its column's kind,`2+`,in the column `charge`
 #[test]
 fn lines_that_are_not_there() {
     let folder = Folder::new("no line");
-    folder
-        .write("l.mztab", HEAD)
-        .write("1.mztab", "COM")
-        .write("e.mztab", "");
-    let beside = |name: &str| {
-        format!("; what the whole file lacks, rules 21 and 22, is reported there by `bolfrake check {name}`")
-    };
-    for (name, line, expected) in [
-        (
-            "l.mztab",
-            "0",
-            "l.mztab has no line 0, it has 9 lines: ask for line 1 to 9".to_string(),
-        ),
-        (
-            "l.mztab",
-            "12",
-            "l.mztab has no line 12, it has 9 lines: ask for line 1 to 9".to_string(),
-        ),
-        (
-            "l.mztab",
-            "4294967295",
-            "l.mztab has no line 4294967295, it has 9 lines: ask for line 1 to 9".to_string(),
-        ),
-        (
-            "l.mztab",
-            "10",
-            "l.mztab has no line 10, it has 9 lines: ask for line 1 to 9".to_string()
-                + &beside("l.mztab"),
-        ),
-        (
-            "1.mztab",
-            "2",
-            "1.mztab has no line 2, it has 1 line: ask for line 1".to_string() + &beside("1.mztab"),
-        ),
-        (
-            "e.mztab",
-            "0",
-            "e.mztab has no line 0, it is empty".to_string(),
-        ),
-        (
-            "e.mztab",
-            "1",
-            "e.mztab has no line 1, it is empty".to_string() + &beside("e.mztab"),
-        ),
+    folder.write("l.mztab", HEAD);
+    folder.write("1.mztab", "COM").write("e.mztab", "");
+    let nine = "it has 9 lines: ask for line 1 to 9";
+    for (name, line, words, is_after) in [
+        ("l.mztab", "0", nine, false),
+        ("l.mztab", "12", nine, false),
+        ("l.mztab", "4294967295", nine, false),
+        ("l.mztab", "10", nine, true),
+        ("1.mztab", "2", "it has 1 line: ask for line 1", true),
+        ("e.mztab", "0", "it is empty", false),
+        ("e.mztab", "1", "it is empty", true),
     ] {
+        let mut expected = format!("bolfrake: {name} has no line {line}, {words}");
+        if is_after {
+            expected += &format!("; what the whole file lacks, rules 21 and 22, is reported there by `bolfrake check {name}`");
+        }
+        expected += "\n";
         for format in ["text", "csv", "json"] {
             let run = folder.run(&["check", "--line", line, "--format", format, name]);
-            let expected = format!("bolfrake: {expected}\n");
-            assert_eq!((run.status, run.out.as_str(), run.error), (1, "", expected));
+            assert_eq!((run.status, run.out.as_str()), (1, ""));
+            assert_eq!(run.error, expected);
         }
     }
 }
@@ -1244,7 +1221,12 @@ nothing was written: -o NEW writes the edited copy
         (run.status, run.out.as_str(), run.error.as_str()),
         (1, expected, "")
     );
-    // A long text is whole in JSON, and cut elsewhere.
+}
+
+/// A long text is whole in JSON, and cut elsewhere.
+#[test]
+fn an_edit_with_a_long_text() {
+    let folder = Folder::new("edit long text");
     let long = "x".repeat(100);
     let run = edited(&folder, &["--format", "json", "1", &long]);
     assert!(
@@ -1328,43 +1310,33 @@ fn the_edited_copy() {
     let folder = Folder::new("edit copy");
     let after = headed(&MOLECULES.replace("2+", "1"));
     let read = |name: &str| fs::read_to_string(folder.0.join(name)).unwrap();
+    let written = format!("was written: {} bytes\n", after.len());
     let run = edited(&folder, &["2", "1", "-o", "n.mztab"]);
-    let words = format!(
-        "no other line's breaks change\nn.mztab was written: {} bytes\n",
-        after.len()
-    );
+    let words = format!("no other line's breaks change\nn.mztab {written}");
     assert!(run.out.ends_with(&words), "{}", run.out);
-    assert_eq!(
-        (run.status, read("n.mztab"), read("m.mztab")),
-        (1, after.clone(), headed(MOLECULES))
-    );
-    // One that exists is refused, and stays.
-    let run = edited(&folder, &["1", "C0", "-o", "n.mztab"]);
-    let exists = "exists: name another file, or say --force to write over it\n";
-    assert_eq!(
-        (run.status, run.out.as_str(), run.error),
-        (2, "", format!("bolfrake: n.mztab {exists}"))
-    );
-    assert_eq!(read("n.mztab"), after);
-    let run = edited(
-        &folder,
-        &["1", "C0", "-o", "n.mztab", "--force", "--format", "json"],
-    );
-    assert!(
-        run.out.ends_with("\"written\": \"n.mztab\"}\n"),
-        "{}",
-        run.out
-    );
-    let other = headed(&MOLECULES.replacen("\t\t", "\tC0\t", 1));
-    assert_eq!((run.status, read("n.mztab")), (1, other));
+    assert_eq!((run.status, read("n.mztab")), (1, after.clone()));
+    assert_eq!(read("m.mztab"), headed(MOLECULES));
     let run = edited(&folder, &["2", "1", "-o", "k.mztab", "--format", "csv"]);
-    assert!(
-        run.error
-            .ends_with(&format!("k.mztab was written: {} bytes\n", after.len())),
-        "{}",
-        run.error
-    );
+    assert!(run.error.ends_with(&format!("k.mztab {written}")));
+    assert_eq!((run.status, read("k.mztab")), (1, after));
     assert_eq!(folder.names(), ["k.mztab", "m.mztab", "n.mztab"]);
+}
+
+#[test]
+fn a_copy_over_a_file_that_exists() {
+    let folder = Folder::new("edit over");
+    folder.write("n.mztab", "old");
+    let read = |name: &str| fs::read_to_string(folder.0.join(name)).unwrap();
+    let words = ["1", "C0", "-o", "n.mztab", "--format", "json"];
+    let run = edited(&folder, &words);
+    let expected = "bolfrake: n.mztab exists: name another file, or say --force to write over it\n";
+    assert_eq!((run.status, run.error.as_str()), (2, expected));
+    assert_eq!((run.out.as_str(), read("n.mztab").as_str()), ("", "old"));
+    let run = edited(&folder, &[&words[..], &["--force"]].concat());
+    assert!(run.out.ends_with("], \"written\": \"n.mztab\"}\n"));
+    let after = headed(&MOLECULES.replacen("\t\t", "\tC0\t", 1));
+    assert_eq!((run.status, read("n.mztab")), (1, after));
+    assert_eq!(folder.names(), ["m.mztab", "n.mztab"]);
 }
 
 #[test]
@@ -1481,42 +1453,25 @@ fn copies_on_standard_output() {
 #[test]
 fn edits_of_each_line_end() {
     let folder = Folder::new("edit line ends");
-    for (file, row, expected) in [
+    let header = "SMH\tidentifier\tcharge";
+    for (rows, row, expected) in [
         (
-            "SMH\tidentifier\tcharge\r\nSML\tC1\tx\r\nSML\tC2\t1\r\n",
+            "\r\nSML\tC1\tx\r\nSML\tC2\t1\r\n",
             "1",
-            "SMH\tidentifier\tcharge\r\nSML\tC1\t2\r\nSML\tC2\t1\r\n",
+            "\r\nSML\tC1\t2\r\nSML\tC2\t1\r\n",
         ),
-        (
-            "SMH\tidentifier\tcharge\nSML\tC1\tx\nSML\tC2\tx",
-            "2",
-            "SMH\tidentifier\tcharge\nSML\tC1\tx\nSML\tC2\t2",
-        ),
-        (
-            "SMH\tidentifier\tcharge\nSML\tC1\t",
-            "1",
-            "SMH\tidentifier\tcharge\nSML\tC1\t2",
-        ),
+        ("\nSML\tC1\tx\nSML\tC2\tx", "2", "\nSML\tC1\tx\nSML\tC2\t2"),
+        ("\nSML\tC1\t", "1", "\nSML\tC1\t2"),
         // One CR belongs to the line end, the other to the cell; at the end of the file a CR belongs to the cell.
-        (
-            "SMH\tidentifier\tcharge\nSML\tC1\t2\r\r\n",
-            "1",
-            "SMH\tidentifier\tcharge\nSML\tC1\t2\r\n",
-        ),
-        (
-            "SMH\tidentifier\tcharge\nSML\tC1\t2\r",
-            "1",
-            "SMH\tidentifier\tcharge\nSML\tC1\t2",
-        ),
+        ("\nSML\tC1\t2\r\r\n", "1", "\nSML\tC1\t2\r\n"),
+        ("\nSML\tC1\t2\r", "1", "\nSML\tC1\t2"),
     ] {
-        let run = folder.write("e.mztab", headed(file)).run(&[
-            "edit", "e.mztab", "4", row, "2", "2", "-o", "n.mztab", "--force",
-        ]);
+        folder.write("e.mztab", headed(header) + rows);
+        let words = ["edit", "e.mztab", "4", row, "2", "2"];
+        let run = folder.run(&[&words[..], &["-o", "n.mztab", "--force"]].concat());
         assert_eq!(run.status, 0, "{}", run.error);
-        assert_eq!(
-            fs::read_to_string(folder.0.join("n.mztab")).unwrap(),
-            headed(expected)
-        );
+        let found = fs::read_to_string(folder.0.join("n.mztab")).unwrap();
+        assert_eq!(found, headed(header) + expected);
     }
 }
 

@@ -134,44 +134,27 @@ mod tests {
 
     #[test]
     fn what_there_is() {
-        let beside =
-            "; what the whole file lacks, rules 21 and 22, is reported there by `bolfrake check f`";
+        let nine = "it has 9 lines: ask for line 1 to 9";
+        let many = "it has 12,345 lines: ask for line 1 to 12345";
         for (line, lines, words) in [
-            (
-                12,
-                9,
-                "f has no line 12, it has 9 lines: ask for line 1 to 9".to_string(),
-            ),
-            (
-                0,
-                9,
-                "f has no line 0, it has 9 lines: ask for line 1 to 9".to_string(),
-            ),
-            (
-                10,
-                9,
-                format!("f has no line 10, it has 9 lines: ask for line 1 to 9{beside}"),
-            ),
-            (
-                7,
-                1,
-                "f has no line 7, it has 1 line: ask for line 1".to_string(),
-            ),
-            (
-                2,
-                1,
-                format!("f has no line 2, it has 1 line: ask for line 1{beside}"),
-            ),
-            (0, 0, "f has no line 0, it is empty".to_string()),
-            (1, 0, format!("f has no line 1, it is empty{beside}")),
-            (
-                u32::MAX,
-                12_345,
-                "f has no line 4294967295, it has 12,345 lines: ask for line 1 to 12345"
-                    .to_string(),
-            ),
+            (0, 9, nine),
+            (12, 9, nine),
+            (7, 1, "it has 1 line: ask for line 1"),
+            (0, 0, "it is empty"),
+            (2, 0, "it is empty"),
+            (u32::MAX, 12_345, many),
         ] {
-            assert_eq!(no_line("f", line, lines), words);
+            let expected = format!("f has no line {line}, {words}");
+            assert_eq!(no_line("f", line, lines), expected);
+        }
+        for (line, lines, words) in [
+            (10, 9, nine),
+            (2, 1, "it has 1 line: ask for line 1"),
+            (1, 0, "it is empty"),
+        ] {
+            let beside = "what the whole file lacks, rules 21 and 22, is reported there by `bolfrake check f`";
+            let expected = format!("f has no line {line}, {words}; {beside}");
+            assert_eq!(no_line("f", line, lines), expected);
         }
     }
 }

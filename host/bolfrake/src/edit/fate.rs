@@ -45,22 +45,15 @@ pub fn fates(
             (None, Some(_)) => Ordering::Greater,
             (Some(old), Some(new)) => (old.cell, old.rule).cmp(&(new.cell, new.rule)),
         };
-        if order != Ordering::Greater {
-            all.extend(
-                before
-                    .next()
-                    .filter(|_| order == Ordering::Less)
-                    .map(|at| (Fate::Gone, at)),
-            );
-        }
-        if order != Ordering::Less {
-            let fate = if order == Ordering::Equal {
-                Fate::Stays
-            } else {
-                Fate::New
-            };
-            all.extend(after.next().map(|at| (fate, at)));
-        }
+        let (fate, at) = match order {
+            Ordering::Less => (Fate::Gone, before.next()),
+            Ordering::Equal => {
+                before.next();
+                (Fate::Stays, after.next())
+            }
+            Ordering::Greater => (Fate::New, after.next()),
+        };
+        all.extend(at.map(|at| (fate, at)));
     }
 }
 
