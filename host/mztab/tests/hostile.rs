@@ -69,6 +69,13 @@ fn lines(sample: &Hostile) {
         assert_eq!(listed, 1_000.min(judged.count as usize), "{name}");
         assert!(judged.breaks().all(|at| at.line == line), "{name}");
     }
+    // No line has as many breaks as that list, so it holds all of line 1.
+    let listed = judge(file, 1_000).expect(name);
+    let first = judge_line(file, 1, 1_000).expect(name);
+    assert!(
+        first.breaks().eq(listed.breaks().filter(|at| at.line == 1)),
+        "{name}"
+    );
     let after = judge_line(file, last + 1, 1_000);
     assert_eq!(after, Err(Refusal::NoRow), "{name}");
 }

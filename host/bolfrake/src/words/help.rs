@@ -26,8 +26,8 @@ the folders in it the same, sorted by name; links to folders are not followed. A
 whatever its name.
 
 Exit status: 0 done, and every file accepted; 1 a file breaks a rule, or there is no such section, row, cell or
-line, or no weight to split a fee by; 2 a file cannot be read or written or is longer than 16,777,216 bytes, or the words
-were not understood.
+line, or an edit is refused, or there is no weight to split a fee by; 2 a file cannot be read or written or is longer than
+16,777,216 bytes, or the words were not understood.
 ";
 
 const CHECK: &str = "\
@@ -101,24 +101,25 @@ Exit status: 0 read; 1 no such section, row or cell; 2 a file that cannot be rea
 const EDIT: &str = "\
 bolfrake edit [--format text|csv|json] [-o NEW [--force]] FILE SECTION ROW COLUMN TEXT
 
-Says what the edit of one cell changes: TEXT in place of the cell, found as by `bolfrake cell`. Nothing is written unless -o
-says where. Prints where the cell stands and what becomes of it, each break of its line marked as gone, stays or new, and
-how many the line had and has. No other line's breaks change, nor what the whole file lacks (rules 21 and 22): that is
-proved of every edit of one cell of a row, so the one line alone is judged.
+Says what the edit of one cell changes: TEXT in place of the cell, found as by `bolfrake cell`. Nothing is written unless
+-o says where. Prints where the cell stands and what becomes of it, then each break of its line, marked as gone, as one
+that stays, or as new, and how many the line had and has. No other line's breaks change, nor what the whole file lacks
+(rules 21 and 22): that is proved of every edit of one cell of a row, so the one line alone is judged.
 
-  ROW             from 1 on: an edit of a header can change what every row below it is judged by, and is refused
-  TEXT            any bytes but tab, CR and LF. In quotation marks where it has a space or is to be empty; after -- where it
-                  begins with a minus and is no number
-  -o NEW          write the edited copy to the file NEW: the whole of it, or nothing is changed. - is standard output, and
-                  what is printed is then on standard error
-  --force         write over NEW where it exists, FILE itself too, and keep its permissions
+  ROW             from 1 on. The edit of a header is refused: it can change what every row below it is judged by
+  TEXT            any bytes but tab, CR and LF. In quotation marks where it has a space or is to be empty; after -- where
+                  it begins with a minus and is no number
+  -o NEW          write the edited copy to the file NEW: the whole of it, or nothing is changed. - is standard output,
+                  and what is printed is then on standard error
+  --force         write over NEW where it exists, FILE itself too; its permissions are kept
   --format text   as above (the default)
   --format csv    a line for each break: change (gone, stays or new), and then as `bolfrake check` has it; the rest is on
                   standard error
-  --format json   one document: file, line, cell, column (its name; null where no header of the row's section is nearest
-                  above it, or that has no such column), old, new, both whole, breaks_before, breaks_after, each as
-                  `bolfrake check` has them, and written (the name of NEW, or null)
+  --format json   one document: file, line, cell, column (its name; null where the nearest header above is not one of the
+                  row's section, or has no such column), old and new, both whole, breaks_before and breaks_after, each
+                  break as `bolfrake check` has it, and written (the name of NEW, or null)
 
+In a cell, bytes that do not print are shown as \\xNN, a backslash as \\\\.
 Exit status: 0 the edited line breaks no rule; 1 it breaks one, or there is no such section, row or cell, or the edit is
 refused; 2 a file that cannot be read or written or is too long, or words that are not understood.
 ";

@@ -131,3 +131,40 @@ pub fn number(command: &str, what: &str, word: &OsString) -> Result<u32, Failure
         )
     })
 }
+
+#[cfg(test)]
+mod tests {
+    use super::*;
+
+    /// The options and the plain words of a line, `-o` with its value.
+    fn sorted(line: &[&str]) -> (Vec<String>, Vec<String>) {
+        let mut options = Vec::new();
+        let given = line.iter().map(OsString::from).collect();
+        let plain = Words::new(given).sort(|name, words| {
+            options.push(name.to_string());
+            if name == "-o" {
+                options.push(words.value(name)?.into_string().unwrap());
+            }
+            Ok(true)
+        });
+        let text = |word: OsString| word.into_string().unwrap();
+        (options, plain.unwrap().into_iter().map(text).collect())
+    }
+
+    #[test]
+    fn negative_numbers_are_plain() {
+        let numbers = ["-5", "-.5", "-12.50", "-1.2E-5", "-3e2", "-", "5", ""];
+        let line = [&["edit"], &numbers[..]].concat();
+        assert_eq!(sorted(&line), (vec![], numbers.map(String::from).to_vec()));
+        let (options, plain) = sorted(&["edit", "-x", "-INF", "--5", "-"]);
+        assert_eq!(options, ["-x", "-INF", "--5"]);
+        assert_eq!(plain, ["-"]);
+    }
+
+    #[test]
+    fn values_and_what_stands_after_two_minuses() {
+        let (options, plain) = sorted(&["edit", "-o", "-x", "a", "--force", "--", "-o", "--"]);
+        assert_eq!(options, ["-o", "-x", "--force"]);
+        assert_eq!(plain, ["a", "-o", "--"]);
+    }
+}
