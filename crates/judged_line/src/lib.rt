@@ -5,9 +5,11 @@ use judging::calls::begin;
 use line_any::Step;
 use line_any::judge_line;
 use line_head_stamps::ROOM;
+use line_meta::judge_meta;
 use numbers::NO_ROW;
 use rules::sorts::Sort;
 use rules::sorts::sort_of;
+use scan::places::Tag;
 use scan::state::FIRSTS;
 use scan::state::MOST_CELLS;
 use scan::state::State;
@@ -33,8 +35,8 @@ ghost use Rattle.judging.specs.Parts.{beginning};
 ghost use Rattle.judging.specs.Calls.{Going};
 ghost use Rattle.judged_line.specs.Judged.{isLine, judgedLine};
 
-// The state after a line above. A row is not judged: its code alone changes what is carried. Any other line is judged into a list of one place, which holds
-// no break.
+// The state after a line above. Of these none is judged for its own sake: a row changes what is carried by its section, a metadata line by its key, and only a
+// header is judged whole, since what its names are is carried. Breaks go to a list of one place, which holds none.
 fn pass_line(
     step: Step,
     book: &[u8],
@@ -55,13 +57,24 @@ fn pass_line(
     ensures { λ r. ⌜ length (now (stamps .exit)) ≡ room ⌝ }
 {
     let sort = sort_of(book, line);
+    let state = step.state;
+    let mut none = [0u32; 1];
     match sort {
-        Sort::Row(r) => after_row(step.state, r),
-        _ => {
-            let mut none = [0u32; 1];
+        Sort::Silent => state,
+        Sort::Unknown => state,
+        Sort::Meta => {
+            let tag = Tag {
+                line: step.line,
+                control: 0,
+            };
+            judge_meta(&mut none, 0, book, line, tag, false, flags, slots);
+            state
+        }
+        Sort::Header(_) => {
             let next = judge_line(&mut none, step, book, line, flags, kinds, slots, stamps);
             next.state
         }
+        Sort::Row(r) => after_row(state, r),
     }
 }
 
