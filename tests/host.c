@@ -860,6 +860,352 @@ static void firsts(void) {
     group("where it stands first");
 }
 
+/* ---- one line of a file */
+
+enum { AROUND = 8, MOST_BREAKS = 4096 };
+
+static uint32_t lines_of(const uint8_t *f, size_t n) {
+    uint32_t lines = n > 0 && f[n - 1] != '\n';
+    for (size_t k = 0; k < n; k++) lines += f[k] == '\n';
+    return lines;
+}
+
+/* How many breaks of a list stand above a line. */
+static uint32_t above(const uint32_t *places, uint32_t count, uint32_t line) {
+    uint32_t low = 0, high = count;
+    while (low < high) {
+        uint32_t middle = low + (high - low) / 2;
+        if (places[4 * (size_t)middle + 1] < line) low = middle + 1;
+        else high = middle;
+    }
+    return low;
+}
+
+/* The call for one line, into so many places among marked ones. */
+static void line_is(const uint8_t *f, size_t n, uint32_t line, size_t length, uint32_t number, const uint32_t *breaks, uint32_t count, const char *what) {
+    static uint32_t room[AROUND + 4 * MOST_BREAKS + AROUND];
+    uint32_t *lent = room + AROUND, found = 77;
+    size_t whole = length / 4 < count ? length / 4 : count;
+    mark(room, AROUND + length + AROUND);
+    uint32_t answer = mztab_judge_line(f, n, line, lent, length, &found);
+    check(found == number && answer == count, what, line);
+    check(whole == 0 || memcmp(lent, breaks, 4 * whole * sizeof *lent) == 0, what, line);
+    check(marked(room, AROUND) && marked(lent + 4 * whole, length + AROUND - 4 * whole), what, line);
+}
+
+static void line_refused(const uint8_t *f, size_t n, uint32_t line, uint32_t number, const char *what) {
+    static const size_t lengths[] = {0, 1, 4, 24};
+    for (size_t i = 0; i < COUNT(lengths); i++) line_is(f, n, line, lengths[i], number, NULL, 0, what);
+}
+
+/* Of a file of so many lines these are none. */
+static void others_refused(const uint8_t *f, size_t n, uint32_t lines, const char *what) {
+    static const uint32_t none[] = {0, 0x01000002, 0x7FFFFFFF, 0x80000000, 0x80000001, 0xFFFFFFFE, 0xFFFFFFFF};
+    for (size_t i = 0; i < COUNT(none); i++) line_refused(f, n, none[i], 3, what);
+    line_refused(f, n, lines + 1, 3, what);
+    line_refused(f, n, lines + 2, 3, what);
+}
+
+/* A file judged whole. */
+struct judged {
+    uint32_t lines, count, places[4 * MOST_BREAKS];
+};
+
+static void judge_whole(struct judged *j, const uint8_t *f, size_t n) {
+    uint32_t number = 77;
+    j->lines = lines_of(f, n);
+    j->count = mztab_judge(f, n, j->places, COUNT(j->places), &number);
+    if (number || j->count > MOST_BREAKS) exit(2);
+}
+
+/* Whether the lists of lines 1 to N one after the other, and then the breaks on line N + 1, are the list of all breaks. */
+static int lines_make(const uint8_t *f, size_t n) {
+    static struct judged all;
+    static uint32_t places[4 * MOST_BREAKS];
+    uint32_t made = 0;
+    judge_whole(&all, f, n);
+    for (uint32_t line = 1; line <= all.lines; line++) {
+        uint32_t number = 77, count = mztab_judge_line(f, n, line, places + 4 * made, COUNT(places) - 4 * made, &number);
+        if (number || count > MOST_BREAKS - made) return 0;
+        made += count;
+    }
+    int last = above(all.places, all.count, all.lines + 2) == all.count;
+    return last && made == above(all.places, all.count, all.lines + 1) && memcmp(places, all.places, 4 * made * sizeof *places) == 0;
+}
+
+/* The file so far has these breaks on lines 1 to N: each line is asked for with lists of every length. */
+static void lines_are(const struct mztab_fault *breaks, uint32_t count, const char *what) {
+    const uint32_t *places = &breaks->rule;
+    uint32_t lines = lines_of(file, at);
+    for (uint32_t line = 1; line <= lines; line++) {
+        uint32_t from = above(places, count, line), own = above(places, count, line + 1) - from;
+        for (size_t length = 0; length <= 4 * own + 6; length++) line_is(file, at, line, length, 0, places + 4 * from, own, what);
+    }
+    check(above(places, count, lines + 1) == count, what, count);
+    others_refused(file, at, lines, what);
+    check(lines_make(file, at), what, lines);
+}
+
+#define MOLECULES "SMH\tidentifier\tcharge\n"
+#define PROTEINS "PRH\taccession\tdescription\tdatabase\tsearch_engine"
+#define PEPTIDES "PEH\tsequence\taccession\tcharge\tmass_to_charge"
+#define SPECTRA "PSH\tsequence\tPSM_ID\taccession\tcharge\tspectra_ref"
+#define RUN(n) "MTD\tms_run[" n "]-location\tf"
+
+/* Files, and the breaks of their lines without those of rules 21 and 22. */
+static const struct { const char *text; uint32_t count; struct mztab_fault breaks[16]; } LINES[] = {
+    /* ends of lines, empty lines and comments */
+    {"", 0, {{0, 0, 0, 0}}},
+    {"\n", 0, {{0, 0, 0, 0}}},
+    {"\r\n\n\r\n", 0, {{0, 0, 0, 0}}},
+    {"COM", 0, {{0, 0, 0, 0}}},
+    {"COM\t\001\n\n", 0, {{0, 0, 0, 0}}},
+    {"x", 1, {{2, 1, 1, 0}}},
+    {"\t\n\n\t", 2, {{2, 1, 1, 0}, {2, 3, 1, 0}}},
+    {"\r", 2, {{1, 1, 1, 0}, {2, 1, 1, 0}}},
+    {"PRT\r\n\r\nCOM\tx\r\n\nPRT\r\nx\ty\r\r\nPRT\ta\002\003", 6, {{17, 1, 1, 0}, {17, 5, 1, 0}, {2, 6, 1, 0}, {1, 6, 2, 0}, {17, 7, 1, 0}, {1, 7, 2, 0}}},
+    /* rule 8: the id is declared below, below the rows too, but not by a line of four cells */
+    {"MTD\tassay[1]-sample_ref\tsample[1]\nMTD\tsample[1]-description\td\n", 0, {{0, 0, 0, 0}}},
+    {"MTD\tassay[1]-sample_ref\tsample[1]\nMTD\tsample[2]-description\td\n", 1, {{8, 1, 3, 0}}},
+    {"MTD\tassay[1]-ms_run_ref\tms_run[1]\nMTD\tassay[2]-ms_run_ref\tms_run[2]\n" MOLECULES "SML\ta\t1\n" RUN("1"), 2, {{8, 2, 3, 0}, {4, 5, 1, 0}}},
+    {"MTD\tassay[1]-ms_run_ref\tms_run[1]\n" RUN("1") "\tx\n", 2, {{8, 1, 3, 0}, {3, 2, 1, 0}}},
+    {"MTD\tstudy_variable[1]-assay_refs\tassay[1], assay[2]\nMTD\tassay[2]-ms_run_ref\tms_run[1]\n" RUN("1") "\nMTD\tassay[1]-ms_run_ref\tms_run[1]\r\n", 0, {{0, 0, 0, 0}}},
+    /* rule 15: the same */
+    {PROTEINS "\tnum_psms_ms_run[1]\tnum_psms_ms_run[2]\nPRT\ta\tb\tc\tnull\t1\t2\n" RUN("2") "\n", 2, {{15, 1, 6, 0}, {4, 3, 1, 0}}},
+    {"SMH\tidentifier\tcharge\tsmallmolecule_abundance_assay[64]\nSML\ta\t1\t1.5\nMTD\tassay[64]-ms_run_ref\tms_run[1]", 2, {{4, 3, 1, 0}, {8, 3, 3, 0}}},
+    /* rule 16: mode and type stand below the header; the first valid type decides */
+    {PEPTIDES "\nMTD\tmzTab-type\tQuantification\nMTD\tmzTab-mode\tSummary\n", 3, {{16, 1, 1, 0}, {4, 2, 1, 0}, {4, 3, 1, 0}}},
+    {PEPTIDES "\nMTD\tmzTab-type\tQuantification\n", 1, {{4, 2, 1, 0}}},
+    {PEPTIDES "\nMTD\tmzTab-type\tIdentification\nMTD\tmzTab-mode\tComplete\nMTD\tmzTab-type\tQuantification\n", 4,
+     {{4, 2, 1, 0}, {4, 3, 1, 0}, {4, 4, 1, 0}, {6, 4, 2, 2}}},
+    {PEPTIDES "\nPEP\ta\tb\t1\t1.5\nMTD\tmzTab-type\tquantification\nMTD\tmzTab-mode\tComplete\nMTD\tmzTab-type\tQuantification", 6,
+     {{16, 1, 1, 0}, {4, 3, 1, 0}, {7, 3, 3, 0}, {4, 4, 1, 0}, {4, 5, 1, 0}, {6, 5, 2, 3}}},
+    {PEPTIDES "\tmodifications\tretention_time\tretention_time_window\nMTD\tmzTab-type\tQuantification\nMTD\tmzTab-mode\tSummary\n", 2, {{4, 2, 1, 0}, {4, 3, 1, 0}}},
+    /* rule 4: a header or a row above, but no other line */
+    {"PRT\nMTD\ttitle\ta\nCOM\nMTD\tcontact[1]-name\ta\n", 3, {{17, 1, 1, 0}, {4, 2, 1, 0}, {4, 4, 1, 0}}},
+    {"x\nCOM\tPRH\nMTD\ttitle\ta\nPSH\nMTD\tcontact[1]-name\ta\n", 3, {{2, 1, 1, 0}, {16, 4, 1, 0}, {4, 5, 1, 0}}},
+    /* rules 9 and 10 */
+    {MOLECULES SPECTRA "\n" PEPTIDES "\n" PROTEINS "\n" MOLECULES, 4, {{10, 2, 1, 0}, {10, 3, 1, 0}, {10, 4, 1, 0}, {9, 5, 1, 1}}},
+    /* rules 17 to 20: by the nearest header, its cells and its columns */
+    {MOLECULES "SML\ta\t1\nSML\ta\nSML\t\t1\nSML\ta\tx\nPRT\ta\nSMH\tidentifier\tcharge\topt_a\nSML\ta\t1\nSML\ta\t1\tb\nSML\ta\t1\t\n", 7,
+     {{18, 3, 1, 0}, {19, 4, 2, 0}, {20, 5, 3, 0}, {17, 6, 1, 0}, {9, 7, 1, 1}, {18, 8, 1, 0}, {19, 10, 4, 0}}},
+    {MOLECULES "SML\t1\tx\nSMH\tcharge\tidentifier\nSML\t1\tx\nSML\tx\t1\n", 3, {{20, 2, 3, 0}, {9, 3, 1, 1}, {20, 5, 2, 0}}},
+    {MOLECULES PROTEINS "\nSML\ta\t1\nPRT\ta\tb\tc\tnull\nPRT\tnull\tb\tc\tx\r\n", 4, {{10, 2, 1, 0}, {17, 3, 1, 0}, {20, 5, 2, 0}, {20, 5, 5, 0}}},
+    {"SMH\tidentifier\tcharge\tx\nSML\ta\t1\t\377\nSML\ta\t1\t\n", 2, {{12, 1, 4, 0}, {19, 3, 4, 0}}},
+    {MOLECULES "SML\t\001\t\002\n", 2, {{1, 2, 2, 0}, {20, 2, 3, 0}}},
+    /* every sort of break of a header, and its row */
+    {"SMH\topt_a\tcharge\tidentifier\topt_a\tnothing\nSML\ta\tb\tc\td\te", 6,
+     {{14, 1, 3, 0}, {14, 1, 4, 0}, {13, 1, 5, 2}, {12, 1, 6, 0}, {14, 1, 6, 0}, {20, 2, 3, 0}}},
+};
+
+/* Rows under a header of 257 cells are not judged by rules 18 to 20, those under one of 256 are. */
+static void lines_under_wide(void) {
+    static const struct mztab_fault breaks[] = {{11, 1, 1, 0}, {17, 4, 1, 0}, {9, 5, 1, 1}, {18, 6, 1, 0}, {9, 7, 1, 1}, {11, 7, 1, 0}};
+    static const struct mztab_fault narrow[] = {{16, 1, 1, 0}, {18, 2, 1, 0}, {19, 3, 2, 0}, {19, 3, 256, 0}};
+    begin(LIMIT);
+    put(line_of("SMH", 256, opt_name));
+    put("SML\tx\nSML\ta\t\nPRT\n" MOLECULES "SML\ta\n");
+    put(line_of("SMH", 256, opt_name));
+    put("SML\t\t\n");
+    lines_are(breaks, COUNT(breaks), "lines under a wide header");
+    begin(LIMIT);
+    put(line_of("SMH", 255, opt_name));
+    put("SML\tx\nSML\t\t");
+    for (int k = 0; k < 252; k++) put("a\t");
+    put("a\t");
+    lines_are(narrow, COUNT(narrow), "lines under a header of 256 cells");
+}
+
+/* Every line of a file of LIMIT bytes is judged, its last byte too, and none of one byte more. */
+static void line_limits(void) {
+    static const uint32_t header[] = {16, 1, 1, 0}, last[] = {17, 4, 1, 0, 1, 4, 2, 0}, asked[] = {0, 1, 2, 4, 5, 0xFFFFFFFF};
+    begin(LIMIT + 1);
+    put("PRH\taccession\nPRT\t12.5\nCOM\t");
+    fill(' ', LIMIT - 7);
+    put("\nPEP\tx\001\n");
+    line_is(file, LIMIT, 1, 24, 0, header, 1, "limit: line 1");
+    line_is(file, LIMIT, 2, 24, 0, NULL, 0, "limit: line 2");
+    line_is(file, LIMIT, 3, 24, 0, NULL, 0, "limit: line 3");
+    line_is(file, LIMIT, 4, 24, 0, last, 2, "limit: line 4");
+    others_refused(file, LIMIT, 4, "limit: no such line");
+    for (size_t i = 0; i < COUNT(asked); i++) line_refused(file, LIMIT + 1, asked[i], 1, "over the limit: line");
+    ends(LIMIT);
+    line_is(file, LIMIT, 1, 24, 0, NULL, 0, "limit: the first of LF alone");
+    line_is(file, LIMIT, LIMIT, 24, 0, NULL, 0, "limit: the last of LF alone");
+    line_refused(file, LIMIT, LIMIT + 1, 3, "limit: beyond the last of LF alone");
+}
+
+/* Each front part of the example at either edge of a page, and lists that are just long enough, or a place too short, at that of another. */
+static void line_edges(void) {
+    static struct judged all;
+    size_t length = 65536, n = sizeof EXAMPLE - 1;
+    uint8_t *f = page(length), *l = page(length);
+    for (size_t part = 0; part <= n; part++)
+        for (int way = 0; way < 4; way++) {
+            uint8_t *here = way & 1 ? f + length - part : f;
+            memcpy(here, EXAMPLE, part);
+            judge_whole(&all, here, part);
+            for (uint32_t line = 0; line <= all.lines + 1; line++) {
+                int there = line > 0 && line <= all.lines;
+                uint32_t from = above(all.places, all.count, line), own = there ? above(all.places, all.count, line + 1) - from : 0, number = 77;
+                size_t room = way & 2 && own ? 4 * own - 1 : 4 * own, whole = room / 4;
+                uint32_t *places = (uint32_t *)(way & 1 ? l + length - room * sizeof *places : l);
+                mark(places, room);
+                uint32_t count = mztab_judge_line(here, part, line, places, room, &number);
+                check(number == (there ? 0 : 3) && count == own, "a line at the edge of a page", part);
+                check(memcmp(places, all.places + 4 * from, 4 * whole * sizeof *places) == 0, "a line at the edge of a page: list", part);
+                check(marked(places + 4 * whole, room - 4 * whole), "a line at the edge of a page: no place besides", part);
+            }
+            check(memcmp(here, EXAMPLE, part) == 0, "a line at the edge of a page: the file is as it was", part);
+        }
+    munmap(f - length, 3 * length);
+    munmap(l - length, 3 * length);
+}
+
+static void one_line_each(void) {
+    for (size_t i = 0; i < COUNT(LINES); i++) {
+        begin(LIMIT);
+        put(LINES[i].text);
+        lines_are(LINES[i].breaks, LINES[i].count, "one line");
+    }
+    for (size_t i = 0; i < COUNT(AGAIN); i++) {
+        begin(LIMIT);
+        put(AGAIN[i].text);
+        lines_are(AGAIN[i].breaks, AGAIN[i].count, "one line, where it stands first");
+    }
+    lines_under_wide();
+    line_limits();
+    group("one line");
+    line_edges();
+    group("one line, edges of a page");
+}
+
+/* ---- drawn files, and edits of a cell */
+
+#define ANY(list) list[draw(COUNT(list))]
+
+/* A row of so many cells. */
+static void put_row(const char *code, uint32_t cells) {
+    static const char *const values[] = {"",    "a",   "null", "null", "1",         "1",     "2",    "-1",   "1.5",       "1.5",
+                                         "1E5", "INF", "1|2",  "x|y",  "[, , a, ]", "[,,,]", "\001", "\377", "1234567890"};
+    put(code);
+    for (uint32_t k = 1; k < cells; k++) {
+        put("\t");
+        put(ANY(values));
+    }
+}
+
+/* A small file: metadata, headers, other lines, and rows, for the most part of the header above; with ends of each sort. */
+static void draw_file(void) {
+    static const char *const codes[4] = {"PRT", "PEP", "PSM", "SML"};
+    static const char *const metadata[] = {
+        "MTD\tmzTab-version\t1.0", "MTD\tmzTab-mode\tSummary", "MTD\tmzTab-mode\tComplete", "MTD\tmzTab-type\tQuantification", "MTD\tmzTab-type\tIdentification",
+        "MTD\tmzTab-type\tx", "MTD\tdescription\td", "MTD\tdescription", RUN("1"), RUN("2"), RUN("2"), "MTD\tassay[1]-ms_run_ref\tms_run[1]",
+        "MTD\tassay[2]-ms_run_ref\tms_run[2]", "MTD\tassay[1]-sample_ref\tsample[1]", "MTD\tsample[1]-description\td", "MTD\tsample[01]-description\td",
+        "MTD\tstudy_variable[1]-assay_refs\tassay[1], assay[2]", "MTD\tstudy_variable[65]-description\td", "MTD\tsoftware[1]\tx", "MTD\tx\t\001", "MTD\ttitle\tt\t"};
+    static const char *const heads[4][3] = {
+        {PROTEINS "\tnum_psms_ms_run[1]\tprotein_abundance_assay[2]", "PRH\taccession\topt_a\topt_a", "PRH\taccession\tnum_psms_ms_run[2]\tdescription\tdatabase\tsearch_engine"},
+        {PEPTIDES, PEPTIDES "\tmodifications\tretention_time\tretention_time_window", "PEH\tcharge\tunique\tpeptide_abundance_study_variable[1]"},
+        {SPECTRA, "PSH\tcharge\tsequence\tcharge", SPECTRA "\tretention_time\tsearch_engine\tx"},
+        {"SMH\tidentifier\tcharge", "SMH\tcharge\tidentifier\topt_a", "SMH\tidentifier\tcharge\tsmallmolecule_abundance_assay[1]"}};
+    static const char *const others[] = {"", "", "COM", "COM\tPRT", "COM\t\001", "x", "\t", "PRTx\ta", "prt\ta", "\r", " ", "PRH\r\r"};
+    uint32_t section = (uint32_t)draw(4), cells = 3;
+    begin(LIMIT);
+    for (uint64_t left = draw(16); left > 0; left--) {
+        uint64_t way = draw(9);
+        if (way < 2) put(ANY(metadata));
+        else if (way == 2) {
+            section = (uint32_t)draw(4);
+            const char *head = draw(12) ? ANY(heads[section]) : line_of("PRH", 256, opt_name);
+            put(head);
+            for (cells = 1; (head = strchr(head, '\t')); head++) cells++;
+        } else if (way == 3) put(ANY(others));
+        else put_row(codes[draw(9) ? section : draw(4)], draw(9) ? cells : 1 + (uint32_t)draw(10));
+        if (left > 1 || draw(3)) put(draw(5) ? "\n" : "\r\n");
+    }
+}
+
+/* Whether a line is a row with a cell 2. */
+static int is_row(const uint8_t *line, size_t n) {
+    return n > 3 && line[3] == '\t' && (memcmp(line, "PRT", 3) == 0 || memcmp(line, "PEP", 3) == 0 || memcmp(line, "PSM", 3) == 0 || memcmp(line, "SML", 3) == 0);
+}
+
+/* Draws a cell of a row, from cell 2 on, of all that the file has; answers its line, 0 where there is none. */
+static uint32_t draw_cell(size_t *start, size_t *end) {
+    uint32_t line = 1, drawn = 0;
+    uint64_t seen = 0;
+    for (size_t k = 0, next; k < at; k = next, line++) {
+        const uint8_t *lf = memchr(file + k, '\n', at - k);
+        size_t stop = lf ? (size_t)(lf - file) : at;
+        next = stop + 1;
+        if (lf && stop > k && file[stop - 1] == '\r') stop--;
+        if (!is_row(file + k, stop - k)) continue;
+        for (size_t a = k + 4, b; a <= stop; a = b + 1) {
+            const uint8_t *tab = memchr(file + a, '\t', stop - a);
+            b = tab ? (size_t)(tab - file) : stop;
+            if (draw(++seen) == 0) drawn = line, *start = a, *end = b;
+        }
+    }
+    return drawn;
+}
+
+/* Any bytes but tab, CR and LF: those that some column takes, or drawn ones; answers how many. */
+static size_t draw_bytes(uint8_t *bytes) {
+    static const char *const values[] = {"", "null", "1", "-12", "1.5", "INF", "1|2", "1|2|3", "[, , a, ]|[, , b, ]", "MTD", "opt_a", "a b", "\177", "\303\251"};
+    if (draw(2)) {
+        const char *value = ANY(values);
+        memcpy(bytes, value, strlen(value));
+        return strlen(value);
+    }
+    size_t n = draw(20);
+    for (size_t k = 0; k < n; k++)
+        do bytes[k] = (uint8_t)draw(256);
+        while (bytes[k] == '\t' || bytes[k] == '\r' || bytes[k] == '\n');
+    return n;
+}
+
+/* Puts n bytes in the place of a cell. Whether the old list, with that line's part worked out afresh, is the list of the new file. */
+static int renewed(uint32_t line, size_t start, size_t end, const uint8_t *bytes, size_t n) {
+    static struct judged old, new;
+    static uint32_t places[8 * MOST_BREAKS];
+    uint32_t number = 77;
+    judge_whole(&old, file, at);
+    memmove(file + start + n, file + end, at - end);
+    memcpy(file + start, bytes, n);
+    at = at - (end - start) + n;
+    judge_whole(&new, file, at);
+    uint32_t from = above(old.places, old.count, line), to = above(old.places, old.count, line + 1);
+    memcpy(places, old.places, 4 * from * sizeof *places);
+    uint32_t own = mztab_judge_line(file, at, line, places + 4 * from, 4 * MOST_BREAKS, &number);
+    if (number || own > MOST_BREAKS - from) return 0;
+    memcpy(places + 4 * (from + own), old.places + 4 * to, 4 * (old.count - to) * sizeof *places);
+    return new.lines == old.lines && new.count == from + own + old.count - to && memcmp(places, new.places, 4 * new.count * sizeof *places) == 0;
+}
+
+enum { DRAWN_FILES = 4000, EDITS = 2 };
+
+static void drawn_lines(void) {
+    uint32_t edits = 0, rows = 0;
+    seed = 14;
+    for (uint32_t i = 0; i < DRAWN_FILES; i++) {
+        draw_file();
+        check(lines_make(file, at), "drawn lines", i);
+        uint32_t lines = lines_of(file, at);
+        line_is(file, at, lines + 1, 4, 3, NULL, 0, "drawn lines: beyond the last");
+        for (int k = 0; k < EDITS; k++) {
+            uint8_t bytes[32];
+            size_t start, end, n = draw_bytes(bytes);
+            uint32_t line = draw_cell(&start, &end);
+            if (!line) break;
+            rows += k == 0;
+            edits++;
+            check(renewed(line, start, end, bytes, n), "an edited cell", i);
+        }
+    }
+    check(rows > DRAWN_FILES / 2 && edits > DRAWN_FILES, "edited cells", edits);
+    group("one line, drawn files and edits");
+}
+
 /* The example at either edge of a page, and each front part of it: a byte touched outside is a fault. */
 static void edges(void) {
     size_t length = 65536, n = sizeof EXAMPLE - 1;
@@ -1506,7 +1852,58 @@ static void every_first(void) {
     free(places);
 }
 
-enum { LISTED = 16384 };
+/* The file between pages that may not be touched, its last byte at the upper edge. */
+static uint8_t *tight;
+
+/* The list of all breaks is made where it has at most so many; and the breaks of a file that are listed at all times. */
+enum { LISTED = 16384, FULL = 5000000 };
+
+/* The bytes of a line, from 1 to N, with its end. */
+static const uint8_t *bytes_of(const uint8_t *f, uint32_t line, size_t *n) {
+    const uint8_t *start = f, *end = f + most, *lf;
+    while ((lf = memchr(start, '\n', (size_t)(end - start))) && --line) start = lf + 1;
+    *n = (size_t)((lf ? lf + 1 : end) - start);
+    return start;
+}
+
+/* A line far below in a file whose list is too long to be made whole: it has the bytes of line 3, and so the breaks of line 3. */
+static void line_as_third(const uint8_t *f, uint32_t line, const uint32_t *places, const char *name) {
+    uint32_t breaks[4 * 1024], from = above(places, LISTED, 3), own = above(places, LISTED, 4) - from;
+    size_t third, n;
+    const uint8_t *a = bytes_of(f, 3, &third), *b = bytes_of(f, line, &n);
+    int empty = n == 1 && *b == '\n', same = n == third && memcmp(a, b, n) == 0;
+    check(own > 0 && own <= 1024 && (empty || same), name, line);
+    for (uint32_t k = 0; k < own; k++) {
+        memcpy(breaks + 4 * k, places + 4 * (from + k), 4 * sizeof *breaks);
+        breaks[4 * k + 1] = line;
+    }
+    line_is(f, most, line, 4 * MOST_BREAKS, 0, breaks, empty ? 0 : own, name);
+}
+
+/* Line 1, the middle one, the last that is not empty, and the last, of a hostile file against the list of all breaks. That has the first LISTED of them. */
+static void hostile_lines(const char *name, const uint32_t *places, uint32_t count) {
+    uint8_t *f = tight + LIMIT - most;
+    size_t full = most;
+    uint32_t *all = NULL, number = 77, lines = lines_of(file, most);
+    memcpy(f, file, most);
+    while (full > 0 && file[full - 1] == '\n') full--;
+    if (count > LISTED && count <= FULL) {
+        all = malloc((size_t)count * 16);
+        if (!all) exit(2);
+        check(mztab_judge(f, most, all, (size_t)count * 4, &number) == count, name, count);
+        places = all;
+    }
+    uint32_t asked[4] = {1, lines / 2 + 1, lines_of(file, full), lines};
+    for (int i = 0; i < 4; i++) {
+        uint32_t line = asked[i], listed = count <= FULL ? count : LISTED, from = above(places, listed, line);
+        if (line == 0 || (i > 0 && line <= asked[i - 1])) continue;
+        if (count > FULL && line > 3) line_as_third(f, line, places, name);
+        else line_is(f, most, line, 4 * MOST_BREAKS, 0, places + 4 * (size_t)from, above(places, listed, line + 1) - from, name);
+    }
+    line_is(f, most, lines + 1, 4, 3, NULL, 0, name);
+    check(memcmp(f, file, most) == 0, name, most);
+    free(all);
+}
 
 static void hostile(void) {
     static uint32_t places[4 * LISTED + 12];
@@ -1523,6 +1920,7 @@ static void hostile(void) {
         check(marked(places + 4 * listed, COUNT(places) - 4 * listed), HOSTILE[i].name, 0);
         if (i % 8 == 0) check(same_records(most / 16, 3), HOSTILE[i].name, 3);
         weigh_hostile(HOSTILE[i].name);
+        hostile_lines(HOSTILE[i].name, places, count);
     }
     every_first();
     weigh_accepted();
@@ -1541,17 +1939,59 @@ static void hostile(void) {
     check(reading(file, LIMIT, 1, 1, 5).kind == 6, "reading of digits and what is no exponent", 0);
 }
 
-/* On a stack of 2 MB, with pages around it that may not be touched; says how much of it was used. */
-static void on_small_stack(void) {
-    size_t length = (size_t)2 << 20;
-    uint8_t *stack = page(length);
-    memset(stack, 0xA5, length);
-    on_stack(stack, length, hostile);
+/* A stack of 2 MB, with pages around it that may not be touched; every byte of it marked. */
+enum { STACK = 2 << 20 };
+
+static uint8_t *marked_stack(void) {
+    uint8_t *stack = page(STACK);
+    memset(stack, 0xA5, STACK);
+    return stack;
+}
+
+/* How much of it was used, in KB. */
+static size_t used(const uint8_t *stack) {
     size_t free_bytes = 0;
-    while (free_bytes < length && stack[free_bytes] == 0xA5) free_bytes++;
+    while (free_bytes < STACK && stack[free_bytes] == 0xA5) free_bytes++;
     check(free_bytes > 0, "stack", free_bytes);
+    return (STACK - free_bytes + 1023) / 1024;
+}
+
+static void on_small_stack(void) {
+    uint8_t *stack = marked_stack();
+    on_stack(stack, STACK, hostile);
+    size_t kilobytes = used(stack);
     group("hostile files, 2 MB stack");
-    printf("%34s %6zu KB of stack used, files of %zu bytes\n", "", (length - free_bytes) / 1024, most);
+    printf("%34s %6zu KB of stack used, files of %zu bytes\n", "", kilobytes, most);
+}
+
+/* What the header says of the stack that judging a file needs, and judging one line, in KB. */
+enum { JUDGE_STACK = 300, LINE_STACK = 300 };
+
+static void judge_file(void) {
+    uint32_t place, number;
+    mztab_judge(file, size, &place, 0, &number);
+}
+
+static void judge_last(void) {
+    uint32_t place, number = 77;
+    mztab_judge_line(file, size, lines_of(file, size), &place, 0, &number);
+    check(number == 0, "stack: the last line", number);
+}
+
+/* Each of the two calls on a stack of its own, over smaller hostile files and the example. */
+static void stacks(void) {
+    uint8_t *whole = marked_stack(), *line = marked_stack();
+    for (int i = 0; i <= FILES; i++) {
+        if (i < FILES) HOSTILE[i].make(most / 16);
+        else begin(sizeof EXAMPLE - 1), put(EXAMPLE);
+        on_stack(whole, STACK, judge_file);
+        on_stack(line, STACK, judge_last);
+    }
+    size_t a = used(whole), b = used(line);
+    check(a <= JUDGE_STACK, "stack of mztab_judge", a);
+    check(b <= LINE_STACK, "stack of mztab_judge_line", b);
+    group("stack");
+    printf("%34s %6zu KB of stack used by mztab_judge, %zu KB by mztab_judge_line\n", "", a, b);
 }
 
 /* host [BYTES]: the hostile files have so many bytes, else as many as a file can have. */
@@ -1568,6 +2008,8 @@ int main(int words, char **word) {
     records();
     firsts();
     drawn_firsts();
+    one_line_each();
+    drawn_lines();
     edges();
     views();
     refusals();
@@ -1582,7 +2024,9 @@ int main(int words, char **word) {
     weighing();
     row_counts();
     long_tables();
+    tight = page(LIMIT);
     on_small_stack();
+    stacks();
     printf("%u checks, %u failed\n", checks, failed);
     return failed != 0;
 }

@@ -14,7 +14,7 @@
  *    0  the answer was given
  *    1  the file is longer than 16,777,216 bytes
  *    2  the section is not 1 to 4
- *    3  no such row
+ *    3  no such row, or no such line
  *    4  no such cell
  *    7  the file is not accepted: it breaks a rule
  *   15  the number of weights, or of shares, is not what it should be
@@ -62,6 +62,16 @@ uint32_t mztab_reading(const uint8_t *file, size_t file_length, uint32_t section
  * pointer to places_length numbers, not null also where that is 0. A place that no whole break fills is left as it was: one to three at the end of a list may
  * be too few for the next. Of a file that is too long the count is 0, *number is 1 and no place is written. The call needs some 300 KB of stack. */
 uint32_t mztab_judge(const uint8_t *file, size_t file_length, uint32_t *places, size_t places_length, uint32_t *number);
+
+/* Judges one line of a file of N lines, 1 to N, under the whole file, later lines included, as mztab_judge does. The answer is the count of that line's breaks.
+ * The first of them that fit are written to places, four numbers each: rule, line, cell, first. The lists of lines 1 to N one after the other, and then the
+ * breaks of rules 21 and 22, which stand on line N + 1 and are never answered here, are the list of mztab_judge.
+ * It serves the mending of single cells: where bytes other than tab, CR and LF take the place of one cell of a row line, from cell 2 on, and neither file is
+ * too long, the breaks of all other lines, line N + 1 included, stay as they were. So the list of the new file is the old one with this call's answer in the
+ * place of that line's part. places is a pointer to places_length numbers, not null also where that is 0. A place that no whole break fills is left as it was.
+ * Refused with 1, and with 3 where there is no such line, 0 and N + 1 among them; the count is then 0 and no place is written. The call needs some 300 KB of
+ * stack. */
+uint32_t mztab_judge_line(const uint8_t *file, size_t file_length, uint32_t line, uint32_t *places, size_t places_length, uint32_t *number);
 
 /* A break: its rule, its line and cell in the file, and where that which comes again stands first: a line for rules 6 and 9, a cell of the break's own line for
  * rule 13, 0 for all others. */
