@@ -911,11 +911,14 @@ struct judged {
     uint32_t lines, count, places[4 * MOST_BREAKS];
 };
 
+static uint32_t rules_seen; /* bit r: a file that was judged so breaks rule r */
+
 static void judge_whole(struct judged *j, const uint8_t *f, size_t n) {
     uint32_t number = 77;
     j->lines = lines_of(f, n);
     j->count = mztab_judge(f, n, j->places, COUNT(j->places), &number);
     if (number || j->count > MOST_BREAKS) exit(2);
+    for (uint32_t k = 0; k < j->count; k++) rules_seen |= 1u << j->places[4 * k];
 }
 
 /* Whether the lists of lines 1 to N one after the other, and then the breaks on line N + 1, are the list of all breaks. */
@@ -1106,7 +1109,7 @@ static void draw_file(void) {
     static const char *const heads[4][3] = {
         {PROTEINS "\tnum_psms_ms_run[1]\tprotein_abundance_assay[2]", "PRH\taccession\topt_a\topt_a", "PRH\taccession\tnum_psms_ms_run[2]\tdescription\tdatabase\tsearch_engine"},
         {PEPTIDES, PEPTIDES "\tmodifications\tretention_time\tretention_time_window", "PEH\tcharge\tunique\tpeptide_abundance_study_variable[1]"},
-        {SPECTRA, "PSH\tcharge\tsequence\tcharge", SPECTRA "\tretention_time\tsearch_engine\tx"},
+        {SPECTRA, "PSH\tcharge\topt_a\tsequence\tcharge", SPECTRA "\tretention_time\tsearch_engine\tx"},
         {"SMH\tidentifier\tcharge", "SMH\tcharge\tidentifier\topt_a", "SMH\tidentifier\tcharge\tsmallmolecule_abundance_assay[1]"}};
     static const char *const others[] = {"", "", "COM", "COM\tPRT", "COM\t\001", "x", "\t", "PRTx\ta", "prt\ta", "\r", " ", "PRH\r\r"};
     uint32_t section = (uint32_t)draw(4), cells = 3;
@@ -1164,6 +1167,8 @@ static size_t draw_bytes(uint8_t *bytes) {
     return n;
 }
 
+static uint32_t edits, changes; /* edits of a cell, and those that changed the list */
+
 /* Puts n bytes in the place of a cell. Whether the old list, with that line's part worked out afresh, is the list of the new file. */
 static int renewed(uint32_t line, size_t start, size_t end, const uint8_t *bytes, size_t n) {
     static struct judged old, new;
@@ -1179,30 +1184,37 @@ static int renewed(uint32_t line, size_t start, size_t end, const uint8_t *bytes
     uint32_t own = mztab_judge_line(file, at, line, places + 4 * from, 4 * MOST_BREAKS, &number);
     if (number || own > MOST_BREAKS - from) return 0;
     memcpy(places + 4 * (from + own), old.places + 4 * to, 4 * (old.count - to) * sizeof *places);
+    edits++;
+    changes += own != to - from || memcmp(old.places, new.places, 4 * new.count * sizeof *places) != 0;
     return new.lines == old.lines && new.count == from + own + old.count - to && memcmp(places, new.places, 4 * new.count * sizeof *places) == 0;
 }
 
-enum { DRAWN_FILES = 4000, EDITS = 2 };
+/* Draws so many edits of the file so far, one after the other. */
+static void edit(uint32_t count, const char *what) {
+    for (; count > 0; count--) {
+        uint8_t bytes[32];
+        size_t start, end, n = draw_bytes(bytes);
+        uint32_t line = draw_cell(&start, &end);
+        if (!line) return;
+        check(renewed(line, start, end, bytes, n), what, line);
+    }
+}
+
+enum { DRAWN_FILES = 4000 };
 
 static void drawn_lines(void) {
-    uint32_t edits = 0, rows = 0;
     seed = 14;
+    rules_seen = 0;
     for (uint32_t i = 0; i < DRAWN_FILES; i++) {
         draw_file();
         check(lines_make(file, at), "drawn lines", i);
-        uint32_t lines = lines_of(file, at);
-        line_is(file, at, lines + 1, 4, 3, NULL, 0, "drawn lines: beyond the last");
-        for (int k = 0; k < EDITS; k++) {
-            uint8_t bytes[32];
-            size_t start, end, n = draw_bytes(bytes);
-            uint32_t line = draw_cell(&start, &end);
-            if (!line) break;
-            rows += k == 0;
-            edits++;
-            check(renewed(line, start, end, bytes, n), "an edited cell", i);
-        }
+        line_is(file, at, lines_of(file, at) + 1, 4, 3, NULL, 0, "drawn lines: beyond the last");
+        edit(2, "an edited cell");
     }
-    check(rows > DRAWN_FILES / 2 && edits > DRAWN_FILES, "edited cells", edits);
+    check(rules_seen == (1u << 25) - 2, "drawn lines: every rule is broken in some file", rules_seen);
+    check(edits > DRAWN_FILES && changes > edits / 4, "edited cells: how many, and with another list", changes);
+    null_cells((size_t)1 << 20);
+    edit(16, "an edited cell of a long file");
     group("one line, drawn files and edits");
 }
 
@@ -1855,7 +1867,7 @@ static void every_first(void) {
 /* The file between pages that may not be touched, its last byte at the upper edge. */
 static uint8_t *tight;
 
-/* The list of all breaks is made where it has at most so many; and the breaks of a file that are listed at all times. */
+/* So many breaks of a hostile file are listed, and all of them for its lines where there are at most FULL. */
 enum { LISTED = 16384, FULL = 5000000 };
 
 /* The bytes of a line, from 1 to N, with its end. */
@@ -1880,7 +1892,7 @@ static void line_as_third(const uint8_t *f, uint32_t line, const uint32_t *place
     line_is(f, most, line, 4 * MOST_BREAKS, 0, breaks, empty ? 0 : own, name);
 }
 
-/* Line 1, the middle one, the last that is not empty, and the last, of a hostile file against the list of all breaks. That has the first LISTED of them. */
+/* Line 1, the middle one, the last that is not empty, and the last, of a hostile file, against the list of all breaks; places has the first LISTED of them. */
 static void hostile_lines(const char *name, const uint32_t *places, uint32_t count) {
     uint8_t *f = tight + LIMIT - most;
     size_t full = most;
@@ -1978,11 +1990,12 @@ static void judge_last(void) {
     check(number == 0, "stack: the last line", number);
 }
 
-/* Each of the two calls on a stack of its own, over smaller hostile files and the example. */
+/* Each of the two calls on a stack of its own, over hostile files of at most 1 MB and the example. */
 static void stacks(void) {
+    size_t n = most < (size_t)1 << 20 ? most : (size_t)1 << 20;
     uint8_t *whole = marked_stack(), *line = marked_stack();
     for (int i = 0; i <= FILES; i++) {
-        if (i < FILES) HOSTILE[i].make(most / 16);
+        if (i < FILES) HOSTILE[i].make(n);
         else begin(sizeof EXAMPLE - 1), put(EXAMPLE);
         on_stack(whole, STACK, judge_file);
         on_stack(line, STACK, judge_last);
