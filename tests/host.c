@@ -1912,7 +1912,6 @@ static void hostile_lines(const char *name, const uint32_t *places, uint32_t cou
         if (count > FULL && line > 3) line_as_third(f, line, places, name);
         else line_is(f, most, line, 4 * MOST_BREAKS, 0, places + 4 * (size_t)from, above(places, listed, line + 1) - from, name);
     }
-    line_is(f, most, lines + 1, 4, 3, NULL, 0, name);
     check(memcmp(f, file, most) == 0, name, most);
     free(all);
 }
