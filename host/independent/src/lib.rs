@@ -7,6 +7,7 @@
 
 pub mod cases;
 pub mod demands;
+pub mod edits;
 pub mod fee;
 pub mod judging;
 pub mod kinds;
@@ -16,6 +17,7 @@ pub mod printing;
 pub mod reading;
 pub mod weights;
 
+pub use edits::{edited, judge_line};
 pub use fee::{add, split};
 pub use judging::{judge, Break};
 pub use reading::{cell, cell_or, read, reading, Reading};

@@ -2,8 +2,8 @@
 
 use crate::names::{Family, Kind, Known};
 use crate::{
-    add, cell, cell_or, judge, kinds, names, read, reading, rows, split, weights as weights_of,
-    Break, Reading,
+    add, cell, cell_or, judge, judge_line, kinds, names, read, reading, rows, split,
+    weights as weights_of, Break, Reading,
 };
 
 /// The byte that ends each file or case where several stand in one input.
@@ -21,6 +21,14 @@ const SHARE_BEFORE: u64 = 7;
 
 /// What each place of a weight holds before the call.
 const WEIGHT_BEFORE: u32 = 9;
+
+/// How many places the list for one line has, and what each holds before the
+/// call.
+const LINE_PLACES: usize = 10;
+const LINE_BEFORE: u32 = 9;
+
+/// Of no file a line after this one is asked for.
+const LAST_LINE: u32 = 23;
 
 /// As the program `judge` prints.
 pub fn judged(file: &[u8]) -> String {
@@ -333,6 +341,39 @@ fn weights_text(weights: Result<Vec<u32>, u32>, places: usize) -> String {
         Err(number) => (number, vec![WEIGHT_BEFORE; places]),
     };
     format!("weights {number}{}\n", spaced(&list))
+}
+
+/// Several files, each ended by the byte 30: lines 0, 1, 2 and so on, up to the
+/// first after 0 that is refused, and a line `.`.
+pub fn lines(input: &[u8]) -> String {
+    let mut out = String::new();
+    for file in pieces(input, END) {
+        for line in 0..=LAST_LINE {
+            let breaks = judge_line(file, line);
+            out += &line_text(line, &breaks);
+            if line > 0 && breaks.is_err() {
+                break;
+            }
+        }
+        out += ".\n";
+    }
+    out
+}
+
+/// `line N: NUMBER COUNT`, and each place after the call: "a short list as in
+/// demand 3", so that it holds the first breaks whole, and the places that no
+/// break fills are untouched.
+fn line_text(line: u32, breaks: &Result<Vec<Break>, u32>) -> String {
+    let (number, breaks) = match breaks {
+        Ok(breaks) => (0, breaks.as_slice()),
+        Err(number) => (*number, &[] as &[Break]),
+    };
+    let mut places = vec![LINE_BEFORE; LINE_PLACES];
+    for (four, at) in places.chunks_exact_mut(4).zip(breaks) {
+        four.copy_from_slice(&[at.rule, at.line, at.cell, at.first]);
+    }
+    let count = breaks.len();
+    format!("line {line}: {number} {count}{}\n", spaced(&places))
 }
 
 /// The numbers, a space before each.

@@ -37,3 +37,11 @@ fn weights() {
     // As much as the run test has room for.
     assert!(input.len() < 60_000, "{}", input.len());
 }
+
+#[test]
+fn lines() {
+    let input = include_bytes!("../../../crates/test_lines/stdin");
+    assert!(input == cases::lines_input().as_slice());
+    // As much as the run test has room for.
+    assert!(input.len() <= 65_000, "{}", input.len());
+}

@@ -7,8 +7,8 @@ use std::process::ExitCode;
 
 use independent::{cases, printing};
 
-const MODES: &str = "judge, judges, cells, kinds, names, doubles, fees, weights, \
-    make-judges, make-cells, make-kinds, make-names, make-fees, make-weights";
+const MODES: &str = "judge, judges, cells, kinds, names, doubles, fees, weights, lines, \
+    make-judges, make-cells, make-kinds, make-names, make-fees, make-weights, make-lines";
 
 fn main() -> ExitCode {
     let mode = std::env::args().nth(1).unwrap_or_default();
@@ -38,12 +38,14 @@ fn printed(mode: &str) -> Option<Vec<u8>> {
         "doubles" => Some(printing::doubles(&input()).into_bytes()),
         "fees" => Some(printing::fees(&input()).into_bytes()),
         "weights" => Some(printing::weights(&input()).into_bytes()),
+        "lines" => Some(printing::lines(&input()).into_bytes()),
         "make-judges" => Some(cases::judges_input()),
         "make-cells" => Some(cases::cells_input()),
         "make-kinds" => Some(cases::kinds_input()),
         "make-names" => Some(cases::names_input()),
         "make-fees" => Some(cases::fees_input()),
         "make-weights" => Some(cases::weights_input()),
+        "make-lines" => Some(cases::lines_input()),
         _ => None,
     }
 }

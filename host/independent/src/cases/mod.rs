@@ -6,6 +6,7 @@ pub mod cells;
 pub mod fee;
 pub mod judging;
 pub mod kinds;
+pub mod lines;
 pub mod names;
 pub mod weights;
 
@@ -71,6 +72,21 @@ pub fn weights_input() -> Vec<u8> {
     for case in weights::all() {
         assert!(!case.file.contains(&END));
         out.extend(case.file);
+        out.push(END);
+    }
+    out
+}
+
+/// Several files, each ended by the byte 30: those of the cases, and of each edit
+/// the file before it and after it.
+pub fn lines_input() -> Vec<u8> {
+    let edits = lines::edits().into_iter();
+    let of_edits = edits.flat_map(|edit| [edit.before, edit.after]);
+    let of_cases = lines::all().into_iter().map(|case| case.file);
+    let mut out = Vec::new();
+    for file in of_cases.chain(of_edits) {
+        assert!(!file.contains(&END));
+        out.extend(file);
         out.push(END);
     }
     out
