@@ -17,6 +17,9 @@ pub fn files() -> Vec<(String, Vec<u8>)> {
     for case in cases::weights::all() {
         all.push((case.label.to_string(), case.file));
     }
+    for case in cases::lines::all() {
+        all.push((case.label.to_string(), case.file));
+    }
     for export in samples::EXPORTS {
         all.push((export.name.to_string(), export.file.to_vec()));
     }

@@ -8,17 +8,18 @@ use independent::Reading;
 use mztab::{raw, Break, Value};
 use samples::Draws;
 
+use crate::edits::{self, Edited};
 use crate::firsts::{self, Mistaken};
 use crate::weights;
 
 /// What a place holds that no break fills.
-const MARK: u32 = 0xdead_beef;
+pub const MARK: u32 = 0xdead_beef;
 /// So many questions are asked of a file; of one with more cells, some are drawn.
 const QUESTIONS: usize = 300;
 /// A file of so few breaks is judged with every length of list.
 const FEW: usize = 6;
 /// A break fills so many places: rule, line, cell and first.
-const FOUR: usize = 4;
+pub const FOUR: usize = 4;
 
 /// So many rules there are.
 const RULES: usize = 24;
@@ -48,6 +49,8 @@ pub struct Tried {
     pub sorts: BTreeMap<String, u64>,
     /// Accepted files that have a weight.
     pub weighed: u64,
+    /// Single lines and edits; in the end of the drawn files alone.
+    pub edited: Edited,
     /// How many splits by the number that was answered.
     pub splits: BTreeMap<u32, u64>,
     pub sums: u64,
@@ -112,9 +115,12 @@ pub fn compare(file: &[u8], draws: &mut Draws, tried: &mut Tried) -> Result<(), 
     // A box of its own has no room after the last byte, so that a checker of memory sees a read past it.
     let file: Box<[u8]> = file.into();
     tried.files += 1;
+    // What is drawn for lines and edits does not hang on what is drawn for the others.
+    let own = &mut draws.clone();
     judging(&file, draws, tried)?;
     cells(&file, draws, tried)?;
-    weights::compare(&file, draws, tried)
+    weights::compare(&file, draws, tried)?;
+    edits::compare(&file, own, tried)
 }
 
 fn judging(file: &[u8], draws: &mut Draws, tried: &mut Tried) -> Result<(), String> {
@@ -154,7 +160,7 @@ fn judging(file: &[u8], draws: &mut Draws, tried: &mut Tried) -> Result<(), Stri
 }
 
 /// The lengths of the lists that are lent: from none to more than enough where the breaks are few.
-fn lengths(breaks: usize, draws: &mut Draws) -> Vec<usize> {
+pub fn lengths(breaks: usize, draws: &mut Draws) -> Vec<usize> {
     let enough = FOUR * breaks;
     if breaks <= FEW && draws.once_in(4) {
         return (0..=enough + FOUR + 1).collect();

@@ -1,6 +1,6 @@
 //! Compares the library, through its binding, with the independent reading of the paper: every break, every place of the lent list,
-//! every cell, the rows and the weights, on files written by hand, hostile ones, and files drawn by a grammar, most of them damaged; and
-//! fees that are split, by hand and drawn, some beside each drawn file.
+//! every cell, the rows and the weights, single lines, and files with one cell edited, on files written by hand, hostile ones, and files
+//! drawn by a grammar, most of them damaged; and fees that are split, by hand and drawn, some beside each drawn file.
 //!
 //! `differential [--seed S] [--from K] [--count N] [--sample M]`: N drawn files, beside the hostile ones and every M-th of those written by
 //! hand, else all. With `--from` the drawn files K to K + N - 1 alone, so that a run can be cut into parts. The same seed draws the same files.
@@ -14,6 +14,7 @@ mod by_hand_again;
 mod compare;
 mod complete;
 mod damage;
+mod edits;
 mod fees;
 mod firsts;
 mod grammar;
@@ -26,6 +27,7 @@ use std::ops::RangeInclusive;
 use std::process::ExitCode;
 
 use compare::{compare, Tried, INDEX_RULES, WITH_INDEX};
+use edits::Edited;
 use firsts::{AGAIN, MISTAKEN};
 use samples::Draws;
 
@@ -79,12 +81,7 @@ fn main() -> ExitCode {
     }
     run.drawn(&options);
     if options.count >= MANY {
-        run.every_rule();
-        run.every_index();
-        run.every_first();
-        run.every_demand();
-        run.every_reading();
-        run.every_number();
+        run.every_one();
     }
     if run.different == 0 {
         ExitCode::SUCCESS
@@ -130,6 +127,8 @@ impl Run {
         }
         let fees = fees::by_hand(&mut self.tried);
         self.note("a fee by hand", fees);
+        let edits = edits::by_hand(&mut Draws::new(options.seed), &mut self.tried);
+        self.note("an edit by hand", edits);
         println!(
             "differential: {} files by hand, {} differences",
             self.tried.files, self.different
@@ -164,6 +163,7 @@ impl Run {
         let from = options.from.unwrap_or(0);
         let weighed_before = self.tried.weighed;
         self.tried.firsts.clear();
+        let not_drawn = std::mem::take(&mut self.tried.edited);
         for k in from..from.saturating_add(options.count) {
             let mut draws = draws_of(options.seed, k);
             let file = grammar::file(&near, &mut draws);
@@ -173,7 +173,22 @@ impl Run {
         }
         self.drawn = options.count;
         self.weighed = self.tried.weighed - weighed_before;
+        self.print_edits(&not_drawn);
         self.print(options.seed, from);
+    }
+
+    fn print_edits(&self, not_drawn: &Edited) {
+        let Edited {
+            lines,
+            hung,
+            edits,
+            changed,
+        } = &self.tried.edited;
+        println!(
+            "differential: in drawn files {lines} lines judged by themselves, the breaks of {hung} hang on lines below; \
+             {edits} cells edited, {changed} of the edits changed breaks; in the other files {} lines, and {} cells edited, {} with a change",
+            not_drawn.lines, not_drawn.edits, not_drawn.changed
+        );
     }
 
     fn print(&self, seed: u64, from: u64) {
@@ -252,6 +267,17 @@ impl Run {
         self.different += 1;
     }
 
+    /// The files show something of everything.
+    fn every_one(&mut self) {
+        self.every_rule();
+        self.every_index();
+        self.every_first();
+        self.every_demand();
+        self.every_reading();
+        self.every_number();
+        self.every_edit();
+    }
+
     /// Files that never break a rule would show nothing of it.
     fn every_rule(&mut self) {
         for rule in 1..self.tried.rules.len() {
@@ -308,6 +334,26 @@ impl Run {
             if !self.tried.powers.contains_key(&power) {
                 self.too_little(&format!("no decimal has the power {power}"));
             }
+        }
+    }
+
+    /// The same of the drawn files' single lines and edits: there are as many edits as files at least, and some change a break; and the breaks
+    /// of some lines hang on lines below.
+    fn every_edit(&mut self) {
+        let Edited {
+            hung,
+            edits,
+            changed,
+            ..
+        } = self.tried.edited;
+        if edits < self.drawn {
+            self.too_little(&format!("{edits} cells of drawn files are edited"));
+        }
+        if changed == 0 {
+            self.too_little("no edit changes a break");
+        }
+        if hung == 0 {
+            self.too_little("the breaks of no line hang on a line below");
         }
     }
 

@@ -116,6 +116,7 @@ pub fn all() -> Vec<Case> {
     type_below(&mut c);
     type_that_does_not_count(&mut c);
     headers_again(&mut c);
+    headers_and_rows(&mut c);
     wide_headers(&mut c);
     names_in_headers(&mut c);
     columns_and_ids_below(&mut c);
@@ -484,6 +485,9 @@ fn headers_again(c: &mut Cases) {
         file,
         &[(3, 1, 10, 0), (4, 1, 9, 2), (5, 1, 9, 3), (5, 1, 10, 0)],
     );
+}
+
+fn headers_and_rows(c: &mut Cases) {
     let file = format!("SML→a→1\n{PH}\n{PR}\n");
     c.of(
         "rule 10: a row of a later section is none",
@@ -836,12 +840,16 @@ impl Edits {
 pub fn edits() -> Vec<Edit> {
     let mut e = Edits { list: Vec::new() };
     holes_and_nulls(&mut e);
-    numbers(&mut e);
+    holes_beside_others(&mut e);
+    wholes(&mut e);
+    decimals(&mut e);
     lists(&mut e);
     texts(&mut e);
     control_bytes(&mut e);
     ends_of_lines(&mut e);
+    cells_with_a_cr(&mut e);
     rows_that_stay_as_they_are(&mut e);
+    rows_under_a_wide_header(&mut e);
     beside_other_lines(&mut e);
     e.list
 }
@@ -869,6 +877,9 @@ fn holes_and_nulls(e: &mut Edits) {
         ("null", &[(2, 20)]),
         ("", &[(2, 19)]),
     );
+}
+
+fn holes_beside_others(e: &mut Edits) {
     let molecule = format!("{MH}\nSML→*→\n");
     e.of(
         "one of two holes",
@@ -887,7 +898,7 @@ fn holes_and_nulls(e: &mut Edits) {
     );
 }
 
-fn numbers(e: &mut Edits) {
+fn wholes(e: &mut Edits) {
     let charge = format!("{MH}\nSML→a→*\n");
     e.of(
         "a decimal for a whole",
@@ -917,6 +928,9 @@ fn numbers(e: &mut Edits) {
         ("NA", &[(3, 20)]),
         ("null", &[]),
     );
+}
+
+fn decimals(e: &mut Edits) {
     let coverage = format!("{PH}→protein_coverage\n{PR}→*\n");
     e.of(
         "an exponent",
@@ -1048,9 +1062,13 @@ fn ends_of_lines(e: &mut Edits) {
         ("1", &[]),
         ("", &[(3, 19)]),
     );
+}
+
+fn cells_with_a_cr(e: &mut Edits) {
+    let none = format!("{MH}\nSML→a→*");
     e.of(
         "a cell whose CR is its own",
-        &none,
+        none,
         (2, 3),
         ("1\r", &[(3, 1), (3, 20)]),
         ("1", &[]),
@@ -1097,6 +1115,9 @@ fn rows_that_stay_as_they_are(e: &mut Edits) {
         ("1", &[(1, 17)]),
         ("x", &[(1, 17)]),
     );
+}
+
+fn rows_under_a_wide_header(e: &mut Edits) {
     let wide = format!("{}\nPRT→*→\n", wide(257));
     e.of(
         "a header over 256 cells",
