@@ -117,17 +117,22 @@ pub fn compare(file: &[u8], draws: &mut Draws, tried: &mut Tried) -> Result<(), 
     tried.files += 1;
     // What is drawn for lines and edits does not hang on what is drawn for the others.
     let own = &mut draws.clone();
-    judging(&file, draws, tried)?;
+    let expected = independent::judge(&file);
+    match &expected {
+        None => too_long(&file)?,
+        Some(expected) => judging(&file, expected, draws, tried)?,
+    }
     cells(&file, draws, tried)?;
     weights::compare(&file, draws, tried)?;
-    edits::compare(&file, own, tried)
+    edits::compare(&file, expected.as_deref(), own, tried)
 }
 
-fn judging(file: &[u8], draws: &mut Draws, tried: &mut Tried) -> Result<(), String> {
-    let expected = match independent::judge(file) {
-        None => return too_long(file),
-        Some(expected) => expected,
-    };
+fn judging(
+    file: &[u8],
+    expected: &[independent::Break],
+    draws: &mut Draws,
+    tried: &mut Tried,
+) -> Result<(), String> {
     let places: Vec<u32> = expected
         .iter()
         .flat_map(|at| [at.rule, at.line, at.cell, at.first])
@@ -155,7 +160,7 @@ fn judging(file: &[u8], draws: &mut Draws, tried: &mut Tried) -> Result<(), Stri
             "the list of all has {found:?}, not {expected:?} (rule, line, cell, first)"
         ));
     }
-    tried.note_breaks(file, &expected);
+    tried.note_breaks(file, expected);
     Ok(())
 }
 

@@ -14,7 +14,9 @@ use crate::grammar;
 const FEW_LINES: u32 = 12;
 const SOME_LINES: usize = 6;
 /// A file of more bytes than this has the first, the last and one other judged, and no cell edited. No drawn file is so long.
-const LARGE: usize = 250_000;
+const LARGE: usize = 60_000;
+/// In a file of so many bytes lines are cut off.
+const CUT: usize = 20_000;
 /// So many cells of a file are edited, each by itself.
 const EDITS: usize = 2;
 /// How long a long text is at most.
@@ -70,33 +72,36 @@ pub struct Edited {
 }
 
 /// Nothing where both say the same of some lines and of some edits, else both answers in words.
-pub fn compare(file: &[u8], draws: &mut Draws, tried: &mut Tried) -> Result<(), String> {
-    let expected = match independent::judge(file) {
+/// `expected` is what the independent reading finds, nothing for a file that is too long.
+pub fn compare(
+    file: &[u8],
+    expected: Option<&[Break]>,
+    draws: &mut Draws,
+    tried: &mut Tried,
+) -> Result<(), String> {
+    let expected = match expected {
         None => return refused(file, &[0, 1, 2, u32::MAX], 1, draws),
         Some(expected) => expected,
     };
     let last = count(file);
     for line in some_lines(last, file.len() > LARGE, draws) {
-        let own = of_line(&expected, line);
+        let own = of_line(expected, line);
         one_line(file, line, &own, draws)?;
         tried.edited.lines += 1;
-        tried.edited.hung += u64::from(file.len() <= LARGE && hangs_below(file, line, &own));
+        tried.edited.hung += u64::from(file.len() <= CUT && hangs_below(file, line, &own));
     }
-    let beyond = last + 2 + draws.below(300) as u32;
-    refused(file, &[0, last + 1, beyond, u32::MAX], 3, draws)?;
+    refused(file, &[0, last + 1, u32::MAX], 3, draws)?;
     if file.len() > LARGE {
         return Ok(());
     }
-    some_edits(file, &expected, draws, tried)
+    some_edits(file, expected, draws, tried)
 }
 
-/// The edits written by hand, and every line of the files before and after them.
+/// The edits written by hand, and what is compared of the files before them.
 pub fn by_hand(draws: &mut Draws, tried: &mut Tried) -> Result<(), String> {
     for edit in independent::cases::lines::edits() {
-        for file in [&edit.before, &edit.after] {
-            compare(file, draws, tried)?;
-        }
         let expected = independent::judge(&edit.before).ok_or("it is too long")?;
+        compare(&edit.before, Some(&expected), draws, tried)?;
         let old = whole_list(&edit.before)?;
         let changed = one_edit(&old, &expected, edit.after.into(), edit.line, draws)
             .map_err(|words| format!("{}: {words}", edit.label))?;
@@ -119,9 +124,12 @@ fn some_lines(last: u32, large: bool, draws: &mut Draws) -> Vec<u32> {
     all
 }
 
-/// One line, with lists of some lengths: from none to more than enough where its breaks are few.
+/// One line, with lists of some lengths: from none to more than enough where its breaks are few. Most lines have none: those get one list.
 fn one_line(file: &[u8], line: u32, own: &[Break], draws: &mut Draws) -> Result<(), String> {
     let expected = places(own);
+    if own.is_empty() {
+        return with_list(file, line, (0, &expected), draws.below(FOUR + 2));
+    }
     for length in lengths(own.len(), draws) {
         with_list(file, line, (0, &expected), length)?;
     }
@@ -166,8 +174,15 @@ fn with_list(
     ))
 }
 
-/// Whether the line's breaks are others where the lines below it are cut off.
+/// Whether the line's breaks are others where the lines below it are cut off. Rows look at lines above alone, and are passed over.
 fn hangs_below(file: &[u8], line: u32, own: &[Break]) -> bool {
+    let is_row = |line: &[u8]| matches!(lines::code(line), Code::Row(_));
+    if lines::lines(file)
+        .nth(line as usize - 1)
+        .map_or(false, is_row)
+    {
+        return false;
+    }
     let with_ends = file.split_inclusive(|byte| *byte == b'\n');
     let end: usize = with_ends.take(line as usize).map(<[u8]>::len).sum();
     match independent::judge_line(&file[..end], line) {
