@@ -3,7 +3,8 @@
 
 use std::collections::BTreeSet;
 
-use independent::cases::lines::{all, edits, Case, NOT_EDITED};
+use independent::cases::edits::{all as edits, NOT_EDITED, WHY_NOT};
+use independent::cases::lines::{all, Case};
 use independent::cases::{self, judging};
 use independent::edits::{count, of_line, NoEdit};
 use independent::lines::{cells, code, lines, Code};
@@ -135,10 +136,9 @@ fn every_edit_leaves_the_other_lines() {
 
 #[test]
 fn what_is_not_edited() {
-    let (file, cases) = NOT_EDITED;
-    for (line, cell, new, why) in cases {
-        let found = edited(file.as_bytes(), *line, *cell, new);
-        assert_eq!(found, Err(*why), "line {line}, cell {cell}");
+    for (line, cell, new, why) in WHY_NOT {
+        let found = edited(NOT_EDITED, line, cell, new);
+        assert_eq!(found, Err(why), "line {line}, cell {cell}");
     }
 }
 

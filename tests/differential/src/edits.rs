@@ -99,7 +99,7 @@ pub fn compare(
 
 /// The edits written by hand, and what is compared of the files before them.
 pub fn by_hand(draws: &mut Draws, tried: &mut Tried) -> Result<(), String> {
-    for edit in independent::cases::lines::edits() {
+    for edit in independent::cases::edits::all() {
         let expected = independent::judge(&edit.before).ok_or("it is too long")?;
         compare(&edit.before, Some(&expected), draws, tried)?;
         let old = whole_list(&edit.before)?;
@@ -377,7 +377,7 @@ mod tests {
         assert!(some(|new| new.iter().any(|byte| *byte < 32)));
         assert!(some(|new| new.iter().any(|byte| *byte > 127)));
         assert!(some(|new| new.contains(&b'"')) && some(|new| new.len() > 1_000));
-        assert!(some(|new| new == b"1.5") || some(|new| independent::kinds::decimal(new)));
+        assert!(some(independent::kinds::decimal));
     }
 
     #[test]

@@ -3,6 +3,7 @@
 //! inputs.
 
 pub mod cells;
+pub mod edits;
 pub mod fee;
 pub mod judging;
 pub mod kinds;
@@ -80,7 +81,7 @@ pub fn weights_input() -> Vec<u8> {
 /// Several files, each ended by the byte 30: those of the cases, and of each edit
 /// the file before it and after it.
 pub fn lines_input() -> Vec<u8> {
-    let edits = lines::edits().into_iter();
+    let edits = edits::all().into_iter();
     let of_edits = edits.flat_map(|edit| [edit.before, edit.after]);
     let of_cases = lines::all().into_iter().map(|case| case.file);
     let mut out = Vec::new();
