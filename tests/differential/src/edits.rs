@@ -11,8 +11,8 @@ use crate::compare::{lengths, Tried, FOUR, MARK};
 use crate::grammar;
 
 /// Of a file of so few lines each is judged; of one with more the first, the last and so many others.
-const FEW_LINES: u32 = 12;
-const SOME_LINES: usize = 6;
+const FEW_LINES: u32 = 10;
+const SOME_LINES: usize = 4;
 /// A file of more bytes than this has the first, the last and one other judged, and no cell edited. No drawn file is so long.
 const LARGE: usize = 60_000;
 /// In a file of so many bytes lines are cut off.
@@ -124,11 +124,13 @@ fn some_lines(last: u32, large: bool, draws: &mut Draws) -> Vec<u32> {
     all
 }
 
-/// One line, with lists of some lengths: from none to more than enough where its breaks are few. Most lines have none: those get one list.
+/// One line, with lists of some lengths: from none to more than enough where its breaks are few. Most lines have none: those get one list, as
+/// do the lines of a large file.
 fn one_line(file: &[u8], line: u32, own: &[Break], draws: &mut Draws) -> Result<(), String> {
     let expected = places(own);
-    if own.is_empty() {
-        return with_list(file, line, (0, &expected), draws.below(FOUR + 2));
+    if own.is_empty() || file.len() > LARGE {
+        let length = draws.below(expected.len() + FOUR + 2);
+        return with_list(file, line, (0, &expected), length);
     }
     for length in lengths(own.len(), draws) {
         with_list(file, line, (0, &expected), length)?;
@@ -251,9 +253,8 @@ fn whole_list(file: &[u8]) -> Result<Vec<Break>, String> {
     Ok(found.collect())
 }
 
-/// The breaks of one line by the library: their count with no place lent, then all of them.
-fn line_list(file: &[u8], line: u32) -> Vec<Break> {
-    let count = raw::judge_line(file, line, &mut []).count as usize;
+/// The breaks of one line by the library, which has answered that there are so many.
+fn line_list(file: &[u8], line: u32, count: usize) -> Vec<Break> {
     let mut places = vec![MARK; FOUR * count].into_boxed_slice();
     raw::judge_line(file, line, &mut places);
     let breaks = places.chunks_exact(FOUR).map(|four| Break {
@@ -280,7 +281,7 @@ fn one_edit(
     let found = whole_list(&after)?;
     let mut put_together = others(old, line);
     let at = put_together.partition_point(|at| at.line < line);
-    put_together.splice(at..at, line_list(&after, line));
+    put_together.splice(at..at, line_list(&after, line, own.len()));
     same(
         "its list and the old one with the line afresh",
         &found,

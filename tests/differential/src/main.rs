@@ -122,8 +122,9 @@ struct Run {
 
 impl Run {
     fn by_hand(&mut self, options: &Options) {
-        for (label, file) in by_hand::files().into_iter().step_by(options.sample) {
-            self.try_one(&label, &file, &mut Draws::new(options.seed));
+        let files = (0..).zip(by_hand::files());
+        for (k, (label, file)) in files.step_by(options.sample) {
+            self.try_one(&label, &file, &mut draws_of(options.seed, k));
         }
         let fees = fees::by_hand(&mut self.tried);
         self.note("a fee by hand", fees);
