@@ -178,11 +178,8 @@ fn with_list(
 
 /// Whether the line's breaks are others where the lines below it are cut off. Rows look at lines above alone, and are passed over.
 fn hangs_below(file: &[u8], line: u32, own: &[Break]) -> bool {
-    let is_row = |line: &[u8]| matches!(lines::code(line), Code::Row(_));
-    if lines::lines(file)
-        .nth(line as usize - 1)
-        .map_or(false, is_row)
-    {
+    let own_line = lines::lines(file).nth(line as usize - 1);
+    if matches!(own_line.map(lines::code), Some(Code::Row(_))) {
         return false;
     }
     let with_ends = file.split_inclusive(|byte| *byte == b'\n');
