@@ -53,7 +53,7 @@ fn run_all(table: &[u8]) {
 }
 
 fn main() {
-    let mut buffer = io::large_buffer();
+    let mut buffer = [0u8; 327680];
     let n = io::read_full(0, &mut buffer);
     run_all(&buffer[..n]);
 }

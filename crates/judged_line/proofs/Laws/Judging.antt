@@ -17,10 +17,10 @@ use Rattle.book.specs.Book.{bookOf}
 use Rattle.rules.specs.Sorts.{isRow}
 use Rattle.rules.specs.Breaks.{Break, breakWith, In}
 use Rattle.rules.specs.Rules.{rules, endRules, ends, breaksBy, breaks}
-use Rattle.rules.specs.Edited.{onLine, renewed, ofLine}
+use Rattle.rules.specs.Edited.{onLine, others, renewed, ofLine}
 use Rattle.rules.proofs.Laws.Promises.{breaks-reported}
 use Rattle.rules.proofs.Laws.Renewing.{kept-in, in-kept, kept-sorted, line-part}
-use Rattle.rules.proofs.Laws.Locality.{edited-breaks}
+use Rattle.rules.proofs.Laws.Locality.{edited-others, edited-breaks}
 use Rattle.scan.specs.Places.{lent, putAll}
 use Rattle.judged.specs.Judged.{outcome, ended, judged}
 use Rattle.judged.specs.Promised.{Refused, Lists, readAll}
@@ -70,27 +70,33 @@ module _ (file : Bytes) (l : ℕ) (ys : List ℕ) {n k : ℕ} {zs : List ℕ} (c
       pub judge-line-promised : Promised file l (ofLine file l) ys n k zs
       judge-line-promised = record { reports = line-reported file l low high; lists = judge-line-lists }
 
--- ONE EDITED CELL: of three calls, each with a list that has room for all, what a host reads: the list of the edited file is the old one, with the answer of
--- the call for that line of the edited file in the line's place
+-- ONE EDITED CELL: what a host reads of three calls, each with a list that has room for all
 module _
     {file : Bytes} {l c : ℕ} {new : Bytes} (e : Edit file l c new) (row : isRow (bookOf (lines file)) (getD (lines file) (l - 1) []) ≡ true)
-    (limit : length file ≤ LIMIT) (limit′ : length (editedFile l c new file) ≤ LIMIT) where
+    (limit : length file ≤ LIMIT) (limit′ : length (editedFile l c new file) ≤ LIMIT)
+    (ys ys₂ : List ℕ) {n k n₂ k₂ : ℕ} {zs zs₂ : List ℕ}
+    (old : outcome n k zs ≡ judged file ys) (room : 4 * k ≤ length ys)
+    (now : outcome n₂ k₂ zs₂ ≡ judged (editedFile l c new file) ys₂) (room₂ : 4 * k₂ ≤ length ys₂) where
   abbrev file′ : Bytes
   file′ = editedFile l c new file
+
+  before : readAll k zs ≡ breaks file
+  before = lists-read (judge-places-lists file ys old limit) room
+
+  after : readAll k₂ zs₂ ≡ breaks file′
+  after = lists-read (judge-places-lists file′ ys₂ now limit′) room₂
 
   -- the edited file has as many lines
   as-many : length (lines file′) ≡ length (lines file)
   as-many = ap length (edited-lines e) ∙ length-set (lines file) (l - 1) (editedLine c new (getD (lines file) (l - 1) []))
 
-  pub edit-judged : (ys ys₁ ys₂ : List ℕ) {n k n₁ k₁ n₂ k₂ : ℕ} {zs zs₁ zs₂ : List ℕ}
-      → outcome n k zs ≡ judged file ys → 4 * k ≤ length ys
-      → outcome n₁ k₁ zs₁ ≡ judgedLine file′ l ys₁ → 4 * k₁ ≤ length ys₁
-      → outcome n₂ k₂ zs₂ ≡ judged file′ ys₂ → 4 * k₂ ≤ length ys₂
+  -- the breaks on all other lines are the same
+  pub edit-others-judged : others l (readAll k₂ zs₂) ≡ others l (readAll k zs)
+  edit-others-judged = rw (before, after) (edited-others e row)
+
+  -- and the list of the edited file is the old one, with the answer of the call for that line of the edited file in the line's place
+  pub edit-judged : (ys₁ : List ℕ) {n₁ k₁ : ℕ} {zs₁ : List ℕ} → outcome n₁ k₁ zs₁ ≡ judgedLine file′ l ys₁ → 4 * k₁ ≤ length ys₁
       → readAll k₂ zs₂ ≡ renewed l (readAll k₁ zs₁) (readAll k zs)
-  edit-judged ys ys₁ ys₂ old room line room₁ new room₂ =
-      rw (
-        lists-read (judge-places-lists file ys old limit) room,
-        lists-read (judge-line-lists file′ l ys₁ line limit′ (e .line-low) (omega (arith, e .line-high, as-many))) room₁,
-        lists-read (judge-places-lists file′ ys₂ new limit′) room₂,
-      )
+  edit-judged ys₁ line room₁ =
+      rw (before, after, lists-read (judge-line-lists file′ l ys₁ line limit′ (e .line-low) (omega (arith, e .line-high, as-many))) room₁)
       (edited-breaks e row)
