@@ -1,3 +1,4 @@
 pub mod Judged
 pub mod Outcomes
 pub mod Promised
+pub mod Passing

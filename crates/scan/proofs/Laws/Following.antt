@@ -25,7 +25,7 @@ use Rattle.scan.proofs.Laws.Celling.{any-one-more}
 use Rattle.book.specs.Book.{SECTIONS, Book}
 use Rattle.book.proofs.Laws.Sized.{Sized}
 
-nearest-append : (book : Book) (xs : List Bytes) (x found : Bytes) → nearestIn book (xs ++ (x ∷ [])) found ≡ nearer book x (nearestIn book xs found)
+pub nearest-append : (book : Book) (xs : List Bytes) (x found : Bytes) → nearestIn book (xs ++ (x ∷ [])) found ≡ nearer book x (nearestIn book xs found)
 unfolding nearestIn
 nearest-append book [] x found = refl
 nearest-append book (y ∷ ys) x found = nearest-append book ys x (nearer book y found)

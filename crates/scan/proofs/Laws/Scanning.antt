@@ -102,7 +102,7 @@ module _ (book : Book) (F : List Bytes) (n : ℕ) {l : Bytes} {ls : List Bytes} 
   lines-more : length F - n ≡ suc (length F - suc n)
   lines-more = omega (arith, length-drop n F, ap length e)
 
-  lines-above : take (suc n) F ≡ take n F ++ (l ∷ [])
+  pub lines-above : take (suc n) F ≡ take n F ++ (l ∷ [])
   lines-above = take-suc F n [] (omega (arith, length-drop n F, ap length e)) ∙ rw line-here
 
   -- the breaks of line n + 1, and those of the lines after it
