@@ -2,8 +2,9 @@
 use book_text::book;
 use judging::calls::Carried;
 use judging::calls::begin;
-use line_any::Step;
-use line_any::judge_line;
+use judging::parts::Bounds;
+use judging::parts::Stand;
+use judging::parts::judge_lines;
 use line_head::Head;
 use line_head::judge_head;
 use line_head_stamps::ROOM;
@@ -42,6 +43,9 @@ ghost use Rattle.judging.specs.Parts.{beginning};
 ghost use Rattle.judging.specs.Calls.{Going};
 ghost use Rattle.judged_line.specs.Judged.{isLine, judgedLine};
 ghost use Rattle.judged_line.specs.Passing.{Passes, Reaches, Headed, Learnt};
+
+// More breaks than a line can have.
+const ALL: u32 = 4000000000;
 
 // What a line above leaves: the state after it, and whether it is a header.
 pub struct Passed {
@@ -259,25 +263,32 @@ fn judge_alone(places: &mut [u32], line: u32, book: &[u8], file: &[u8], begun: C
     learn_kinds(state, head, book, file, &flags, &mut kinds, &mut stamps);
     let at = reached.at;
     let here = line_at(file, at);
-    let end = here.end;
-    let step = Step {
-        line,
-        count: 0,
+    let bounds = Bounds {
+        room: ALL,
+        end: here.next,
+    };
+    let above = line - 1;
+    let stand = Stand {
+        more: true,
+        at,
+        lines: above,
+        before: 0,
+        held: 0,
         state,
     };
-    let next = judge_line(
+    let judged = judge_lines(
         places,
-        step,
+        bounds,
         book,
-        &file[at..end],
+        file,
+        stand,
         &flags,
         &mut kinds,
         &mut slots,
-        &mut stamps,
     );
     Alone {
         found: true,
-        count: next.count,
+        count: judged.held,
     }
 }
 

@@ -1,8 +1,8 @@
--- One line of a file: where it is there, and that what is put of it from what is carried are its breaks. Assumes nothing.
-use mathlib.Core.Path.{_≡_, refl, sym, ap, subst, _∙_}
+-- One line of a file: where it is there, and that what is put of it alone are its breaks. Assumes nothing.
+use mathlib.Core.Path.{_≡_, refl, sym, ap, subst, subst⁻¹, _∙_}
 use mathlib.Core.Bool.{Bool, true, false, _&&_}
-use mathlib.Core.List.{List, [], _∷_, append-nil}
-use Prim.Native.Nat.{ℕ, _+_, _-_, _≤_, _<_}
+use mathlib.Core.List.{List, [], _∷_, _++_, append-assoc}
+use Prim.Native.Nat.{ℕ, suc, _+_, _-_, _≤_, _<_}
 use native.Mathlib.Omega.{arith}
 use borrow.Author.Tests.{le-leb, lt-leb, leb-true}
 use lib.Dec.{leb}
@@ -13,19 +13,17 @@ use Rattle.text_bytes.specs.Places.{part}
 use Rattle.text.specs.Lines.{lines}
 use Rattle.text.specs.Places.{LineAt}
 use Rattle.book.specs.Book.{Book}
-use Rattle.book.proofs.Laws.Sized.{Sized}
-use Rattle.book_facts.specs.Asked.{askedBy}
 use Rattle.book_facts.specs.declared.Asking.{Asking}
-use Rattle.rules.specs.Breaks.{spot, atLine}
+use Rattle.rules.specs.Breaks.{Break, spot, atLine}
 use Rattle.rules.specs.Rules.{rules}
 use Rattle.rules.specs.Edited.{lineOf}
-use Rattle.scan.specs.Places.{LINE-MOST, lent, putAll, Puts}
-use Rattle.scan.specs.Machine.{Ids}
-use Rattle.scan.specs.Carried.{Scan, lineBreaks}
+use Rattle.scan.specs.Places.{lent, putAll}
+use Rattle.scan.specs.Carried.{Scan, from, last}
 use Rattle.scan.specs.declared.state.State.{State}
-use Rattle.scan.proofs.Laws.Lining.{Knows, means}
-use Rattle.judging.specs.Parts.{beginning}
+use Rattle.scan.proofs.Laws.Scanning.{from-next}
+use Rattle.judging.specs.Parts.{beginning, ahead, Lined}
 use Rattle.judging.specs.declared.parts.Stand.{Stand}
+use Rattle.judging.proofs.Laws.Parting.{parted-front}
 use Rattle.judged_line.specs.Judged.{isLine}
 
 -- before the first line no line is passed
@@ -45,24 +43,38 @@ no-line file n h = go (leb 1 n) refl
     go true e = lt-leb n (length (lines file)) (h (leb-true 1 n e))
     go false e = refl
 
-module _ {b : Book} (sized : Sized b) {file : Bytes} {at n end next : ℕ} {s : State} {kinds slots : List ℕ} (low : 1 ≤ n) (h : Scan b file at (n - 1) s kinds slots) (line : LineAt file at end next) where
-  ahead : drop (n - 1) (lines file) ≡ part at end file ∷ lines (drop next file)
-  ahead = sym (h .left) ∙ line .cut
+module _ {b : Book} {file : Bytes} {at n end next : ℕ} {s : State} {kinds slots : List ℕ} (low : 1 ≤ n) (h : Scan b file at (n - 1) s kinds slots) (line : LineAt file at end next) where
+  F : List Bytes
+  F = lines file
 
-  here : getD (lines file) (n - 1) [] ≡ part at end file
+  left : drop (n - 1) F ≡ part at end file ∷ lines (drop next file)
+  unfolding F
+  left = sym (h .left) ∙ line .cut
+
+  here : getD F (n - 1) [] ≡ part at end file
+  unfolding F
   here =
       let z : n - 1 ≡ n - 1 + 0 = omega arith in
-      ap (λ (k : ℕ). getD (lines file) k []) z ∙ sym (getD-drop (n - 1) (lines file) 0 []) ∙ ap (λ (q : List Bytes). getD q 0 []) ahead
+      ap (λ (k : ℕ). getD F k []) z ∙ sym (getD-drop (n - 1) F 0 []) ∙ ap (λ (q : List Bytes). getD q 0 []) left
 
   -- the line is one of the file's
   pub within : n ≤ length (lines file)
-  within = omega (arith, length-drop (n - 1) (lines file), ap length ahead)
+  unfolding F
+  within = omega (arith, length-drop (n - 1) F, ap length left)
 
-  -- and what is put of it are its breaks
-  pub line-alone : {ids : Ids} → Knows b (lines file) (askedBy (s .asking)) ids → {places places' : List ℕ} {k : ℕ}
-      → Puts (lineBreaks b ids s kinds slots n (part at end file)) LINE-MOST (lent places 0) (lent places' k) → lent places' k ≡ putAll (lent places 0) (lineOf b (lines file) n)
-  unfolding putAll
-  line-alone {ids} know {places} {places'} {k} p =
-      let F = lines file in
-      let bs = atLine (rules b) (spot (take (n - 1) F) (part at end file) F) n in
-      p .does [] ∙ ap (putAll (lent places 0)) (means sized know (h .stands) (part at end file) n [] ∙ append-nil bs ∙ ap (λ (l : Bytes). atLine (rules b) (spot (take (n - 1) F) l F) n) (sym here))
+  -- its breaks come first of those that are left
+  its-own : ahead b file (n - 1) ≡ lineOf b (lines file) n ++ ahead b file n
+  unfolding F
+  its-own =
+      let z : suc (n - 1) ≡ n = omega (arith, low) in
+      let own = atLine (rules b) (spot (take (n - 1) F) (part at end file) F) n in
+      let next : from b F (n - 1) ≡ own ++ from b F n = from-next b F (n - 1) left ∙ ap (λ (i : ℕ). atLine (rules b) (spot (take (n - 1) F) (part at end file) F) i ++ from b F i) z in
+      ap (λ (xs : List Break). xs ++ last b F) next ∙ append-assoc own (from b F n) (last b F)
+      ∙ ap (λ (l : Bytes). atLine (rules b) (spot (take (n - 1) F) l F) n ++ ahead b file n) (sym here)
+
+  -- so lines judged up to its end put them, and nothing else
+  pub line-alone : {st r : Stand} {room : ℕ} {places places' : List ℕ} → st .at ≡ at → st .lines ≡ n - 1 → Lined b file room next st r places places'
+      → lent places' (r .held) ≡ putAll (lent places 0) (lineOf b (lines file) n)
+  line-alone {st} {r} e f l =
+      let alone : r .lines ≡ n = omega (arith, l .alone end (subst⁻¹ (λ (i : ℕ). LineAt file i end next) e line), f, low) in
+      parted-front (lineOf b (lines file) n) (ap (ahead b file) f ∙ its-own ∙ ap (λ (i : ℕ). lineOf b (lines file) n ++ ahead b file i) (sym alone)) (l .parted)

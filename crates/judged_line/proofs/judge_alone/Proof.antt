@@ -1,19 +1,15 @@
 -- `judged_line::judge_alone` meets its contract: what is carried to the line, the kinds of the nearest header's columns with it, stands for the lines above it.
 -- Assumes nothing.
 use mathlib.Core.Path.{refl, sym, ap}
-use mathlib.Core.Bool.{true}
-use Prim.Native.Nat.{ℕ, _-_}
+use Prim.Native.Nat.{ℕ}
 use native.Mathlib.Omega.{arith}
 use borrow.Author.Needs.{needs}
 use borrow.Author.Tests.{not-true, not-false}
-use lib.ListN.{drop, length-take, length-drop, length-replicate}
+use lib.ListN.{length-replicate}
 use Rattle.text_bytes.proofs.Laws.Tests.{absurd-bool}
-use Rattle.book.proofs.Laws.Sized.{book-sized}
 use Rattle.scan.specs.Machine.{FIRSTS}
 use Rattle.line_head_stamps.specs.Stamps.{ROOM}
-use Rattle.judging.specs.Calls.{flagsOf}
 use Rattle.judging.specs.declared.parts.Stand.{Stand}
-use Rattle.judging.proofs.Laws.Knowing.{flags-know}
 use Rattle.judged_line.proofs.Laws.Passing.{scan-known, section-is, kinds-known}
 use Rattle.judged_line.proofs.Laws.Alone.{scan-first, is-line, no-line, within, line-alone}
 use Rattle.judged_line.proofs.judge_alone.Statement.{statement}
@@ -55,36 +51,37 @@ line-at-requires c κs =
     let else = found (c .before .before) in
     reached else .reach .ensures .0 (not-false _ (else .if1 .left)) .1
 
-judge-line-requires : tie.Need-judge-line-requires
-judge-line-requires c κs =
-    let at-line = c .before .before .before .before .before .before in
-    let at-learn = at-line .before .before in
-    let at-reach = reached (found (at-learn .before)) in
-    let s = start at-reach in
-    let going = s .pre .1 .0 in
-    let file = s .args .file .now in
-    let at = at-reach .reach .result .at in
-    let e = at-line .line-at .result .end in
-    let learnt = at-learn .learn-kinds .ensures .1 in
-    (omega arith, (s .pre .0, (omega (arith, length-take (e - at) (drop at file), length-drop at file, going .limit), (going .declared .shape, (learnt .0, (at-reach .reach .ensures .1 .1, learnt .1))))))
+sub-above : tie.Need-sub-above
+sub-above c =
+    let else = found (c .before .before .before) in
+    omega (arith, reached else .reach .ensures .0 (not-false _ (else .if1 .left)) .0)
 
-returns-2 : tie.Need-returns-2
-returns-2 c =
-    let at-judge = c .before .before .before .before in
-    let at-line = at-judge .before .before .before .before .before .before .before in
+judge-lines-requires : tie.Need-judge-lines-requires
+judge-lines-requires c κs =
+    let at-line = c .before .before .before .before in
     let at-learn = at-line .before .before in
     let else = found (at-learn .before) in
     let at-reach = reached else in
     let s = start at-reach in
     let going = s .pre .1 .0 in
-    let file = s .args .file .now in
-    let sized = book-sized (s .args .book .now) in
     let r = at-reach .reach .ensures .0 (not-false _ (else .if1 .left)) in
     let scan = scan-known (r .2) (kinds-known (r .2) (r .3) (at-learn .learn-kinds .ensures .0)) in
-    let line = at-line .line-at .ensures in
-    let knows = flags-know (s .args .book .now) (flagsOf (s .args .begun)) file (r .4) (going .declared) in (
-      sym (is-line file (s .args .line) (r .0) (within sized (r .0) scan line)),
-      ((λ h. line-alone sized (r .0) scan line knows (at-judge .judge-line .ensures .0)), (λ h. absurd-bool (sym h))),
+    (omega arith, (at-line .line-at .ensures .within, (s .pre .0, (going .limit, (scan, (r .4, (going .declared, (at-learn .learn-kinds .ensures .1 .0, at-reach .reach .ensures .1 .1))))))))
+
+returns-2 : tie.Need-returns-2
+returns-2 c =
+    let at-judge = c .before .before .before in
+    let at-line = at-judge .before .before .before .before .before in
+    let at-learn = at-line .before .before in
+    let else = found (at-learn .before) in
+    let at-reach = reached else in
+    let s = start at-reach in
+    let file = s .args .file .now in
+    let r = at-reach .reach .ensures .0 (not-false _ (else .if1 .left)) in
+    let scan = r .2 .1 .1 in
+    let line = at-line .line-at .ensures in (
+      sym (is-line file (s .args .line) (r .0) (within (r .0) scan line)),
+      ((λ h. line-alone (r .0) scan line refl refl (at-judge .judge-lines .ensures .0)), (λ h. absurd-bool (sym h))),
     )
 
 pub judge-alone-spec : {M : Type 1} → statement M
@@ -97,11 +94,8 @@ judge-alone-spec =
     (λ c. search needs)
     learn-kinds-requires
     line-at-requires
+    sub-above
     (λ c. search needs)
-    (λ c. search needs)
-    (λ c. search needs)
-    (λ c. search needs)
-    (λ c. search needs)
-    judge-line-requires
+    judge-lines-requires
     (λ c. search needs)
     returns-2)

@@ -2,12 +2,15 @@
 use mathlib.Core.Path.{_≡_, refl, sym, ap, _∙_}
 use mathlib.Core.Bool.{Bool, true, false}
 use mathlib.Core.List.{List, [], _++_}
+use mathlib.Core.Logic.{_⊎_, inl, inr, ⊎-elim}
 use Prim.Native.Nat.{ℕ, zero, suc, _+_, _≤_, _<_}
 use native.Mathlib.Omega.{arith}
 use lib.Seq.{drop-drop, take-all, take-add, take-append-seam, drop-append-seam}
 use lib.ListN.{length, getD, replicate, take, drop, length-append, length-drop}
 use Rattle.text_bytes.specs.Bytes.{Bytes}
-use Rattle.text.specs.Lines.{LIMIT, lines}
+use Rattle.text_bytes.specs.Places.{after}
+use Rattle.text.specs.Lines.{LF, LIMIT, lines}
+use Rattle.text.specs.Places.{LineAt}
 use Rattle.book_facts.specs.Asked.{AskingOf}
 use Rattle.book_facts.specs.declared.Asking.{Asking}
 use Rattle.rules.specs.Breaks.{Break}
@@ -16,16 +19,10 @@ use Rattle.scan.specs.Places.{FILE-MOST, Lent, lent, putAll, Puts}
 use Rattle.scan.proofs.Laws.Putting.{put-append, put-count}
 use Rattle.scan.proofs.Laws.Following.{stands-start}
 use Rattle.scan.proofs.Laws.Scanning.{scan-start, breaks-left, breaks-bound}
-use Rattle.judging.specs.Parts.{putSoFar, beginning, Midway, Parts}
+use Rattle.judging.specs.Parts.{putSoFar, beginning, Midway, Parted, Parts}
 use Rattle.judging.specs.declared.parts.Stand.{Stand}
 use Rattle.book.specs.Book.{Book}
 use Rattle.book.proofs.Laws.Sized.{Sized}
-
--- of the breaks bs, T were put before this part and k in it; those of `rest` are still to come
-pub record Parted (bs : List Break) (T : ℕ) (ys₀ ys : List ℕ) (k : ℕ) (rest : List Break) : Type 0 where
-  pub most : T + k ≤ length bs
-  pub puts : lent ys k ≡ putAll (lent ys₀ 0) (take k (drop T bs))
-  pub left : drop (T + k) bs ≡ rest
 
 pub parted-start : {bs rest : List Break} {T : ℕ} (ys : List ℕ) → T ≤ length bs → drop T bs ≡ rest → Parted bs T ys ys 0 rest
 unfolding putAll
@@ -57,6 +54,44 @@ module _ {bs : List Break} {T : ℕ} {ys₀ ys ys' : List ℕ} {k k' m : ℕ} {r
   -- and where it is the last, all were put
   pub parted-all : rest' ≡ [] → T + k' ≡ length bs
   parted-all z = omega (arith, length-drop (T + k') bs, ap length (parted-next .left ∙ z), parted-next .most)
+
+-- what is put of the breaks that are left is put of all
+pub parted-within : {bs cs rest : List Break} {T k : ℕ} {ys₀ ys : List ℕ} → T ≤ length bs → drop T bs ≡ cs → Parted cs 0 ys₀ ys k rest → Parted bs T ys₀ ys k rest
+parted-within {bs} {cs} {T = T} {k = k} {ys₀ = ys₀} low e p =
+    let z : 0 + k ≡ k = omega arith in
+    record {
+      most = omega (arith, p .most, length-drop T bs, ap length e, low);
+      puts = p .puts ∙ ap (λ (xs : List Break). putAll (lent ys₀ 0) (take k xs)) (sym e);
+      left = sym (drop-drop k T bs) ∙ ap (drop k) e ∙ ap (λ (n : ℕ). drop n cs) (sym z) ∙ p .left;
+    }
+
+-- where what is left begins with `here` and goes on with the rest, `here` was put
+pub parted-front : (here : List Break) {cs rest : List Break} {k : ℕ} {ys₀ ys : List ℕ} → cs ≡ here ++ rest → Parted cs 0 ys₀ ys k rest → lent ys k ≡ putAll (lent ys₀ 0) here
+parted-front here {cs} {rest} {k} {ys₀} e p =
+    let z : 0 + k ≡ k = omega arith in
+    let n : k ≡ length here = omega (arith, p .most, length-drop (0 + k) cs, ap length (p .left), ap length e, length-append here rest) in
+    p .puts ∙ ap (λ (xs : List Break). putAll (lent ys₀ 0) (take k xs)) e ∙ ap (λ (i : ℕ). putAll (lent ys₀ 0) (take i (here ++ rest))) n ∙ ap (putAll (lent ys₀ 0)) (take-append-seam here rest)
+
+-- ONE LINE ALONE, up to the place where it ends: it is still to be judged, or it is judged and no other
+abbrev pub Alone : Bytes → ℕ → ℕ → ℕ → ℕ → ℕ → ℕ → Type 0
+Alone file at₀ n₀ last at n k = (e : ℕ) → LineAt file at₀ e last → ((at ≡ at₀) × (n ≡ n₀) × (k ≡ 0)) ⊎ ((at ≡ last) × (n ≡ n₀ + 1))
+
+module _ {file : Bytes} {at₀ n₀ last at n k : ℕ} (h : Alone file at₀ n₀ last at n k) where
+  pub alone-next : {end next k' : ℕ} → at < last → LineAt file at end next → Alone file at₀ n₀ last next (n + 1) k'
+  alone-next lt line e l =
+      ⊎-elim
+      (λ (q : (at ≡ at₀) × (n ≡ n₀) × (k ≡ 0)). inr (line .passes ∙ ap (λ (i : ℕ). i + after LF 1 (drop i file)) (q .0) ∙ sym (l .passes), ap (λ (i : ℕ). i + 1) (q .1)))
+      (λ (q : (at ≡ last) × (n ≡ n₀ + 1)). absurd (omega (arith, q .0, lt)))
+      (h e l)
+
+  -- its breaks do not fill the room before it is judged
+  pub alone-full : {room : ℕ} → at < last → 1 ≤ room → room ≤ k → (e : ℕ) → LineAt file at₀ e last → n ≡ n₀ + 1
+  alone-full lt low most e l =
+      ⊎-elim (λ (q : (at ≡ at₀) × (n ≡ n₀) × (k ≡ 0)). absurd (omega (arith, q .2, low, most))) (λ (q : (at ≡ last) × (n ≡ n₀ + 1)). q .1) (h e l)
+
+  pub alone-done : last ≤ at → (e : ℕ) → LineAt file at₀ e last → n ≡ n₀ + 1
+  alone-done far e l =
+      ⊎-elim (λ (q : (at ≡ at₀) × (n ≡ n₀) × (k ≡ 0)). absurd (omega (arith, q .0, l .on, far))) (λ (q : (at ≡ last) × (n ≡ n₀ + 1)). q .1) (h e l)
 
 -- a list of one value has it everywhere, also past the end
 pub same-everywhere : {A : Type 0} (n i : ℕ) (a : A) → getD (replicate n a) i a ≡ a

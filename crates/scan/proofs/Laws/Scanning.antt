@@ -106,7 +106,7 @@ module _ (book : Book) (F : List Bytes) (n : ℕ) {l : Bytes} {ls : List Bytes} 
   lines-above = take-suc F n [] (omega (arith, length-drop n F, ap length e)) ∙ rw line-here
 
   -- the breaks of line n + 1, and those of the lines after it
-  from-next : from book F n ≡ atLine (rules book) (spot (take n F) l F) (suc n) ++ from book F (suc n)
+  pub from-next : from book F n ≡ atLine (rules book) (spot (take n F) l F) (suc n) ++ from book F (suc n)
   unfolding each
   from-next =
       let z : suc n - 1 ≡ n = omega arith in
@@ -119,30 +119,38 @@ from-bound book F (l ∷ ls) n e =
     rw (from-next book F n e)
     (omega (arith, length-append (atLine (rules book) (spot (take n F) l F) (suc n)) (from book F (suc n)), line-bound book (spot (take n F) l F) (suc n), from-bound book F ls (suc n) (lines-left book F n e)))
 
--- so their count fits 32 bits with room
-pub breaks-bound : (book : Book) → Sized book → (b : Bytes) → length b ≤ LIMIT → length (breaksBy book (lines b)) ≤ FILE-MOST
-unfolding breaksBy inLines atEnd endRules
-breaks-bound book sized b h =
-    let F = lines b in
-    let z : length F ≡ length F - 0 = omega arith in
-    omega (
-      arith,
-      length-append (inLines (rules book) F) (last book F),
-      from-bound book F F 0 refl,
-      widths-bound b,
-      each-bound 2 (ends book) 1 (atCell (endRules book) (spotAt F (length F + 1)) (length F + 1)) (at-bound (endRules book) (spotAt F (length F + 1)) (length F + 1)),
-      sized .ends,
-      ap (λ (k : ℕ). length (each k 1 (λ i. atLine (rules book) (spotAt F i) i))) z,
-    )
-
--- THE SCAN: where it stands, by the place and the number of lines passed
-pub scan-start : (book : Book) (file : Bytes) {s : State} {kinds slots : List ℕ} → Stands book [] s kinds slots → Scan book file 0 0 s kinds slots
-scan-start book file st = record { within = omega arith; counted = omega arith; passed = omega arith; left = refl; stands = st }
+widths-drop : (n : ℕ) (ls : List Bytes) → widths (drop n ls) ≤ widths ls
+unfolding widths
+widths-drop zero ls = omega arith
+widths-drop (suc n) [] = omega arith
+widths-drop (suc n) (l ∷ ls) = omega (arith, widths-drop n ls)
 
 -- all breaks are those of the lines and those at the end
 pub breaks-left : (book : Book) (file : Bytes) → breaksBy book (lines file) ≡ from book (lines file) 0 ++ last book (lines file)
 unfolding breaksBy inLines
 breaks-left book file = let z : length (lines file) - 0 ≡ length (lines file) = omega arith in rw z
+
+-- so their count fits 32 bits with room, of the lines left and of all
+pub left-bound : (book : Book) → Sized book → (b : Bytes) → length b ≤ LIMIT → (n : ℕ) → length (from book (lines b) n ++ last book (lines b)) ≤ FILE-MOST
+unfolding atEnd endRules
+left-bound book sized b h n =
+    let F = lines b in
+    omega (
+      arith,
+      length-append (from book F n) (last book F),
+      from-bound book F (drop n F) n refl,
+      widths-drop n F,
+      widths-bound b,
+      each-bound 2 (ends book) 1 (atCell (endRules book) (spotAt F (length F + 1)) (length F + 1)) (at-bound (endRules book) (spotAt F (length F + 1)) (length F + 1)),
+      sized .ends,
+    )
+
+pub breaks-bound : (book : Book) → Sized book → (b : Bytes) → length b ≤ LIMIT → length (breaksBy book (lines b)) ≤ FILE-MOST
+breaks-bound book sized b h = omega (arith, left-bound book sized b h 0, ap length (breaks-left book b))
+
+-- THE SCAN: where it stands, by the place and the number of lines passed
+pub scan-start : (book : Book) (file : Bytes) {s : State} {kinds slots : List ℕ} → Stands book [] s kinds slots → Scan book file 0 0 s kinds slots
+scan-start book file st = record { within = omega arith; counted = omega arith; passed = omega arith; left = refl; stands = st }
 
 module _ {book : Book} (sized : Sized book) {file : Bytes} {at n : ℕ} {s : State} {kinds slots : List ℕ} (h : Scan book file at n s kinds slots) where
   module _ {end next : ℕ} (line : LineAt file at end next) where
