@@ -262,10 +262,10 @@ fn judge_alone(places: &mut [u32], line: u32, book: &[u8], file: &[u8], begun: C
     let head = reached.head;
     learn_kinds(state, head, book, file, &flags, &mut kinds, &mut stamps);
     let at = reached.at;
-    let here = line_at(file, at);
+    let next = at + 1;
     let bounds = Bounds {
         room: ALL,
-        end: here.next,
+        end: next,
     };
     let above = line - 1;
     let stand = Stand {

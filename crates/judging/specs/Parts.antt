@@ -7,7 +7,6 @@ use lib.ListN.{length, take, drop}
 use Rattle.text_bytes.specs.Bytes.{Bytes}
 use Rattle.text.specs.Lines.{lines}
 use Rattle.scan.specs.Places.{LINE-MOST, END-MOST, lent, putAll}
-use Rattle.text.specs.Places.{LineAt}
 use Rattle.rules.specs.Breaks.{Break}
 use Rattle.rules.specs.Rules.{breaksBy}
 use Rattle.scan.specs.Carried.{initial, Scan, from, last}
@@ -42,14 +41,14 @@ abbrev pub ahead : Book → Bytes → ℕ → List Break
 ahead b file n = from b (lines file) n ++ last b (lines file)
 
 -- lines judged from s to r, up to the place `end`: their breaks are put from the first place on, more than `room` of them only by a line's; it ends before that
--- place only where the room is full, and a line further; and where a line ends there it alone is judged
+-- place only where the room is full, and a line further; and up to the next place it is one line
 pub record Lined (b : Book) (file : Bytes) (room end : ℕ) (s r : Stand) (places places' : List ℕ) : Type 0 where
   pub parted : Parted (ahead b file (s .lines)) 0 places places' (r .held) (ahead b file (r .lines))
   pub fits : r .held ≤ room + LINE-MOST
   pub full : r .more ≡ true → room ≤ r .held
   pub further : r .more ≡ true → s .at < r .at
   pub done : r .more ≡ false → end ≤ r .at
-  pub alone : (e : ℕ) → LineAt file (s .at) e end → r .lines ≡ s .lines + 1
+  pub alone : end ≡ s .at + 1 → r .lines ≡ s .lines + 1
 
 -- from s to r: the next breaks of the file are put from the first place on, more than `room` of them only by a line's and the end's; it ends before the last
 -- break only where the room is full, and a line further

@@ -47,7 +47,7 @@ pub fn beginning(asking: Asking) -> Stand
     }
 }
 
-// Where a run of lines ends: where so many breaks are put, and at this place of the file.
+// Where a run of lines ends: where so many breaks are put, and where this place of the file is passed.
 pub struct Bounds {
     pub room: u32,
     pub end: usize,

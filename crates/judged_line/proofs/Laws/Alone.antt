@@ -1,17 +1,15 @@
 -- One line of a file: where it is there, and that what is put of it alone are its breaks. Assumes nothing.
-use mathlib.Core.Path.{_≡_, refl, sym, ap, subst, subst⁻¹, _∙_}
+use mathlib.Core.Path.{_≡_, refl, sym, ap, subst, _∙_}
 use mathlib.Core.Bool.{Bool, true, false, _&&_}
 use mathlib.Core.List.{List, [], _∷_, _++_, append-assoc}
 use Prim.Native.Nat.{ℕ, suc, _+_, _-_, _≤_, _<_}
 use native.Mathlib.Omega.{arith}
 use borrow.Author.Tests.{le-leb, lt-leb, leb-true}
 use lib.Dec.{leb}
-use lib.Seq.{getD-drop}
-use lib.ListN.{length, take, drop, getD, length-drop}
+use lib.Seq.{drop-cons}
+use lib.ListN.{length, take, getD}
 use Rattle.text_bytes.specs.Bytes.{Bytes}
-use Rattle.text_bytes.specs.Places.{part}
 use Rattle.text.specs.Lines.{lines}
-use Rattle.text.specs.Places.{LineAt}
 use Rattle.book.specs.Book.{Book}
 use Rattle.book_facts.specs.declared.Asking.{Asking}
 use Rattle.rules.specs.Breaks.{Break, spot, atLine}
@@ -19,7 +17,6 @@ use Rattle.rules.specs.Rules.{rules}
 use Rattle.rules.specs.Edited.{lineOf}
 use Rattle.scan.specs.Places.{lent, putAll}
 use Rattle.scan.specs.Carried.{Scan, from, last}
-use Rattle.scan.specs.declared.state.State.{State}
 use Rattle.scan.proofs.Laws.Scanning.{from-next}
 use Rattle.judging.specs.Parts.{beginning, ahead, Lined}
 use Rattle.judging.specs.declared.parts.Stand.{Stand}
@@ -43,38 +40,28 @@ no-line file n h = go (leb 1 n) refl
     go true e = lt-leb n (length (lines file)) (h (leb-true 1 n e))
     go false e = refl
 
-module _ {b : Book} {file : Bytes} {at n end next : ℕ} {s : State} {kinds slots : List ℕ} (low : 1 ≤ n) (h : Scan b file at (n - 1) s kinds slots) (line : LineAt file at end next) where
+module _ (b : Book) (file : Bytes) (n : ℕ) (low : 1 ≤ n) where
   F : List Bytes
   F = lines file
 
-  left : drop (n - 1) F ≡ part at end file ∷ lines (drop next file)
+  -- of a line of the file, its breaks come first of those that are left
+  its-own : n ≤ length (lines file) → ahead b file (n - 1) ≡ lineOf b (lines file) n ++ ahead b file n
   unfolding F
-  left = sym (h .left) ∙ line .cut
-
-  here : getD F (n - 1) [] ≡ part at end file
-  unfolding F
-  here =
-      let z : n - 1 ≡ n - 1 + 0 = omega arith in
-      ap (λ (k : ℕ). getD F k []) z ∙ sym (getD-drop (n - 1) F 0 []) ∙ ap (λ (q : List Bytes). getD q 0 []) left
-
-  -- the line is one of the file's
-  pub within : n ≤ length (lines file)
-  unfolding F
-  within = omega (arith, length-drop (n - 1) F, ap length left)
-
-  -- its breaks come first of those that are left
-  its-own : ahead b file (n - 1) ≡ lineOf b (lines file) n ++ ahead b file n
-  unfolding F
-  its-own =
+  its-own high =
       let z : suc (n - 1) ≡ n = omega (arith, low) in
-      let own = atLine (rules b) (spot (take (n - 1) F) (part at end file) F) n in
-      let next : from b F (n - 1) ≡ own ++ from b F n = from-next b F (n - 1) left ∙ ap (λ (i : ℕ). atLine (rules b) (spot (take (n - 1) F) (part at end file) F) i ++ from b F i) z in
-      ap (λ (xs : List Break). xs ++ last b F) next ∙ append-assoc own (from b F n) (last b F)
-      ∙ ap (λ (l : Bytes). atLine (rules b) (spot (take (n - 1) F) l F) n ++ ahead b file n) (sym here)
+      let next : from b F (n - 1) ≡ lineOf b F n ++ from b F n =
+      from-next b F (n - 1) (drop-cons F (n - 1) [] (omega (arith, low, high)))
+      ∙ ap (λ (i : ℕ). atLine (rules b) (spot (take (n - 1) F) (getD F (n - 1) []) F) i ++ from b F i) z in
+      ap (λ (xs : List Break). xs ++ last b F) next ∙ append-assoc (lineOf b F n) (from b F n) (last b F)
 
-  -- so lines judged up to its end put them, and nothing else
-  pub line-alone : {st r : Stand} {room : ℕ} {places places' : List ℕ} → st .at ≡ at → st .lines ≡ n - 1 → Lined b file room next st r places places'
-      → lent places' (r .held) ≡ putAll (lent places 0) (lineOf b (lines file) n)
-  line-alone {st} {r} e f l =
-      let alone : r .lines ≡ n = omega (arith, l .alone end (subst⁻¹ (λ (i : ℕ). LineAt file i end next) e line), f, low) in
-      parted-front (lineOf b (lines file) n) (ap (ahead b file) f ∙ its-own ∙ ap (λ (i : ℕ). lineOf b (lines file) n ++ ahead b file i) (sym alone)) (l .parted)
+  -- a run of one line, from where the lines above are passed: the line is one of the file's, and it is its breaks that are put
+  module _ {st r : Stand} {room end : ℕ} {places places' kinds slots : List ℕ} (above : st .lines ≡ n - 1) (one : end ≡ st .at + 1) (l : Lined b file room end st r places places')
+      (h : Scan b file (r .at) (r .lines) (r .state) kinds slots) where
+    alone : r .lines ≡ n
+    alone = omega (arith, l .alone one, above, low)
+
+    pub within : n ≤ length (lines file)
+    within = omega (arith, h .passed, alone)
+
+    pub line-alone : lent places' (r .held) ≡ putAll (lent places 0) (lineOf b (lines file) n)
+    line-alone = parted-front (lineOf b (lines file) n) (ap (ahead b file) above ∙ its-own within ∙ ap (λ (i : ℕ). lineOf b (lines file) n ++ ahead b file i) (sym alone)) (l .parted)

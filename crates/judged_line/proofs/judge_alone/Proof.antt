@@ -7,6 +7,7 @@ use borrow.Author.Needs.{needs}
 use borrow.Author.Tests.{not-true, not-false}
 use lib.ListN.{length-replicate}
 use Rattle.text_bytes.proofs.Laws.Tests.{absurd-bool}
+use Rattle.book.specs.Text.{bookIn}
 use Rattle.scan.specs.Machine.{FIRSTS}
 use Rattle.line_head_stamps.specs.Stamps.{ROOM}
 use Rattle.judging.specs.declared.parts.Stand.{Stand}
@@ -46,43 +47,44 @@ learn-kinds-requires c κs =
     let r = reached else .reach .ensures .0 (not-false _ (else .if1 .left)) in
     (s .pre .0, (going .limit, ((λ low. (r .3 low .0, section-is (r .2) low)), (going .columns, length-replicate {A = ℕ} ROOM 0))))
 
-line-at-requires : tie.Need-line-at-requires
-line-at-requires c κs =
-    let else = found (c .before .before) in
-    reached else .reach .ensures .0 (not-false _ (else .if1 .left)) .1
+-- the line's place, and what is carried to it
+abbrev there : tie.After-stamps2 → tie.After-stamps
+there c = c .before .before
+
+add-next : tie.Need-add-next
+add-next c =
+    let else = found (there c) in
+    let at-reach = reached else in
+    omega (arith, at-reach .reach .ensures .0 (not-false _ (else .if1 .left)) .1, start at-reach .pre .1 .0 .limit)
 
 sub-above : tie.Need-sub-above
 sub-above c =
-    let else = found (c .before .before .before) in
+    let else = found (there c) in
     omega (arith, reached else .reach .ensures .0 (not-false _ (else .if1 .left)) .0)
 
 judge-lines-requires : tie.Need-judge-lines-requires
 judge-lines-requires c κs =
-    let at-line = c .before .before .before .before in
-    let at-learn = at-line .before .before in
+    let at-learn = c .before .before .before .before .before in
     let else = found (at-learn .before) in
     let at-reach = reached else in
     let s = start at-reach in
     let going = s .pre .1 .0 in
     let r = at-reach .reach .ensures .0 (not-false _ (else .if1 .left)) in
     let scan = scan-known (r .2) (kinds-known (r .2) (r .3) (at-learn .learn-kinds .ensures .0)) in
-    (omega arith, (at-line .line-at .ensures .within, (s .pre .0, (going .limit, (scan, (r .4, (going .declared, (at-learn .learn-kinds .ensures .1 .0, at-reach .reach .ensures .1 .1))))))))
+    (omega arith, (omega (arith, r .1), (s .pre .0, (going .limit, (scan, (r .4, (going .declared, (at-learn .learn-kinds .ensures .1 .0, at-reach .reach .ensures .1 .1))))))))
 
 returns-2 : tie.Need-returns-2
 returns-2 c =
     let at-judge = c .before .before .before in
-    let at-line = at-judge .before .before .before .before .before in
-    let at-learn = at-line .before .before in
-    let else = found (at-learn .before) in
+    let else = found (there (at-judge .before .before .before .before .before)) in
     let at-reach = reached else in
     let s = start at-reach in
     let file = s .args .file .now in
-    let r = at-reach .reach .ensures .0 (not-false _ (else .if1 .left)) in
-    let scan = r .2 .1 .1 in
-    let line = at-line .line-at .ensures in (
-      sym (is-line file (s .args .line) (r .0) (within (r .0) scan line)),
-      ((λ h. line-alone (r .0) scan line refl refl (at-judge .judge-lines .ensures .0)), (λ h. absurd-bool (sym h))),
-    )
+    let line = s .args .line in
+    let low = at-reach .reach .ensures .0 (not-false _ (else .if1 .left)) .0 in
+    let lined = at-judge .judge-lines .ensures .0 in
+    let scan = at-judge .judge-lines .ensures .1 .0 in
+    (sym (is-line file line low (within (bookIn (s .args .book .now)) file line low refl refl lined scan)), ((λ h. line-alone (bookIn (s .args .book .now)) file line low refl refl lined scan), (λ h. absurd-bool (sym h))))
 
 pub judge-alone-spec : {M : Type 1} → statement M
 judge-alone-spec =
@@ -93,7 +95,7 @@ judge-alone-spec =
     returns
     (λ c. search needs)
     learn-kinds-requires
-    line-at-requires
+    add-next
     sub-above
     (λ c. search needs)
     judge-lines-requires

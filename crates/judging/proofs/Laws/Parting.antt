@@ -8,9 +8,7 @@ use native.Mathlib.Omega.{arith}
 use lib.Seq.{drop-drop, take-all, take-add, take-append-seam, drop-append-seam}
 use lib.ListN.{length, getD, replicate, take, drop, length-append, length-drop}
 use Rattle.text_bytes.specs.Bytes.{Bytes}
-use Rattle.text_bytes.specs.Places.{after}
-use Rattle.text.specs.Lines.{LF, LIMIT, lines}
-use Rattle.text.specs.Places.{LineAt}
+use Rattle.text.specs.Lines.{LIMIT, lines}
 use Rattle.book_facts.specs.Asked.{AskingOf}
 use Rattle.book_facts.specs.declared.Asking.{Asking}
 use Rattle.rules.specs.Breaks.{Break}
@@ -72,26 +70,24 @@ parted-front here {cs} {rest} {k} {ys₀} e p =
     let n : k ≡ length here = omega (arith, p .most, length-drop (0 + k) cs, ap length (p .left), ap length e, length-append here rest) in
     p .puts ∙ ap (λ (xs : List Break). putAll (lent ys₀ 0) (take k xs)) e ∙ ap (λ (i : ℕ). putAll (lent ys₀ 0) (take i (here ++ rest))) n ∙ ap (putAll (lent ys₀ 0)) (take-append-seam here rest)
 
--- ONE LINE ALONE, up to the place where it ends: it is still to be judged, or it is judged and no other
-abbrev pub Alone : Bytes → ℕ → ℕ → ℕ → ℕ → ℕ → ℕ → Type 0
-Alone file at₀ n₀ last at n k = (e : ℕ) → LineAt file at₀ e last → ((at ≡ at₀) × (n ≡ n₀) × (k ≡ 0)) ⊎ ((at ≡ last) × (n ≡ n₀ + 1))
+-- ONE LINE ALONE, up to the place after the one where it begins: it is still to be judged, or it is judged and no other
+abbrev pub Alone : ℕ → ℕ → ℕ → ℕ → ℕ → ℕ → Type 0
+Alone at₀ n₀ last at n k = last ≡ at₀ + 1 → ((at ≡ at₀) × (n ≡ n₀) × (k ≡ 0)) ⊎ ((last ≤ at) × (n ≡ n₀ + 1))
 
-module _ {file : Bytes} {at₀ n₀ last at n k : ℕ} (h : Alone file at₀ n₀ last at n k) where
-  pub alone-next : {end next k' : ℕ} → at < last → LineAt file at end next → Alone file at₀ n₀ last next (n + 1) k'
-  alone-next lt line e l =
+module _ {at₀ n₀ last at n k : ℕ} (h : Alone at₀ n₀ last at n k) where
+  pub alone-next : {next k' : ℕ} → at < last → at < next → Alone at₀ n₀ last next (n + 1) k'
+  alone-next lt on e =
       ⊎-elim
-      (λ (q : (at ≡ at₀) × (n ≡ n₀) × (k ≡ 0)). inr (line .passes ∙ ap (λ (i : ℕ). i + after LF 1 (drop i file)) (q .0) ∙ sym (l .passes), ap (λ (i : ℕ). i + 1) (q .1)))
-      (λ (q : (at ≡ last) × (n ≡ n₀ + 1)). absurd (omega (arith, q .0, lt)))
-      (h e l)
+      (λ (q : (at ≡ at₀) × (n ≡ n₀) × (k ≡ 0)). inr (omega (arith, q .0, on, e), ap (λ (i : ℕ). i + 1) (q .1)))
+      (λ (q : (last ≤ at) × (n ≡ n₀ + 1)). absurd (omega (arith, q .0, lt)))
+      (h e)
 
   -- its breaks do not fill the room before it is judged
-  pub alone-full : {room : ℕ} → at < last → 1 ≤ room → room ≤ k → (e : ℕ) → LineAt file at₀ e last → n ≡ n₀ + 1
-  alone-full lt low most e l =
-      ⊎-elim (λ (q : (at ≡ at₀) × (n ≡ n₀) × (k ≡ 0)). absurd (omega (arith, q .2, low, most))) (λ (q : (at ≡ last) × (n ≡ n₀ + 1)). q .1) (h e l)
+  pub alone-full : {room : ℕ} → 1 ≤ room → room ≤ k → last ≡ at₀ + 1 → n ≡ n₀ + 1
+  alone-full low most e = ⊎-elim (λ (q : (at ≡ at₀) × (n ≡ n₀) × (k ≡ 0)). absurd (omega (arith, q .2, low, most))) (λ (q : (last ≤ at) × (n ≡ n₀ + 1)). q .1) (h e)
 
-  pub alone-done : last ≤ at → (e : ℕ) → LineAt file at₀ e last → n ≡ n₀ + 1
-  alone-done far e l =
-      ⊎-elim (λ (q : (at ≡ at₀) × (n ≡ n₀) × (k ≡ 0)). absurd (omega (arith, q .0, l .on, far))) (λ (q : (at ≡ last) × (n ≡ n₀ + 1)). q .1) (h e l)
+  pub alone-done : last ≤ at → last ≡ at₀ + 1 → n ≡ n₀ + 1
+  alone-done far e = ⊎-elim (λ (q : (at ≡ at₀) × (n ≡ n₀) × (k ≡ 0)). absurd (omega (arith, q .0, far, e))) (λ (q : (last ≤ at) × (n ≡ n₀ + 1)). q .1) (h e)
 
 -- a list of one value has it everywhere, also past the end
 pub same-everywhere : {A : Type 0} (n i : ℕ) (a : A) → getD (replicate n a) i a ≡ a

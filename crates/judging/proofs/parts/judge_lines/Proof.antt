@@ -25,7 +25,7 @@ use Rattle.judging.proofs.parts.judge_lines.Tie as tie
 
 abbrev Inv-loop : tie.InvT-loop
 Inv-loop places₀ book file flags kinds₀ slots₀ stamps₀ room last before state₀ at₀ n₀ k₀ places kinds slots stamps state at n k =
-    Scan (bookIn book) file at n state kinds slots × Parted (ahead (bookIn book) file n₀) 0 places₀ places k (ahead (bookIn book) file n) × (k ≤ room + LINE-MOST) × (at₀ ≤ at) × (0 < k → at₀ < at) × (length places ≡ length places₀) × (length kinds ≡ 256) × (length slots ≡ FIRSTS) × (length stamps ≡ ROOM) × AskingOf (bookIn book) (lines file) (state .asking) × Alone file at₀ n₀ last at n k
+    Scan (bookIn book) file at n state kinds slots × Parted (ahead (bookIn book) file n₀) 0 places₀ places k (ahead (bookIn book) file n) × (k ≤ room + LINE-MOST) × (at₀ ≤ at) × (0 < k → at₀ < at) × (length places ≡ length places₀) × (length kinds ≡ 256) × (length slots ≡ FIRSTS) × (length stamps ≡ ROOM) × AskingOf (bookIn book) (lines file) (state .asking) × Alone at₀ n₀ last at n k
 
 abbrev μ-loop : tie.MeasureT-loop
 μ-loop places₀ book file flags kinds₀ slots₀ stamps₀ room last before state₀ at₀ n₀ k₀ places kinds slots stamps state at n k = length file - at
@@ -43,7 +43,7 @@ loop-holds : tie.Need-loop-holds Inv-loop μ-loop
 loop-holds c =
     let s = c .before .before .before .before .before in
     let rest = s .pre .1 .1 .1 .1 in
-    (rest .0, parted-start (s .args .places .now) (omega arith) refl, omega arith, omega arith, (λ h. omega arith), refl, rest .1 .1 .1 .0, rest .1 .1 .1 .1, length-replicate {A = ℕ} ROOM 0, rest .1 .0, (λ e l. inl (refl, refl, refl)))
+    (rest .0, parted-start (s .args .places .now) (omega arith) refl, omega arith, omega arith, (λ h. omega arith), refl, rest .1 .1 .1 .0, rest .1 .1 .1 .1, length-replicate {A = ℕ} ROOM 0, rest .1 .0, (λ e. inl (refl, refl, refl)))
 
 returns : tie.Need-returns Inv-loop μ-loop
 returns c =
@@ -51,7 +51,7 @@ returns c =
     let inv = l .loop .inv in
     let room = start l .pre .0 in
     let taken = c .if1 .taken in
-    (record { parted = inv .1; fits = inv .2; full = λ h. taken; further = λ h. inv .4 (omega (arith, room, taken)); done = λ h. absurd-bool (sym h); alone = alone-full (inv .10) (c .before .loop-test .taken) room taken }, (inv .0, (inv .9, (inv .6, inv .7))))
+    (record { parted = inv .1; fits = inv .2; full = λ h. taken; further = λ h. inv .4 (omega (arith, room, taken)); done = λ h. absurd-bool (sym h); alone = alone-full (inv .10) room taken }, (inv .0, (inv .9, (inv .6, inv .7))))
 
 line-at-requires : tie.Need-line-at-requires Inv-loop μ-loop
 line-at-requires c κs =
@@ -86,7 +86,7 @@ loop-again c =
     let puts = at-judge .judge-line .ensures .0 in
     let follows = at-judge .judge-line .ensures .1 .0 in
     let knows = flags-know _ (a .flags .now) (a .file .now) (inv .9) (start l .pre .1 .1 .1 .1 .1 .1 .0) in
-    (scan-step (book-sized _) (inv .0) line follows, parted-next (ahead b (a .file .now) (l .loop .n + 1)) (inv .1) puts (scan-left (book-sized _) (inv .0) line knows), omega (arith, puts .most, at-line .before .if1 .left), omega (arith, line .on, inv .3), (λ h. omega (arith, line .on, inv .3)), search needs, follows .kind-places, follows .key-places, at-judge .judge-line .ensures .1 .1, subst⁻¹ (AskingOf b (lines (a .file .now))) (asking-kept follows) (inv .9), alone-next (inv .10) (at-line .before .before .loop-test .taken) line)
+    (scan-step (book-sized _) (inv .0) line follows, parted-next (ahead b (a .file .now) (l .loop .n + 1)) (inv .1) puts (scan-left (book-sized _) (inv .0) line knows), omega (arith, puts .most, at-line .before .if1 .left), omega (arith, line .on, inv .3), (λ h. omega (arith, line .on, inv .3)), search needs, follows .kind-places, follows .key-places, at-judge .judge-line .ensures .1 .1, subst⁻¹ (AskingOf b (lines (a .file .now))) (asking-kept follows) (inv .9), alone-next (inv .10) (at-line .before .before .loop-test .taken) (line .on))
 
 returns-2 : tie.Need-returns-2 Inv-loop μ-loop
 returns-2 c =
