@@ -1976,7 +1976,7 @@ static void on_small_stack(void) {
 }
 
 /* What the header says of the stack that judging a file needs, and judging one line, in KB. */
-enum { JUDGE_STACK = 300, LINE_STACK = 300 };
+enum { JUDGE_STACK = 300, LINE_STACK = 350 };
 
 static void judge_file(void) {
     uint32_t place, number;

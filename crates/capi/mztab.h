@@ -69,7 +69,7 @@ uint32_t mztab_judge(const uint8_t *file, size_t file_length, uint32_t *places, 
  * It serves the mending of single cells: where bytes other than tab, CR and LF take the place of one cell of a row line, from cell 2 on, and neither file is
  * too long, the breaks of all other lines, line N + 1 included, stay as they were. So the list of the new file is the old one with this call's answer in the
  * place of that line's part. places is a pointer to places_length numbers, not null also where that is 0. A place that no whole break fills is left as it was.
- * Refused with 1, and with 3 where there is no such line, 0 and N + 1 among them; the count is then 0 and no place is written. The call needs some 300 KB of
+ * Refused with 1, and with 3 where there is no such line, 0 and N + 1 among them; the count is then 0 and no place is written. The call needs some 350 KB of
  * stack. */
 uint32_t mztab_judge_line(const uint8_t *file, size_t file_length, uint32_t line, uint32_t *places, size_t places_length, uint32_t *number);
 

@@ -33,7 +33,6 @@ ghost use Rattle.book.specs.Book.{isSection};
 ghost use Rattle.book.specs.Text.{bookIn, IsBook};
 ghost use Rattle.book_ids.specs.Ids.{Flags};
 ghost use Rattle.book_facts.specs.Asked.{AskingOf};
-ghost use Rattle.line_head_stamps.specs.Stamps.{ROOM as room};
 ghost use Rattle.scan.specs.Machine.{FIRSTS as firsts};
 ghost use Rattle.rules.specs.Sorts.{isHeader};
 ghost use Rattle.judged.specs.Judged.{outcome};
@@ -43,9 +42,6 @@ ghost use Rattle.judging.specs.Parts.{beginning};
 ghost use Rattle.judging.specs.Calls.{Going};
 ghost use Rattle.judged_line.specs.Judged.{isLine, judgedLine};
 ghost use Rattle.judged_line.specs.Passing.{Passes, Reaches, Headed, Learnt};
-
-// More breaks than a line can have.
-const ALL: u32 = 4000000000;
 
 // What a line above leaves: the state after it, and whether it is a header.
 pub struct Passed {
@@ -186,15 +182,13 @@ fn learn_kinds(
     file: &[u8],
     flags: &[[bool; INDICES]; FAMILIES],
     kinds: &mut [u8; MOST_CELLS],
-    stamps: &mut [u32],
 )
     requires { ⌜ IsBook (now book) ⌝ }
     requires { ⌜ length (now file) ≤ LIMIT ⌝ }
     requires { ⌜ (0 < state .section → (head < length (now file)) × (isSection (bookIn (now book)) (state .section) ≡ true)) ⌝ }
     requires { ⌜ length (now kinds) ≡ 256 ⌝ }
-    requires { ⌜ length (now stamps) ≡ room ⌝ }
     ensures { λ r. ⌜ Learnt (bookIn (now (book .entry))) (now (file .entry)) head (state .section) (now (kinds .exit)) ⌝ }
-    ensures { λ r. ⌜ (length (now (kinds .exit)) ≡ 256) × (length (now (stamps .exit)) ≡ room) ⌝ }
+    ensures { λ r. ⌜ length (now (kinds .exit)) ≡ 256 ⌝ }
 {
     let section = state.section;
     if section == 0 {
@@ -203,6 +197,7 @@ fn learn_kinds(
     let here = line_at(file, head);
     let end = here.end;
     let mut none = [0u32; 1];
+    let mut stamps = [0u32; ROOM];
     let asking = state.asking;
     let tag = Tag {
         line: 0,
@@ -223,7 +218,7 @@ fn learn_kinds(
         nearest,
         flags,
         kinds,
-        stamps,
+        &mut stamps,
     );
 }
 
@@ -257,16 +252,12 @@ fn judge_alone(places: &mut [u32], line: u32, book: &[u8], file: &[u8], begun: C
         };
     }
     let mut kinds = begun.kinds;
-    let mut stamps = [0u32; ROOM];
     let state = reached.state;
     let head = reached.head;
-    learn_kinds(state, head, book, file, &flags, &mut kinds, &mut stamps);
+    learn_kinds(state, head, book, file, &flags, &mut kinds);
     let at = reached.at;
     let next = at + 1;
-    let bounds = Bounds {
-        room: ALL,
-        end: next,
-    };
+    let bounds = Bounds { room: 1, end: next };
     let above = line - 1;
     let stand = Stand {
         more: true,

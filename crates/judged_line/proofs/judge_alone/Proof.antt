@@ -9,7 +9,6 @@ use lib.ListN.{length-replicate}
 use Rattle.text_bytes.proofs.Laws.Tests.{absurd-bool}
 use Rattle.book.specs.Text.{bookIn}
 use Rattle.scan.specs.Machine.{FIRSTS}
-use Rattle.line_head_stamps.specs.Stamps.{ROOM}
 use Rattle.judging.specs.declared.parts.Stand.{Stand}
 use Rattle.judged_line.proofs.Laws.Passing.{scan-known, section-is, kinds-known}
 use Rattle.judged_line.proofs.Laws.Alone.{scan-first, is-line, no-line, within, line-alone}
@@ -23,8 +22,8 @@ start w = w .before .before .before .before .before .before .before .before .bef
 abbrev reached : tie.Else1 → tie.After-reach
 reached e = e .before .before .before
 
-abbrev found : tie.After-stamps → tie.Else1
-found c = c .before .before .before .before .before
+abbrev found : tie.After-kinds2 → tie.Else1
+found c = c .before .before .before .before
 
 reach-requires : tie.Need-reach-requires
 reach-requires c κs =
@@ -45,38 +44,34 @@ learn-kinds-requires c κs =
     let s = start (reached else) in
     let going = s .pre .1 .0 in
     let r = reached else .reach .ensures .0 (not-false _ (else .if1 .left)) in
-    (s .pre .0, (going .limit, ((λ low. (r .3 low .0, section-is (r .2) low)), (going .columns, length-replicate {A = ℕ} ROOM 0))))
-
--- the line's place, and what is carried to it
-abbrev there : tie.After-stamps2 → tie.After-stamps
-there c = c .before .before
+    (s .pre .0, (going .limit, ((λ low. (r .3 low .0, section-is (r .2) low)), going .columns)))
 
 add-next : tie.Need-add-next
 add-next c =
-    let else = found (there c) in
+    let else = found (c .before) in
     let at-reach = reached else in
     omega (arith, at-reach .reach .ensures .0 (not-false _ (else .if1 .left)) .1, start at-reach .pre .1 .0 .limit)
 
 sub-above : tie.Need-sub-above
 sub-above c =
-    let else = found (there c) in
+    let else = found (c .before) in
     omega (arith, reached else .reach .ensures .0 (not-false _ (else .if1 .left)) .0)
 
 judge-lines-requires : tie.Need-judge-lines-requires
 judge-lines-requires c κs =
-    let at-learn = c .before .before .before .before .before in
+    let at-learn = c .before .before .before .before in
     let else = found (at-learn .before) in
     let at-reach = reached else in
     let s = start at-reach in
     let going = s .pre .1 .0 in
     let r = at-reach .reach .ensures .0 (not-false _ (else .if1 .left)) in
     let scan = scan-known (r .2) (kinds-known (r .2) (r .3) (at-learn .learn-kinds .ensures .0)) in
-    (omega arith, (omega (arith, r .1), (s .pre .0, (going .limit, (scan, (r .4, (going .declared, (at-learn .learn-kinds .ensures .1 .0, at-reach .reach .ensures .1 .1))))))))
+    (omega arith, (omega (arith, r .1), (s .pre .0, (going .limit, (scan, (r .4, (going .declared, (at-learn .learn-kinds .ensures .1, at-reach .reach .ensures .1 .1))))))))
 
 returns-2 : tie.Need-returns-2
 returns-2 c =
     let at-judge = c .before .before .before in
-    let else = found (there (at-judge .before .before .before .before .before)) in
+    let else = found (at-judge .before .before .before .before .before .before) in
     let at-reach = reached else in
     let s = start at-reach in
     let file = s .args .file .now in
@@ -93,7 +88,6 @@ judge-alone-spec =
     (λ c. search needs)
     reach-requires
     returns
-    (λ c. search needs)
     learn-kinds-requires
     add-next
     sub-above
