@@ -21,8 +21,7 @@ use Rattle.rules.specs.Edited.{onLine, others, renewed, ofLine}
 use Rattle.rules.proofs.Laws.Promises.{breaks-reported}
 use Rattle.rules.proofs.Laws.Renewing.{kept-in, in-kept, kept-sorted, line-part}
 use Rattle.rules.proofs.Laws.Locality.{edited-others, edited-breaks}
-use Rattle.scan.specs.Places.{lent, putAll}
-use Rattle.judged.specs.Judged.{outcome, ended, judged}
+use Rattle.judged.specs.Judged.{outcome, judged}
 use Rattle.judged.specs.Promised.{Refused, Lists, readAll}
 use Rattle.judged.proofs.Laws.Judging.{refused-lists, put-lists, lists-read, judge-places-lists}
 use Rattle.judged_line.specs.Judged.{judgedLine}

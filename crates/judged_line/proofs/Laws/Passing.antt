@@ -23,7 +23,7 @@ use Rattle.rules.specs.declared.sorts.Sort.{Sort}
 use Rattle.rules.specs.declared.sorts.Sort.the-variants.{Silent, Unknown, Meta, Header, Row}
 use Rattle.rules.proofs.Laws.Sorting.{metaIn, header-is}
 use Rattle.scan.specs.Machine.{hasSlot, FIRSTS, headerSlot, KindsOf, Kinds}
-use Rattle.scan.specs.Carried.{afterHeader, sortState, Follows, Scan}
+use Rattle.scan.specs.Carried.{afterHeader, sortState, Scan}
 use Rattle.scan.specs.declared.state.State.{State}
 use Rattle.scan.proofs.Laws.Following.{nearest-append, asking-kept}
 use Rattle.scan.proofs.Laws.Scanning.{lines-above, scan-step}

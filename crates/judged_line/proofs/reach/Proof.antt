@@ -1,6 +1,6 @@
 -- `judged_line::reach` meets its contract. The invariant: what is worked out stands for the lines passed, which are fewer than the line sought, and the nearest
 -- header among them begins at `head`. Assumes nothing.
-use mathlib.Core.Path.{_≡_, refl, sym, subst⁻¹}
+use mathlib.Core.Path.{_≡_, sym, subst⁻¹}
 use Prim.Native.Nat.{ℕ, _-_, _≤_, _<_}
 use native.Mathlib.Omega.{arith}
 use borrow.Author.Needs.{needs}
@@ -11,7 +11,6 @@ use Rattle.book.specs.Text.{bookIn}
 use Rattle.book.proofs.Laws.Sized.{book-sized}
 use Rattle.book_facts.specs.Asked.{AskingOf}
 use Rattle.scan.specs.Machine.{FIRSTS}
-use Rattle.scan.specs.declared.state.State.{State}
 use Rattle.scan.proofs.Laws.Scanning.{scan-all}
 use Rattle.judged_line.specs.Passing.{Reaches, Headed}
 use Rattle.judged_line.proofs.Laws.Passing.{reaches-step, headed-step, passes-slots, passes-asking}

@@ -8,7 +8,7 @@ use native.Mathlib.Nat.{eq-or-lt-of-le}
 use native.Mathlib.Omega.{arith}
 use lib.Dec.{ltb, eqb}
 use lib.ListN.{length}
-use borrow.Author.Tests.{lt-ltb, le-ltb, eqb-true, eq-eqb, ne-eqb}
+use borrow.Author.Tests.{lt-ltb, le-ltb, eq-eqb, ne-eqb}
 use Rattle.text_bytes.specs.Bytes.{Bytes}
 use Rattle.text_bytes.proofs.Laws.Tests.{absurd-bool}
 use Rattle.rules.specs.Breaks.{Break, spotAt, Rule, each, atLine, inLines, atEnd, In, Sorted}
