@@ -17,6 +17,10 @@ NO-ROW = 3
 abbrev pub NO-CELL : ℕ
 NO-CELL = 4
 
+-- what is written has no room in the buffer that is lent, or would be longer than the limit
+abbrev pub NO-ROOM : ℕ
+NO-ROOM = 5
+
 -- the file is not accepted: it breaks a rule
 abbrev pub NOT-ACCEPTED : ℕ
 NOT-ACCEPTED = 7

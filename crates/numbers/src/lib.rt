@@ -12,6 +12,9 @@ pub const NO_ROW: u32 = 3;
 // No such cell.
 pub const NO_CELL: u32 = 4;
 
+// What is written has no room in the buffer that is lent, or would be longer than the limit.
+pub const NO_ROOM: u32 = 5;
+
 // The file is not accepted: it breaks a rule.
 pub const NOT_ACCEPTED: u32 = 7;
 

@@ -57,6 +57,17 @@ mod c {
             number: *mut u32,
         ) -> u32;
 
+        pub fn mztab_mend(
+            file: *const u8,
+            file_length: usize,
+            copy: *mut u8,
+            copy_length: usize,
+            changes: *mut u32,
+            changes_length: usize,
+            number: *mut u32,
+            count: *mut u32,
+        ) -> usize;
+
         pub fn mztab_faults(
             file: *const u8,
             file_length: usize,
@@ -142,6 +153,14 @@ pub struct Reading {
 #[derive(Clone, Copy, Debug, PartialEq, Eq)]
 pub struct Judged {
     pub number: u32,
+    pub count: u32,
+}
+
+/// What `mztab_mend` writes beside the copy and the list, and answers: `length` is that of the copy.
+#[derive(Clone, Copy, Debug, PartialEq, Eq)]
+pub struct Mended {
+    pub number: u32,
+    pub length: usize,
     pub count: u32,
 }
 
@@ -268,6 +287,30 @@ pub fn judge_line(file: &[u8], line: u32, places: &mut [u32]) -> Judged {
         )
     };
     Judged { number, count }
+}
+
+/// Writes a copy with `null` in the empty cells where it may stand, and line and cell of each change, two places each.
+pub fn mend(file: &[u8], copy: &mut [u8], changes: &mut [u32]) -> Mended {
+    let mut number = UNSET;
+    let mut count = UNSET;
+    // As above.
+    let length = unsafe {
+        c::mztab_mend(
+            file.as_ptr(),
+            file.len(),
+            copy.as_mut_ptr(),
+            copy.len(),
+            changes.as_mut_ptr(),
+            changes.len(),
+            &mut number,
+            &mut count,
+        )
+    };
+    Mended {
+        number,
+        length,
+        count,
+    }
 }
 
 /// Judges into records, one for each break.
