@@ -7,3 +7,4 @@ pub mod Accepted
 pub mod Renewing
 pub mod Alike
 pub mod Locality
+pub mod Filling

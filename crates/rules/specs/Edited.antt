@@ -13,22 +13,22 @@ use Rattle.rules.specs.Breaks.{Break, spot, spotAt, Rule, atCell, atLine
 use Rattle.rules.specs.Rules.{rules}
 use Rattle.rules.specs.declared.sorts.Sort.the-variants.{Row}
 
--- the breaks whose line passes a test, in their order
-unfoldable pub kept : (ℕ → Bool) → List Break → List Break
+-- the breaks that pass a test, in their order
+unfoldable pub kept : (Break → Bool) → List Break → List Break
 kept t [] = []
-kept t (b ∷ bs) = cond (t (b .line)) (b ∷ kept t bs) (kept t bs)
+kept t (b ∷ bs) = cond (t b) (b ∷ kept t bs) (kept t bs)
 
 -- those of line n
 abbrev pub onLine : ℕ → List Break → List Break
-onLine n bs = kept (λ i. eqb i n) bs
+onLine n bs = kept (λ g. eqb (g .line) n) bs
 
 -- those of all lines but line n
 abbrev pub others : ℕ → List Break → List Break
-others n bs = kept (λ i. not (eqb i n)) bs
+others n bs = kept (λ g. not (eqb (g .line) n)) bs
 
 -- those before line n, then a new part for it, then those after it
 abbrev pub renewed : ℕ → List Break → List Break → List Break
-renewed n part bs = kept (λ i. ltb i n) bs ++ (part ++ kept (λ i. ltb n i) bs)
+renewed n part bs = kept (λ g. ltb (g .line) n) bs ++ (part ++ kept (λ g. ltb n (g .line)) bs)
 
 -- the breaks of line n of a file, by a book
 abbrev pub lineOf : Book → List Bytes → ℕ → List Break

@@ -4,3 +4,4 @@ pub mod Rules
 pub mod Cases
 pub mod Promised
 pub mod Edited
+pub mod Mended

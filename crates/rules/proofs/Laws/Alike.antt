@@ -3,7 +3,7 @@
 use mathlib.Core.Path.{_≡_, refl, sym, ap, _∙_}
 use mathlib.Core.Bool.{Bool, true, false, cond}
 use mathlib.Core.List.{List, [], _∷_}
-use Prim.Native.Nat.{ℕ, zero, suc, _+_, _-_}
+use Prim.Native.Nat.{ℕ, zero, suc, _+_, _-_, _<_}
 use native.Mathlib.Omega.{arith}
 use lib.ListN.{length, getD, take, set, List·getD-eq-default}
 use Rattle.text_bytes.specs.Bytes.{Bytes, any, is, isEmpty, firstFrom}
@@ -11,7 +11,7 @@ use Rattle.text.specs.Lines.{cell, width, coded, isField}
 use Rattle.book.specs.Book.{Book, Want}
 use Rattle.book_ids.specs.Ids.{declares}
 use Rattle.book_facts.specs.Facts.{earliest}
-use Rattle.rules.specs.Sorts.{sortOf, codeSort, isTable}
+use Rattle.rules.specs.Sorts.{sortOf, codeSort, row, isTable}
 use Rattle.rules.specs.Breaks.{spot, spotAt, Rule, atCell, atLine, atEnd}
 use Rattle.rules.specs.Rules.{sameKey, ofSection, ofLater, nearer, nearestIn, inSection, hasKey}
 use Rattle.rules.specs.Edited.{Alike, equal, rows, Alikes, done, next, Local}
@@ -38,6 +38,21 @@ module _ (b : Book) where
   alikes-set [] i m a = done
   alikes-set (l ∷ ls) zero m a = next a (alikes-self ls)
   alikes-set (l ∷ ls) (suc i) m a = next equal (alikes-set ls i m a)
+
+  pub alikes-each : (ls ms : List Bytes) → length ms ≡ length ls → ((i : ℕ) → i < length ls → Alike b (getD ls i []) (getD ms i [])) → Alikes b ls ms
+  alikes-each [] [] e h = done
+  alikes-each [] (m ∷ ms) e h = absurd (omega arith)
+  alikes-each (l ∷ ls) [] e h = absurd (omega arith)
+  alikes-each (l ∷ ls) (m ∷ ms) e h = next (h 0 (omega arith)) (alikes-each ls ms (omega arith) (λ i lt. h (suc i) (omega arith)))
+
+  pub alikes-at : {ls ms : List Bytes} (i : ℕ) → Alikes b ls ms → Alike b (getD ls i []) (getD ms i [])
+  alikes-at i done = equal
+  alikes-at zero (next a r) = a
+  alikes-at (suc i) (next a r) = alikes-at i r
+
+  pub row-alike : {l m : Bytes} → Alike b l m → row b m ≡ row b l
+  row-alike equal = refl
+  row-alike (rows e f) = rw (e, f)
 
   -- a row stays a row of its section while its code stays
   row-code : (l : Bytes) (s : ℕ) → sortOf b l ≡ Row s → codeSort b (cell 1 l) ≡ Row s
