@@ -6,3 +6,4 @@ pub mod Counts
 pub mod Control
 pub mod Runs
 pub mod Splicing
+pub mod Joining

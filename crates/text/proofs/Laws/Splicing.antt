@@ -17,18 +17,18 @@ use Rattle.text.specs.Edits.{splice, has, Edit, editedLine, editedFile}
 
 -- A PIECE
 
-has-none : (b x : ℕ) (xs : Bytes) → has b (x ∷ xs) ≡ false → (eqb x b ≡ false) × (has b xs ≡ false)
+pub has-none : (b x : ℕ) (xs : Bytes) → has b (x ∷ xs) ≡ false → (eqb x b ≡ false) × (has b xs ≡ false)
 unfolding any
 has-none b x xs h = or-none (eqb x b) (has b xs) h
 
 module _ (b : ℕ) where
   -- bytes before the first piece, where that is empty
-  front : (new rest : Bytes) (ps : List Bytes) → has b new ≡ false → splitOn b rest ≡ [] ∷ ps → splitOn b (new ++ rest) ≡ new ∷ ps
+  pub front : (new rest : Bytes) (ps : List Bytes) → has b new ≡ false → splitOn b rest ≡ [] ∷ ps → splitOn b (new ++ rest) ≡ new ∷ ps
   unfolding splitOn onFirst
   front [] rest ps h e = e
   front (x ∷ xs) rest ps h e = rw (has-none b x xs h .0, front xs rest ps (has-none b x xs h .1) e)
 
-  pieces : (l : Bytes) → (ps : List Bytes) → splitOn b l ≡ ps → (p : Bytes) × ((qs : List Bytes) × (splitOn b l ≡ p ∷ qs))
+  pub pieces : (l : Bytes) → (ps : List Bytes) → splitOn b l ≡ ps → (p : Bytes) × ((qs : List Bytes) × (splitOn b l ≡ p ∷ qs))
   pieces l [] e = absurd (split-some b l (rw e))
   pieces l (p ∷ ps) e = (p, (ps, e))
 
@@ -68,7 +68,7 @@ endsCr [] = false
 endsCr (x ∷ xs) = cond (isEmpty xs) (eqb x CR) (endsCr xs)
 
 -- what may stand after a line, and the lines that follow: nothing, LF (then the line does not end in CR), CR LF
-data Tail (t : Bool) : Bytes → List Bytes → Type 0 where
+pub data Tail (t : Bool) : Bytes → List Bytes → Type 0 where
   nothing : Tail t [] []
   lf : (rest : Bytes) → t ≡ false → Tail t (LF ∷ rest) (lines rest)
   crlf : (rest : Bytes) → Tail t (CR ∷ (LF ∷ rest)) (lines rest)
@@ -127,13 +127,13 @@ lines-front (x ∷ (y ∷ ys)) {rest} h s t =
     lines-on x ((y ∷ ys) ++ rest) (q .0) (rw (has-none LF y ys (q .1) .0) (and-false (eqb x CR))) ∙ ap (onFirst x) (lines-front (y ∷ ys) (q .1) refl t)
 
 -- the first line of a text: what stands after it, and the lines that follow
-record FirstLine (f : Bytes) : Type 0 where
-  first : Bytes
-  follow : List Bytes
-  cut : lines f ≡ first ∷ follow
-  tail : Tail (endsCr first) (drop (length first) f) follow
-  bytes : take (length first) f ≡ first
-  free : has LF first ≡ false
+pub record FirstLine (f : Bytes) : Type 0 where
+  pub first : Bytes
+  pub follow : List Bytes
+  pub cut : lines f ≡ first ∷ follow
+  pub tail : Tail (endsCr first) (drop (length first) f) follow
+  pub bytes : take (length first) f ≡ first
+  pub free : has LF first ≡ false
 
 tail-on : (x : ℕ) (l : Bytes) {rest : Bytes} {ls : List Bytes} → (l ≡ [] → (eqb x CR && startsLf rest) ≡ false) → Tail (endsCr l) rest ls → Tail (endsCr (x ∷ l)) rest ls
 unfolding endsCr isEmpty startsLf
@@ -149,7 +149,7 @@ tail-for t true h (lf rest e) = absurd-bool (sym e ∙ h refl)
 tail-for t false h (lf rest e) = lf rest refl
 tail-for t u h (crlf rest) = crlf rest
 
-first-line : (x : ℕ) (xs : Bytes) → FirstLine (x ∷ xs)
+pub first-line : (x : ℕ) (xs : Bytes) → FirstLine (x ∷ xs)
 unfolding lines onFirst startsLf endsCr isEmpty any
 first-line x [] = go (eqb x LF) refl
   where
