@@ -45,3 +45,79 @@ lines-joined (x ∷ (y ∷ ys)) = go (eqb x LF) (eqb x CR && eqb y LF) refl refl
     go false false e d ih =
         let r = first-line y ys in
         rw (e, d, r .cut) (joined-on x (r .first) (r .follow) (lineEnds (y ∷ ys)) ∙ ap (λ (l : Bytes). x ∷ l) (rw (r .cut) at ih))
+
+-- no line has an LF
+pub lines-free : (f : Bytes) → any (has LF) (lines f) ≡ false
+unfolding lines onFirst any
+lines-free [] = refl
+lines-free (x ∷ xs) = go (eqb x LF) (eqb x CR && startsLf xs) refl (lines xs) (lines-free xs)
+  where
+    go : (t u : Bool) → eqb x LF ≡ t → (ls : List Bytes) → any (has LF) ls ≡ false → any (has LF) (cond t ([] ∷ ls) (cond u ls (onFirst x ls))) ≡ false
+    go true u e ls ih = ih
+    go false true e ls ih = ih
+    go false false e [] ih = rw e
+    go false false e (l ∷ ls) ih = rw e ih
+
+-- CELLS AND TABS
+
+-- a byte in front of the first cell is the first of all
+tabbed-on : (x : ℕ) (p : Bytes) (ps : List Bytes) → tabbed ((x ∷ p) ∷ ps) ≡ x ∷ tabbed (p ∷ ps)
+unfolding tabbed
+tabbed-on x p [] = refl
+tabbed-on x p (q ∷ qs) = refl
+
+-- a line is its cells with tabs between
+pub cells-tabbed : (l : Bytes) → tabbed (cells l) ≡ l
+unfolding splitOn onFirst tabbed
+cells-tabbed [] = refl
+cells-tabbed (x ∷ xs) = go (eqb x TAB) refl (pieces TAB xs (cells xs) refl) (cells-tabbed xs)
+  where
+    go : (t : Bool) → eqb x TAB ≡ t → ((p : Bytes) × ((qs : List Bytes) × (cells xs ≡ p ∷ qs))) → tabbed (cells xs) ≡ xs → tabbed (cells (x ∷ xs)) ≡ x ∷ xs
+    go true e q ih = rw (e, q .1 .1, eqb-true x TAB e) (ap (λ (l : Bytes). TAB ∷ l) (rw (q .1 .1) at ih))
+    go false e q ih = rw (e, q .1 .1) (tabbed-on x (q .0) (q .1 .0) ∙ ap (λ (l : Bytes). x ∷ l) (rw (q .1 .1) at ih))
+
+-- no cell has a tab
+pub cells-free : (l : Bytes) → any (has TAB) (cells l) ≡ false
+unfolding splitOn onFirst any
+cells-free [] = refl
+cells-free (x ∷ xs) = go (eqb x TAB) refl (cells xs) (cells-free xs)
+  where
+    go : (t : Bool) → eqb x TAB ≡ t → (ps : List Bytes) → any (has TAB) ps ≡ false → any (has TAB) (cond t ([] ∷ ps) (onFirst x ps)) ≡ false
+    go true e ps ih = ih
+    go false e [] ih = rw e
+    go false e (p ∷ ps) ih = rw e ih
+
+-- cells with tabs between are cut into these cells again
+pub tabbed-cells : (xs : List Bytes) → 1 ≤ length xs → any (has TAB) xs ≡ false → cells (tabbed xs) ≡ xs
+unfolding splitOn any tabbed
+tabbed-cells [] h free = absurd (omega arith)
+tabbed-cells (x ∷ []) h free = rw (append-nil x) at (front TAB x [] [] (or-none (has TAB x) false free .0) refl)
+tabbed-cells (x ∷ (y ∷ ys)) h free =
+    let q = or-none (has TAB x) (any (has TAB) (y ∷ ys)) free in
+    front TAB x (TAB ∷ tabbed (y ∷ ys)) (y ∷ ys) (q .0) (ap (λ (ps : List Bytes). [] ∷ ps) (tabbed-cells (y ∷ ys) (omega arith) (q .1)))
+
+-- OTHER BYTES IN SOME CELLS
+
+-- cells, some of which hold other bytes, which are some and cut nothing
+pub data Filled : List Bytes → List Bytes → Type 0 where
+  none : Filled [] []
+  same : {xs ys : List Bytes} (x : Bytes) → Filled xs ys → Filled (x ∷ xs) (x ∷ ys)
+  new : {xs ys : List Bytes} (x y : Bytes) → isEmpty y ≡ false → has TAB y ≡ false → has LF y ≡ false → has CR y ≡ false → Filled xs ys → Filled (x ∷ xs) (y ∷ ys)
+
+filled-length : {xs ys : List Bytes} → Filled xs ys → length xs ≡ length ys
+filled-length none = refl
+filled-length (same x f) = omega (arith, filled-length f)
+filled-length (new x y s t l c f) = omega (arith, filled-length f)
+
+filled-tabs : {xs ys : List Bytes} → Filled xs ys → any (has TAB) xs ≡ false → any (has TAB) ys ≡ false
+unfolding any
+filled-tabs none h = refl
+filled-tabs (same {xs} x f) h = let q = or-none (has TAB x) (any (has TAB) xs) h in rw (q .0) (filled-tabs f (q .1))
+filled-tabs (new {xs} x y s t l c f) h = rw t (filled-tabs f (or-none (has TAB x) (any (has TAB) xs) h .1))
+
+-- a line with such cells is cut into them
+pub filled-cells : (l : Bytes) {ys : List Bytes} → Filled (cells l) ys → cells (tabbed ys) ≡ ys
+filled-cells l {ys} f = tabbed-cells ys (some (cells l) (pieces TAB l (cells l) refl .1 .1) (filled-length f)) (filled-tabs f (cells-free l))
+  where
+    some : (ps : List Bytes) {p : Bytes} {qs : List Bytes} → ps ≡ p ∷ qs → length ps ≡ length ys → 1 ≤ length ys
+    some ps e h = omega (arith, ap length e)
