@@ -15,7 +15,7 @@ use Rattle.text.specs.Lines.{TAB, LF, CR, startsLf, lines, cells}
 use Rattle.text.specs.Edits.{has}
 use Rattle.text.specs.Joined.{lineEnds, joined, tabbed}
 use Rattle.text.specs.Places.{LineAt}
-use Rattle.text.proofs.Laws.Splicing.{pieces, front, first-line}
+use Rattle.text.proofs.Laws.Splicing.{has-none, pieces, front, first-line, endsCr, Tail, nothing, lf, crlf, lines-on, lines-front, tail-for, has-append, ends-free, ends-append}
 
 -- LINES AND THEIR ENDS
 
@@ -121,3 +121,71 @@ filled-cells l {ys} f = tabbed-cells ys (some (cells l) (pieces TAB l (cells l) 
   where
     some : (ps : List Bytes) {p : Bytes} {qs : List Bytes} → ps ≡ p ∷ qs → length ps ≡ length ys → 1 ≤ length ys
     some ps e h = omega (arith, ap length e)
+
+-- THE FIRST LINE, WHAT ENDS IT AND WHAT IS LEFT
+
+-- what ends a line, and what may be left after it: nothing (then the line is some), LF (then it does not end in CR), CR LF
+data Ended (l : Bytes) : Bytes → Bytes → Type 0 where
+  last : isEmpty l ≡ false → Ended l [] []
+  by-lf : (rest : Bytes) → endsCr l ≡ false → Ended l (LF ∷ []) rest
+  by-crlf : (rest : Bytes) → Ended l (CR ∷ (LF ∷ [])) rest
+
+record Cut (f : Bytes) : Type 0 where
+  line : Bytes
+  end : Bytes
+  rest : Bytes
+  whole : f ≡ line ++ (end ++ rest)
+  lines-cut : lines f ≡ line ∷ lines rest
+  ends-cut : lineEnds f ≡ end ∷ lineEnds rest
+  free : has LF line ≡ false
+  ended : Ended line end rest
+
+ended-on : (x : ℕ) (l : Bytes) {end rest : Bytes} → (l ≡ [] → (eqb x CR && startsLf (end ++ rest)) ≡ false) → Ended l end rest → Ended (x ∷ l) end rest
+unfolding endsCr isEmpty startsLf
+ended-on x l h (last s) = last refl
+ended-on x [] h (by-lf rest e) = by-lf rest (sym (and-true (eqb x CR)) ∙ h refl)
+ended-on x (y ∷ ys) h (by-lf rest e) = by-lf rest e
+ended-on x l h (by-crlf rest) = by-crlf rest
+
+cut-first : (x : ℕ) (xs : Bytes) → Cut (x ∷ xs)
+unfolding lines lineEnds onFirst startsLf endsCr isEmpty any
+cut-first x [] = go (eqb x LF) refl
+  where
+    go : (t : Bool) → eqb x LF ≡ t → Cut (x ∷ [])
+    go true e = record { line = []; end = LF ∷ []; rest = []; whole = rw (eqb-true x LF e); lines-cut = rw e; ends-cut = rw (e, eqb-true x LF e); free = refl; ended = by-lf [] refl }
+    go false e = record { line = x ∷ []; end = []; rest = []; whole = refl; lines-cut = rw (e, and-false (eqb x CR)); ends-cut = rw (e, and-false (eqb x CR)); free = rw e; ended = last refl }
+cut-first x (y ∷ ys) = go (eqb x LF) (eqb x CR && eqb y LF) refl refl (cut-first y ys)
+  where
+    go : (t u : Bool) → eqb x LF ≡ t → (eqb x CR && eqb y LF) ≡ u → Cut (y ∷ ys) → Cut (x ∷ (y ∷ ys))
+    go true u e d r = record {
+      line = [];
+      end = LF ∷ [];
+      rest = y ∷ ys;
+      whole = rw (eqb-true x LF e);
+      lines-cut = rw e;
+      ends-cut = rw (e, eqb-true x LF e);
+      free = refl;
+      ended = by-lf (y ∷ ys) refl;
+    }
+    go false true e d r =
+        let a = and-both (eqb x CR) (eqb y LF) d in
+        record {
+          line = [];
+          end = CR ∷ (LF ∷ []);
+          rest = ys;
+          whole = rw (eqb-true x CR (a .0), eqb-true y LF (a .1));
+          lines-cut = rw (e, d, a .1);
+          ends-cut = rw (e, d, a .1, eqb-true x CR (a .0), eqb-true y LF (a .1));
+          free = refl;
+          ended = by-crlf ys;
+        }
+    go false false e d r = record {
+      line = x ∷ r .line;
+      end = r .end;
+      rest = r .rest;
+      whole = ap (λ (l : Bytes). x ∷ l) (r .whole);
+      lines-cut = lines-on x (y ∷ ys) e d ∙ rw (r .lines-cut);
+      ends-cut = rw (e, d) (r .ends-cut);
+      free = rw (e, r .free);
+      ended = ended-on x (r .line) (λ z. rw (← ap (λ (l : Bytes). l ++ (r .end ++ r .rest)) z, ← r .whole) d) (r .ended);
+    }

@@ -74,7 +74,7 @@ pub data Tail (t : Bool) : Bytes → List Bytes → Type 0 where
   crlf : (rest : Bytes) → Tail t (CR ∷ (LF ∷ rest)) (lines rest)
 
 -- a byte that is no LF, and no CR before one, stands in front of a line
-lines-on : (x : ℕ) (xs : Bytes) → eqb x LF ≡ false → (eqb x CR && startsLf xs) ≡ false → lines (x ∷ xs) ≡ onFirst x (lines xs)
+pub lines-on : (x : ℕ) (xs : Bytes) → eqb x LF ≡ false → (eqb x CR && startsLf xs) ≡ false → lines (x ∷ xs) ≡ onFirst x (lines xs)
 unfolding lines
 lines-on x xs e f = rw (e, f)
 
@@ -116,7 +116,7 @@ unfolding after startsLf
 starts-spliced k y ys old m = refl
 
 -- a line, and what stands after it, are a line and those that follow
-lines-front : (m : Bytes) {rest : Bytes} {ls : List Bytes} → has LF m ≡ false → isEmpty m ≡ false → Tail (endsCr m) rest ls → lines (m ++ rest) ≡ m ∷ ls
+pub lines-front : (m : Bytes) {rest : Bytes} {ls : List Bytes} → has LF m ≡ false → isEmpty m ≡ false → Tail (endsCr m) rest ls → lines (m ++ rest) ≡ m ∷ ls
 unfolding lines onFirst startsLf endsCr isEmpty
 lines-front [] h s t = absurd-bool (sym s)
 lines-front (x ∷ []) h s nothing = rw (has-none LF x [] h .0, and-false (eqb x CR))
@@ -135,7 +135,7 @@ pub record FirstLine (f : Bytes) : Type 0 where
   pub bytes : take (length first) f ≡ first
   pub free : has LF first ≡ false
 
-tail-on : (x : ℕ) (l : Bytes) {rest : Bytes} {ls : List Bytes} → (l ≡ [] → (eqb x CR && startsLf rest) ≡ false) → Tail (endsCr l) rest ls → Tail (endsCr (x ∷ l)) rest ls
+pub tail-on : (x : ℕ) (l : Bytes) {rest : Bytes} {ls : List Bytes} → (l ≡ [] → (eqb x CR && startsLf rest) ≡ false) → Tail (endsCr l) rest ls → Tail (endsCr (x ∷ l)) rest ls
 unfolding endsCr isEmpty startsLf
 tail-on x [] h nothing = nothing
 tail-on x [] h (lf rest e) = lf rest (sym (and-true (eqb x CR)) ∙ h refl)
@@ -143,7 +143,7 @@ tail-on x [] h (crlf rest) = crlf rest
 tail-on x (y ∷ ys) h t = t
 
 -- a line that ends in CR only where another does may stand in its place
-tail-for : (t u : Bool) {rest : Bytes} {ls : List Bytes} → (u ≡ true → t ≡ true) → Tail t rest ls → Tail u rest ls
+pub tail-for : (t u : Bool) {rest : Bytes} {ls : List Bytes} → (u ≡ true → t ≡ true) → Tail t rest ls → Tail u rest ls
 tail-for t u h nothing = nothing
 tail-for t true h (lf rest e) = absurd-bool (sym e ∙ h refl)
 tail-for t false h (lf rest e) = lf rest refl
@@ -265,7 +265,7 @@ line-at f k lt = go (drop (after LF k f) f) refl
 -- A BYTE THAT A TEXT HAS NOT
 
 module _ (b : ℕ) where
-  has-append : (xs ys : Bytes) → has b xs ≡ false → has b ys ≡ false → has b (xs ++ ys) ≡ false
+  pub has-append : (xs ys : Bytes) → has b xs ≡ false → has b ys ≡ false → has b (xs ++ ys) ≡ false
   unfolding any
   has-append [] ys h g = g
   has-append (x ∷ xs) ys h g = rw (has-none b x xs h .0, has-append xs ys (has-none b x xs h .1) g)
@@ -283,13 +283,13 @@ module _ (b : ℕ) where
 
 -- THE LAST BYTE
 
-ends-free : (xs : Bytes) → has CR xs ≡ false → endsCr xs ≡ false
+pub ends-free : (xs : Bytes) → has CR xs ≡ false → endsCr xs ≡ false
 unfolding endsCr isEmpty
 ends-free [] h = refl
 ends-free (x ∷ []) h = has-none CR x [] h .0
 ends-free (x ∷ (y ∷ ys)) h = ends-free (y ∷ ys) (has-none CR x (y ∷ ys) h .1)
 
-ends-append : (xs ys : Bytes) → endsCr (xs ++ ys) ≡ cond (isEmpty ys) (endsCr xs) (endsCr ys)
+pub ends-append : (xs ys : Bytes) → endsCr (xs ++ ys) ≡ cond (isEmpty ys) (endsCr xs) (endsCr ys)
 unfolding endsCr isEmpty
 ends-append [] [] = refl
 ends-append [] (y ∷ ys) = refl
