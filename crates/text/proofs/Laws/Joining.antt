@@ -7,7 +7,7 @@ use native.Mathlib.Omega.{arith}
 use lib.Dec.{eqb}
 use borrow.Author.Tests.{eqb-true}
 use lib.ListN.{length, take, drop, getD, length-drop}
-use lib.Seq.{drop-drop}
+use lib.Seq.{drop-drop, length-take-le, take-append-seam, drop-append-seam}
 use Rattle.text_bytes.specs.Bytes.{Bytes, any, isEmpty, onFirst, splitOn}
 use Rattle.text_bytes.specs.Places.{part, after}
 use Rattle.text_bytes.proofs.Laws.Tests.{absurd-bool, and-both, or-none}
@@ -189,3 +189,31 @@ cut-first x (y ∷ ys) = go (eqb x LF) (eqb x CR && eqb y LF) refl refl (cut-fir
       free = rw (e, r .free);
       ended = ended-on x (r .line) (λ z. rw (← ap (λ (l : Bytes). l ++ (r .end ++ r .rest)) z, ← r .whole) d) (r .ended);
     }
+
+-- the next line begins after the line and its end
+after-ended : (m : Bytes) {l end rest : Bytes} → has LF m ≡ false → Ended l end rest → after LF 1 (m ++ (end ++ rest)) ≡ length m + length end
+unfolding after
+after-ended [] h (last s) = refl
+after-ended [] h (by-lf rest e) = refl
+after-ended [] h (by-crlf rest) = refl
+after-ended (x ∷ xs) h t = rw (has-none LF x xs h .0) (omega (arith, after-ended xs (has-none LF x xs h .1) t))
+
+-- the end of the line that begins at `at`, and the ends of the lines after it
+pub ends-next : {f : Bytes} {at end next : ℕ} → LineAt f at end next → lineEnds (drop at f) ≡ part end next f ∷ lineEnds (drop next f)
+ends-next {f} {at} {end} {next} p = go (drop at f) refl
+  where
+    go : (g : Bytes) → drop at f ≡ g → lineEnds (drop at f) ≡ part end next f ∷ lineEnds (drop next f)
+    go [] e = absurd (omega (arith, p .on, p .within, length-drop at f, ap length e))
+    go (x ∷ xs) e =
+        let r = cut-first x xs in
+        let w : drop at f ≡ r .line ++ (r .end ++ r .rest) = e ∙ r .whole in
+        let c : lines (drop at f) ≡ r .line ∷ lines (r .rest) = rw e (r .lines-cut) in
+        let q : part at end f ≡ r .line = ap (λ (ls : List Bytes). getD ls 0 []) (sym (p .cut) ∙ c) in
+        let t : length (part at end f) ≡ end - at = length-take-le (end - at) (drop at f) (omega (arith, p .starts, p .ends, length-drop at f)) in
+        let n : at + length (r .line) ≡ end = omega (arith, p .starts, t, ap length q) in
+        let a : after LF 1 (drop at f) ≡ length (r .line) + length (r .end) = rw w (after-ended (r .line) (r .free) (r .ended)) in
+        let m : end + length (r .end) ≡ next = omega (arith, p .passes, a, n) in
+        let k : next - end ≡ length (r .end) = omega (arith, m) in
+        let d : drop end f ≡ r .end ++ r .rest = rw (← n, ← drop-drop (length (r .line)) at f, w) (drop-append-seam (r .line) (r .end ++ r .rest)) in
+        let o : drop next f ≡ r .rest = rw (← m, ← drop-drop (length (r .end)) end f, d) (drop-append-seam (r .end) (r .rest)) in
+        rw (e, r .ends-cut, k, d, o, take-append-seam (r .end) (r .rest))
