@@ -6,7 +6,7 @@ use Prim.Native.Nat.{ℕ, zero, suc, _+_, _-_, _≤_, _<_}
 use native.Mathlib.Omega.{arith}
 use lib.Dec.{eqb}
 use borrow.Author.Tests.{eqb-true}
-use lib.ListN.{length, take, drop, getD, length-drop}
+use lib.ListN.{length, take, drop, getD, length-append, length-drop}
 use lib.Seq.{drop-drop, length-take-le, take-append-seam, drop-append-seam}
 use Rattle.text_bytes.specs.Bytes.{Bytes, any, isEmpty, onFirst, splitOn}
 use Rattle.text_bytes.specs.Places.{part, after}
@@ -190,6 +190,17 @@ cut-first x (y ∷ ys) = go (eqb x LF) (eqb x CR && eqb y LF) refl refl (cut-fir
       ended = ended-on x (r .line) (λ z. rw (← ap (λ (l : Bytes). l ++ (r .end ++ r .rest)) z, ← r .whole) d) (r .ended);
     }
 
+-- what is left is less
+cut-less : {f : Bytes} (r : Cut f) → length (r .rest) < length f
+unfolding isEmpty
+cut-less {f} r = go (r .line) (r .ended) (ap length (r .whole))
+  where
+    go : (l : Bytes) {end rest : Bytes} → Ended l end rest → length f ≡ length (l ++ (end ++ rest)) → length rest < length f
+    go [] (last s) e = absurd-bool (sym s)
+    go (x ∷ xs) (last s) e = omega (arith, e)
+    go l (by-lf rest c) e = omega (arith, e, length-append l (LF ∷ rest))
+    go l (by-crlf rest) e = omega (arith, e, length-append l (CR ∷ (LF ∷ rest)))
+
 -- the next line begins after the line and its end
 after-ended : (m : Bytes) {l end rest : Bytes} → has LF m ≡ false → Ended l end rest → after LF 1 (m ++ (end ++ rest)) ≡ length m + length end
 unfolding after
@@ -217,3 +228,135 @@ ends-next {f} {at} {end} {next} p = go (drop at f) refl
         let d : drop end f ≡ r .end ++ r .rest = rw (← n, ← drop-drop (length (r .line)) at f, w) (drop-append-seam (r .line) (r .end ++ r .rest)) in
         let o : drop next f ≡ r .rest = rw (← m, ← drop-drop (length (r .end)) end f, d) (drop-append-seam (r .end) (r .rest)) in
         rw (e, r .ends-cut, k, d, o, take-append-seam (r .end) (r .rest))
+
+-- OTHER BYTES IN SOME CELLS OF LINES
+
+-- the cells after the first, each with the tab before it
+tabs : List Bytes → Bytes
+tabs [] = []
+tabs (x ∷ xs) = TAB ∷ (x ++ tabs xs)
+
+tabbed-tabs : (x : Bytes) (xs : List Bytes) → tabbed (x ∷ xs) ≡ x ++ tabs xs
+unfolding tabbed tabs
+tabbed-tabs x [] = sym (append-nil x)
+tabbed-tabs x (y ∷ ys) = ap (λ (l : Bytes). x ++ (TAB ∷ l)) (tabbed-tabs y ys)
+
+-- what has no b has none in its parts
+has-parts : (b : ℕ) (xs ys : Bytes) → has b (xs ++ ys) ≡ false → (has b xs ≡ false) × (has b ys ≡ false)
+unfolding any
+has-parts b [] ys h = (refl, h)
+has-parts b (x ∷ xs) ys h = let q = has-none b x (xs ++ ys) h in let r = has-parts b xs ys (q .1) in (rw (q .0, r .0), r .1)
+
+some-append : (xs ys : Bytes) → isEmpty (xs ++ ys) ≡ (isEmpty xs && isEmpty ys)
+unfolding isEmpty
+some-append [] ys = refl
+some-append (x ∷ xs) ys = refl
+
+-- what a line with such cells has in common with the one that stood there: it has no LF where that has none, ends in CR only where that does, and is some where that is
+record Alike (l m : Bytes) : Type 0 where
+  free : has LF l ≡ false → has LF m ≡ false
+  ends : endsCr m ≡ true → endsCr l ≡ true
+  some : isEmpty l ≡ false → isEmpty m ≡ false
+
+module _ (x : Bytes) {l m : Bytes} (a : Alike l m) (e : isEmpty l ≡ isEmpty m) where
+  -- the same in front of both
+  alike-same : Alike (x ++ l) (x ++ m)
+  alike-same = record {
+    free = λ h. let q = has-parts LF x l h in has-append LF x m (q .0) (a .free (q .1));
+    ends = rw (ends-append x l, ends-append x m, e) (last-of (isEmpty m) (endsCr x));
+    some = rw (some-append x l, some-append x m, e) (λ h. h);
+  }
+    where
+      last-of : (t u : Bool) → cond t u (endsCr m) ≡ true → cond t u (endsCr l) ≡ true
+      last-of true u h = h
+      last-of false u h = a .ends h
+
+  -- other bytes in front
+  alike-new : (y : Bytes) → isEmpty y ≡ false → has LF y ≡ false → has CR y ≡ false → Alike (x ++ l) (y ++ m)
+  alike-new y s f c = record {
+    free = λ h. has-append LF y m f (a .free (has-parts LF x l h .1));
+    ends = rw (ends-append x l, ends-append y m, e, ends-free y c) (last-of (isEmpty m));
+    some = λ h. rw (some-append y m, s);
+  }
+    where
+      last-of : (t : Bool) → cond t false (endsCr m) ≡ true → cond t (endsCr x) (endsCr l) ≡ true
+      last-of true h = absurd-bool h
+      last-of false h = a .ends h
+
+alike-tab : {l m : Bytes} → Alike l m → Alike (TAB ∷ l) (TAB ∷ m)
+unfolding any endsCr isEmpty
+alike-tab {l} {m} a = record { free = a .free; ends = rw (tab l, tab m) (a .ends); some = λ h. refl }
+  where
+    tab : (s : Bytes) → endsCr (TAB ∷ s) ≡ endsCr s
+    tab [] = refl
+    tab (x ∷ xs) = refl
+
+filled-empty : {xs ys : List Bytes} → Filled xs ys → isEmpty (tabs xs) ≡ isEmpty (tabs ys)
+unfolding tabs isEmpty
+filled-empty none = refl
+filled-empty (same x f) = refl
+filled-empty (new x y s t l c f) = refl
+
+alike-tabs : {xs ys : List Bytes} → Filled xs ys → Alike (tabs xs) (tabs ys)
+unfolding tabs
+alike-tabs none = record { free = λ h. h; ends = λ h. h; some = λ h. h }
+alike-tabs (same x f) = alike-tab (alike-same x (alike-tabs f) (filled-empty f))
+alike-tabs (new x y s t l c f) = alike-tab (alike-new x (alike-tabs f) (filled-empty f) y s l c)
+
+alike-filled : {xs ys : List Bytes} → Filled xs ys → Alike (tabbed xs) (tabbed ys)
+unfolding tabbed
+alike-filled none = record { free = λ h. h; ends = λ h. h; some = λ h. h }
+alike-filled (same {xs} {ys} x f) = rw (tabbed-tabs x xs, tabbed-tabs x ys) (alike-same x (alike-tabs f) (filled-empty f))
+alike-filled (new {xs} {ys} x y s t l c f) = rw (tabbed-tabs x xs, tabbed-tabs y ys) (alike-new x (alike-tabs f) (filled-empty f) y s l c)
+
+-- such a line in the place of one, before what ends that, is a line, and what is left is cut as it is
+lines-alike : (m : Bytes) {l end rest : Bytes} → Alike l m → has LF l ≡ false → Ended l end rest → (other : Bytes) → (end ≡ [] → other ≡ []) → lines (m ++ (end ++ other)) ≡ m ∷ lines other
+unfolding lines startsLf isEmpty
+lines-alike m a h (last s) other z = rw (z refl) (lines-front m (a .free h) (a .some s) nothing)
+lines-alike [] a h (by-lf rest e) other z = refl
+lines-alike (x ∷ xs) {l} a h (by-lf rest e) other z = lines-front (x ∷ xs) (a .free h) refl (tail-for (endsCr l) (endsCr (x ∷ xs)) (a .ends) (lf other e))
+lines-alike [] a h (by-crlf rest) other z = refl
+lines-alike (x ∷ xs) a h (by-crlf rest) other z = lines-front (x ∷ xs) (a .free h) refl (crlf other)
+
+-- lines, each with such cells
+pub data AllFilled : List Bytes → List Bytes → Type 0 where
+  done : AllFilled [] []
+  next : {l : Bytes} {ls ys ms : List Bytes} → Filled (cells l) ys → AllFilled ls ms → AllFilled (l ∷ ls) (tabbed ys ∷ ms)
+
+all-none : {ls ms : List Bytes} → ls ≡ [] → AllFilled ls ms → ms ≡ []
+all-none e done = refl
+all-none e (next p q) = absurd (omega (arith, ap length e))
+
+-- nothing is left after a line that has no end
+ended-none : {l end rest : Bytes} {ms : List Bytes} → Ended l end rest → AllFilled (lines rest) ms → end ≡ [] → ms ≡ []
+unfolding lines
+ended-none (last s) q e = all-none refl q
+ended-none (by-lf rest c) q e = absurd (omega (arith, ap length e))
+ended-none (by-crlf rest) q e = absurd (omega (arith, ap length e))
+
+-- the first line and those after it
+joined-next : {f : Bytes} (r : Cut f) {ls ms : List Bytes} → ls ≡ r .line ∷ lines (r .rest) → AllFilled ls ms
+    → ((ns : List Bytes) → AllFilled (lines (r .rest)) ns → lines (joined ns (lineEnds (r .rest))) ≡ ns) → lines (joined ms (r .end ∷ lineEnds (r .rest))) ≡ ms
+unfolding joined
+joined-next r e done ih = absurd (omega (arith, ap length e))
+joined-next r e (next {l} {ls} {ys} {ms} p q) ih =
+    let h : l ≡ r .line = ap (λ (zs : List Bytes). getD zs 0 []) e in
+    let t : ls ≡ lines (r .rest) = ap (λ (zs : List Bytes). drop 1 zs) e in
+    let a : Alike (r .line) (tabbed ys) = rw (← h) (rw (cells-tabbed l) at (alike-filled p)) in
+    let o : AllFilled (lines (r .rest)) ms = rw (← t) q in
+    let z : r .end ≡ [] → joined ms (lineEnds (r .rest)) ≡ [] = λ n. rw (ended-none (r .ended) o n) in
+    lines-alike (tabbed ys) a (r .free) (r .ended) (joined ms (lineEnds (r .rest))) z ∙ ap (λ (zs : List Bytes). tabbed ys ∷ zs) (ih ms o)
+
+joined-step : (f : Bytes) → ((g : Bytes) → length g < length f → (ms : List Bytes) → AllFilled (lines g) ms → lines (joined ms (lineEnds g)) ≡ ms)
+    → (ms : List Bytes) → AllFilled (lines f) ms → lines (joined ms (lineEnds f)) ≡ ms
+unfolding lines joined
+joined-step [] ih ms a = rw (all-none refl a)
+joined-step (x ∷ xs) ih ms a = let r = cut-first x xs in rw (r .ends-cut) (joined-next r (r .lines-cut) a (ih (r .rest) (cut-less r)))
+
+joined-below : (k : ℕ) (f : Bytes) → length f < k → (ms : List Bytes) → AllFilled (lines f) ms → lines (joined ms (lineEnds f)) ≡ ms
+joined-below zero f h = absurd (omega arith)
+joined-below (suc k) f h = joined-step f (λ g l. joined-below k g (omega arith))
+
+-- a file with such lines, and the ends that stood there, is cut into them
+pub joined-filled : (f : Bytes) {ms : List Bytes} → AllFilled (lines f) ms → lines (joined ms (lineEnds f)) ≡ ms
+joined-filled f {ms} a = joined-below (suc (length f)) f (omega arith) ms a
