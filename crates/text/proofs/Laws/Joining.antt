@@ -1,12 +1,12 @@
 -- A file as its lines and what ends them, a line as its cells with tabs between, and both with other bytes in some cells. Assumes nothing.
 use mathlib.Core.Path.{_≡_, refl, sym, ap, _∙_}
 use mathlib.Core.Bool.{Bool, true, false, cond, _&&_, and-false, and-true}
-use mathlib.Core.List.{List, [], _∷_, _++_, append-assoc, append-nil}
+use mathlib.Core.List.{List, [], _∷_, _++_, append-nil}
 use Prim.Native.Nat.{ℕ, zero, suc, _+_, _-_, _≤_, _<_}
 use native.Mathlib.Omega.{arith}
 use lib.Dec.{eqb}
 use borrow.Author.Tests.{eqb-true}
-use lib.ListN.{length, take, drop, getD, length-append, length-drop}
+use lib.ListN.{length, drop, getD, length-append, length-drop}
 use lib.Seq.{drop-drop, length-take-le, take-append-seam, drop-append-seam}
 use Rattle.text_bytes.specs.Bytes.{Bytes, any, isEmpty, onFirst, splitOn}
 use Rattle.text_bytes.specs.Places.{part, after}
@@ -15,7 +15,88 @@ use Rattle.text.specs.Lines.{TAB, LF, CR, startsLf, lines, cells}
 use Rattle.text.specs.Edits.{has}
 use Rattle.text.specs.Joined.{lineEnds, joined, tabbed}
 use Rattle.text.specs.Places.{LineAt}
-use Rattle.text.proofs.Laws.Splicing.{has-none, pieces, front, first-line, endsCr, Tail, nothing, lf, crlf, lines-on, lines-front, tail-for, has-append, ends-free, ends-append}
+use Rattle.text.proofs.Laws.Splicing.{has-none, pieces, front, endsCr, nothing, lf, crlf, lines-on, lines-front, tail-for, has-append, ends-free, ends-append}
+
+-- THE FIRST LINE, WHAT ENDS IT AND WHAT IS LEFT
+
+-- what ends a line, and what may be left after it: nothing (then the line is some), LF (then it does not end in CR), CR LF
+data Ended (l : Bytes) : Bytes → Bytes → Type 0 where
+  last : isEmpty l ≡ false → Ended l [] []
+  by-lf : (rest : Bytes) → endsCr l ≡ false → Ended l (LF ∷ []) rest
+  by-crlf : (rest : Bytes) → Ended l (CR ∷ (LF ∷ [])) rest
+
+-- a text, cut after its first line and what ends that
+record Cut (f : Bytes) : Type 0 where
+  line : Bytes
+  end : Bytes
+  rest : Bytes
+  whole : f ≡ line ++ (end ++ rest)
+  lines-cut : lines f ≡ line ∷ lines rest
+  ends-cut : lineEnds f ≡ end ∷ lineEnds rest
+  free : has LF line ≡ false
+  ended : Ended line end rest
+
+-- a byte in front of the line, where it is no CR of the end
+ended-on : (x : ℕ) (l : Bytes) {end rest : Bytes} → (l ≡ [] → (eqb x CR && startsLf (end ++ rest)) ≡ false) → Ended l end rest → Ended (x ∷ l) end rest
+unfolding endsCr isEmpty startsLf
+ended-on x l h (last s) = last refl
+ended-on x [] h (by-lf rest e) = by-lf rest (sym (and-true (eqb x CR)) ∙ h refl)
+ended-on x (y ∷ ys) h (by-lf rest e) = by-lf rest e
+ended-on x l h (by-crlf rest) = by-crlf rest
+
+cut-first : (x : ℕ) (xs : Bytes) → Cut (x ∷ xs)
+unfolding lines lineEnds onFirst startsLf endsCr isEmpty any
+cut-first x [] = go (eqb x LF) refl
+  where
+    go : (t : Bool) → eqb x LF ≡ t → Cut (x ∷ [])
+    go true e = record { line = []; end = LF ∷ []; rest = []; whole = rw (eqb-true x LF e); lines-cut = rw e; ends-cut = rw (e, eqb-true x LF e); free = refl; ended = by-lf [] refl }
+    go false e = record { line = x ∷ []; end = []; rest = []; whole = refl; lines-cut = rw (e, and-false (eqb x CR)); ends-cut = rw (e, and-false (eqb x CR)); free = rw e; ended = last refl }
+cut-first x (y ∷ ys) = go (eqb x LF) (eqb x CR && eqb y LF) refl refl (cut-first y ys)
+  where
+    go : (t u : Bool) → eqb x LF ≡ t → (eqb x CR && eqb y LF) ≡ u → Cut (y ∷ ys) → Cut (x ∷ (y ∷ ys))
+    go true u e d r = record {
+      line = [];
+      end = LF ∷ [];
+      rest = y ∷ ys;
+      whole = rw (eqb-true x LF e);
+      lines-cut = rw e;
+      ends-cut = rw (e, eqb-true x LF e);
+      free = refl;
+      ended = by-lf (y ∷ ys) refl;
+    }
+    go false true e d r =
+        let a = and-both (eqb x CR) (eqb y LF) d in
+        record {
+          line = [];
+          end = CR ∷ (LF ∷ []);
+          rest = ys;
+          whole = rw (eqb-true x CR (a .0), eqb-true y LF (a .1));
+          lines-cut = rw (e, d, a .1);
+          ends-cut = rw (e, d, a .1, eqb-true x CR (a .0), eqb-true y LF (a .1));
+          free = refl;
+          ended = by-crlf ys;
+        }
+    go false false e d r = record {
+      line = x ∷ r .line;
+      end = r .end;
+      rest = r .rest;
+      whole = ap (λ (l : Bytes). x ∷ l) (r .whole);
+      lines-cut = lines-on x (y ∷ ys) e d ∙ rw (r .lines-cut);
+      ends-cut = rw (e, d) (r .ends-cut);
+      free = rw (e, r .free);
+      ended = ended-on x (r .line) (λ z. rw (← ap (λ (l : Bytes). l ++ (r .end ++ r .rest)) z, ← r .whole) d) (r .ended);
+    }
+
+-- what is left is less
+cut-less : {f : Bytes} (r : Cut f) → length (r .rest) < length f
+unfolding isEmpty
+cut-less {f} r = go (r .line) (r .ended) (ap length (r .whole))
+  where
+    go : (l : Bytes) {end rest : Bytes} → Ended l end rest → length f ≡ length (l ++ (end ++ rest)) → length rest < length f
+    go [] (last s) e = absurd-bool (sym s)
+    go (x ∷ xs) (last s) e = omega (arith, e)
+    go l (by-lf rest c) e = omega (arith, e, length-append l (LF ∷ rest))
+    go l (by-crlf rest) e = omega (arith, e, length-append l (CR ∷ (LF ∷ rest)))
 
 -- LINES AND THEIR ENDS
 
@@ -43,8 +124,8 @@ lines-joined (x ∷ (y ∷ ys)) = go (eqb x LF) (eqb x CR && eqb y LF) refl refl
         let a = and-both (eqb x CR) (eqb y LF) d .1 in
         rw (e, d, a) (ap (λ (l : Bytes). x ∷ l) (rw a at ih))
     go false false e d ih =
-        let r = first-line y ys in
-        rw (e, d, r .cut) (joined-on x (r .first) (r .follow) (lineEnds (y ∷ ys)) ∙ ap (λ (l : Bytes). x ∷ l) (rw (r .cut) at ih))
+        let r = cut-first y ys in
+        rw (e, d, r .lines-cut) (joined-on x (r .line) (lines (r .rest)) (lineEnds (y ∷ ys)) ∙ ap (λ (l : Bytes). x ∷ l) (rw (r .lines-cut) at ih))
 
 -- no line has an LF
 pub lines-free : (f : Bytes) → any (has LF) (lines f) ≡ false
@@ -57,6 +138,34 @@ lines-free (x ∷ xs) = go (eqb x LF) (eqb x CR && startsLf xs) refl (lines xs) 
     go false true e ls ih = ih
     go false false e [] ih = rw e
     go false false e (l ∷ ls) ih = rw e ih
+
+-- the next line begins after the line and its end
+after-ended : (m : Bytes) {l end rest : Bytes} → has LF m ≡ false → Ended l end rest → after LF 1 (m ++ (end ++ rest)) ≡ length m + length end
+unfolding after
+after-ended [] h (last s) = refl
+after-ended [] h (by-lf rest e) = refl
+after-ended [] h (by-crlf rest) = refl
+after-ended (x ∷ xs) h t = rw (has-none LF x xs h .0) (omega (arith, after-ended xs (has-none LF x xs h .1) t))
+
+-- the end of the line that begins at `at`, and the ends of the lines after it
+pub ends-next : {f : Bytes} {at end next : ℕ} → LineAt f at end next → lineEnds (drop at f) ≡ part end next f ∷ lineEnds (drop next f)
+ends-next {f} {at} {end} {next} p = go (drop at f) refl
+  where
+    go : (g : Bytes) → drop at f ≡ g → lineEnds (drop at f) ≡ part end next f ∷ lineEnds (drop next f)
+    go [] e = absurd (omega (arith, p .on, p .within, length-drop at f, ap length e))
+    go (x ∷ xs) e =
+        let r = cut-first x xs in
+        let w : drop at f ≡ r .line ++ (r .end ++ r .rest) = e ∙ r .whole in
+        let c : lines (drop at f) ≡ r .line ∷ lines (r .rest) = rw e (r .lines-cut) in
+        let q : part at end f ≡ r .line = ap (λ (ls : List Bytes). getD ls 0 []) (sym (p .cut) ∙ c) in
+        let t : length (part at end f) ≡ end - at = length-take-le (end - at) (drop at f) (omega (arith, p .starts, p .ends, length-drop at f)) in
+        let n : at + length (r .line) ≡ end = omega (arith, p .starts, t, ap length q) in
+        let a : after LF 1 (drop at f) ≡ length (r .line) + length (r .end) = rw w (after-ended (r .line) (r .free) (r .ended)) in
+        let m : end + length (r .end) ≡ next = omega (arith, p .passes, a, n) in
+        let k : next - end ≡ length (r .end) = omega (arith, m) in
+        let d : drop end f ≡ r .end ++ r .rest = rw (← n, ← drop-drop (length (r .line)) at f, w) (drop-append-seam (r .line) (r .end ++ r .rest)) in
+        let o : drop next f ≡ r .rest = rw (← m, ← drop-drop (length (r .end)) end f, d) (drop-append-seam (r .end) (r .rest)) in
+        rw (e, r .ends-cut, k, d, o, take-append-seam (r .end) (r .rest))
 
 -- CELLS AND TABS
 
@@ -121,113 +230,6 @@ filled-cells l {ys} f = tabbed-cells ys (some (cells l) (pieces TAB l (cells l) 
   where
     some : (ps : List Bytes) {p : Bytes} {qs : List Bytes} → ps ≡ p ∷ qs → length ps ≡ length ys → 1 ≤ length ys
     some ps e h = omega (arith, ap length e)
-
--- THE FIRST LINE, WHAT ENDS IT AND WHAT IS LEFT
-
--- what ends a line, and what may be left after it: nothing (then the line is some), LF (then it does not end in CR), CR LF
-data Ended (l : Bytes) : Bytes → Bytes → Type 0 where
-  last : isEmpty l ≡ false → Ended l [] []
-  by-lf : (rest : Bytes) → endsCr l ≡ false → Ended l (LF ∷ []) rest
-  by-crlf : (rest : Bytes) → Ended l (CR ∷ (LF ∷ [])) rest
-
-record Cut (f : Bytes) : Type 0 where
-  line : Bytes
-  end : Bytes
-  rest : Bytes
-  whole : f ≡ line ++ (end ++ rest)
-  lines-cut : lines f ≡ line ∷ lines rest
-  ends-cut : lineEnds f ≡ end ∷ lineEnds rest
-  free : has LF line ≡ false
-  ended : Ended line end rest
-
-ended-on : (x : ℕ) (l : Bytes) {end rest : Bytes} → (l ≡ [] → (eqb x CR && startsLf (end ++ rest)) ≡ false) → Ended l end rest → Ended (x ∷ l) end rest
-unfolding endsCr isEmpty startsLf
-ended-on x l h (last s) = last refl
-ended-on x [] h (by-lf rest e) = by-lf rest (sym (and-true (eqb x CR)) ∙ h refl)
-ended-on x (y ∷ ys) h (by-lf rest e) = by-lf rest e
-ended-on x l h (by-crlf rest) = by-crlf rest
-
-cut-first : (x : ℕ) (xs : Bytes) → Cut (x ∷ xs)
-unfolding lines lineEnds onFirst startsLf endsCr isEmpty any
-cut-first x [] = go (eqb x LF) refl
-  where
-    go : (t : Bool) → eqb x LF ≡ t → Cut (x ∷ [])
-    go true e = record { line = []; end = LF ∷ []; rest = []; whole = rw (eqb-true x LF e); lines-cut = rw e; ends-cut = rw (e, eqb-true x LF e); free = refl; ended = by-lf [] refl }
-    go false e = record { line = x ∷ []; end = []; rest = []; whole = refl; lines-cut = rw (e, and-false (eqb x CR)); ends-cut = rw (e, and-false (eqb x CR)); free = rw e; ended = last refl }
-cut-first x (y ∷ ys) = go (eqb x LF) (eqb x CR && eqb y LF) refl refl (cut-first y ys)
-  where
-    go : (t u : Bool) → eqb x LF ≡ t → (eqb x CR && eqb y LF) ≡ u → Cut (y ∷ ys) → Cut (x ∷ (y ∷ ys))
-    go true u e d r = record {
-      line = [];
-      end = LF ∷ [];
-      rest = y ∷ ys;
-      whole = rw (eqb-true x LF e);
-      lines-cut = rw e;
-      ends-cut = rw (e, eqb-true x LF e);
-      free = refl;
-      ended = by-lf (y ∷ ys) refl;
-    }
-    go false true e d r =
-        let a = and-both (eqb x CR) (eqb y LF) d in
-        record {
-          line = [];
-          end = CR ∷ (LF ∷ []);
-          rest = ys;
-          whole = rw (eqb-true x CR (a .0), eqb-true y LF (a .1));
-          lines-cut = rw (e, d, a .1);
-          ends-cut = rw (e, d, a .1, eqb-true x CR (a .0), eqb-true y LF (a .1));
-          free = refl;
-          ended = by-crlf ys;
-        }
-    go false false e d r = record {
-      line = x ∷ r .line;
-      end = r .end;
-      rest = r .rest;
-      whole = ap (λ (l : Bytes). x ∷ l) (r .whole);
-      lines-cut = lines-on x (y ∷ ys) e d ∙ rw (r .lines-cut);
-      ends-cut = rw (e, d) (r .ends-cut);
-      free = rw (e, r .free);
-      ended = ended-on x (r .line) (λ z. rw (← ap (λ (l : Bytes). l ++ (r .end ++ r .rest)) z, ← r .whole) d) (r .ended);
-    }
-
--- what is left is less
-cut-less : {f : Bytes} (r : Cut f) → length (r .rest) < length f
-unfolding isEmpty
-cut-less {f} r = go (r .line) (r .ended) (ap length (r .whole))
-  where
-    go : (l : Bytes) {end rest : Bytes} → Ended l end rest → length f ≡ length (l ++ (end ++ rest)) → length rest < length f
-    go [] (last s) e = absurd-bool (sym s)
-    go (x ∷ xs) (last s) e = omega (arith, e)
-    go l (by-lf rest c) e = omega (arith, e, length-append l (LF ∷ rest))
-    go l (by-crlf rest) e = omega (arith, e, length-append l (CR ∷ (LF ∷ rest)))
-
--- the next line begins after the line and its end
-after-ended : (m : Bytes) {l end rest : Bytes} → has LF m ≡ false → Ended l end rest → after LF 1 (m ++ (end ++ rest)) ≡ length m + length end
-unfolding after
-after-ended [] h (last s) = refl
-after-ended [] h (by-lf rest e) = refl
-after-ended [] h (by-crlf rest) = refl
-after-ended (x ∷ xs) h t = rw (has-none LF x xs h .0) (omega (arith, after-ended xs (has-none LF x xs h .1) t))
-
--- the end of the line that begins at `at`, and the ends of the lines after it
-pub ends-next : {f : Bytes} {at end next : ℕ} → LineAt f at end next → lineEnds (drop at f) ≡ part end next f ∷ lineEnds (drop next f)
-ends-next {f} {at} {end} {next} p = go (drop at f) refl
-  where
-    go : (g : Bytes) → drop at f ≡ g → lineEnds (drop at f) ≡ part end next f ∷ lineEnds (drop next f)
-    go [] e = absurd (omega (arith, p .on, p .within, length-drop at f, ap length e))
-    go (x ∷ xs) e =
-        let r = cut-first x xs in
-        let w : drop at f ≡ r .line ++ (r .end ++ r .rest) = e ∙ r .whole in
-        let c : lines (drop at f) ≡ r .line ∷ lines (r .rest) = rw e (r .lines-cut) in
-        let q : part at end f ≡ r .line = ap (λ (ls : List Bytes). getD ls 0 []) (sym (p .cut) ∙ c) in
-        let t : length (part at end f) ≡ end - at = length-take-le (end - at) (drop at f) (omega (arith, p .starts, p .ends, length-drop at f)) in
-        let n : at + length (r .line) ≡ end = omega (arith, p .starts, t, ap length q) in
-        let a : after LF 1 (drop at f) ≡ length (r .line) + length (r .end) = rw w (after-ended (r .line) (r .free) (r .ended)) in
-        let m : end + length (r .end) ≡ next = omega (arith, p .passes, a, n) in
-        let k : next - end ≡ length (r .end) = omega (arith, m) in
-        let d : drop end f ≡ r .end ++ r .rest = rw (← n, ← drop-drop (length (r .line)) at f, w) (drop-append-seam (r .line) (r .end ++ r .rest)) in
-        let o : drop next f ≡ r .rest = rw (← m, ← drop-drop (length (r .end)) end f, d) (drop-append-seam (r .end) (r .rest)) in
-        rw (e, r .ends-cut, k, d, o, take-append-seam (r .end) (r .rest))
 
 -- OTHER BYTES IN SOME CELLS OF LINES
 
@@ -347,6 +349,7 @@ joined-next r e (next {l} {ls} {ys} {ms} p q) ih =
     let z : r .end ≡ [] → joined ms (lineEnds (r .rest)) ≡ [] = λ n. rw (ended-none (r .ended) o n) in
     lines-alike (tabbed ys) a (r .free) (r .ended) (joined ms (lineEnds (r .rest))) z ∙ ap (λ (zs : List Bytes). tabbed ys ∷ zs) (ih ms o)
 
+-- by the length of the text
 joined-step : (f : Bytes) → ((g : Bytes) → length g < length f → (ms : List Bytes) → AllFilled (lines g) ms → lines (joined ms (lineEnds g)) ≡ ms)
     → (ms : List Bytes) → AllFilled (lines f) ms → lines (joined ms (lineEnds f)) ≡ ms
 unfolding lines joined

@@ -127,15 +127,15 @@ lines-front (x ∷ (y ∷ ys)) {rest} h s t =
     lines-on x ((y ∷ ys) ++ rest) (q .0) (rw (has-none LF y ys (q .1) .0) (and-false (eqb x CR))) ∙ ap (onFirst x) (lines-front (y ∷ ys) (q .1) refl t)
 
 -- the first line of a text: what stands after it, and the lines that follow
-pub record FirstLine (f : Bytes) : Type 0 where
-  pub first : Bytes
-  pub follow : List Bytes
-  pub cut : lines f ≡ first ∷ follow
-  pub tail : Tail (endsCr first) (drop (length first) f) follow
-  pub bytes : take (length first) f ≡ first
-  pub free : has LF first ≡ false
+record FirstLine (f : Bytes) : Type 0 where
+  first : Bytes
+  follow : List Bytes
+  cut : lines f ≡ first ∷ follow
+  tail : Tail (endsCr first) (drop (length first) f) follow
+  bytes : take (length first) f ≡ first
+  free : has LF first ≡ false
 
-pub tail-on : (x : ℕ) (l : Bytes) {rest : Bytes} {ls : List Bytes} → (l ≡ [] → (eqb x CR && startsLf rest) ≡ false) → Tail (endsCr l) rest ls → Tail (endsCr (x ∷ l)) rest ls
+tail-on : (x : ℕ) (l : Bytes) {rest : Bytes} {ls : List Bytes} → (l ≡ [] → (eqb x CR && startsLf rest) ≡ false) → Tail (endsCr l) rest ls → Tail (endsCr (x ∷ l)) rest ls
 unfolding endsCr isEmpty startsLf
 tail-on x [] h nothing = nothing
 tail-on x [] h (lf rest e) = lf rest (sym (and-true (eqb x CR)) ∙ h refl)
@@ -149,7 +149,7 @@ tail-for t true h (lf rest e) = absurd-bool (sym e ∙ h refl)
 tail-for t false h (lf rest e) = lf rest refl
 tail-for t u h (crlf rest) = crlf rest
 
-pub first-line : (x : ℕ) (xs : Bytes) → FirstLine (x ∷ xs)
+first-line : (x : ℕ) (xs : Bytes) → FirstLine (x ∷ xs)
 unfolding lines onFirst startsLf endsCr isEmpty any
 first-line x [] = go (eqb x LF) refl
   where
