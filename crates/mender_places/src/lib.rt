@@ -1,9 +1,7 @@
 // The lent buffer that bytes are laid into, and the lent list that changes are noted in, two places each: line and cell. What has no place is counted all the
 // same, so that a walk that is lent next to nothing says how long the copy will be.
 ghost use mathlib.Core.Path.{_≡_};
-ghost use mathlib.Core.Bool.{cond};
-ghost use Prim.Native.Nat.{_+_, _-_, _≤_};
-ghost use lib.Dec.{leb};
+ghost use Prim.Native.Nat.{_+_, _≤_, _<_};
 ghost use lib.ListN.{length};
 ghost use Rattle.rules.specs.Breaks.{breakAt};
 ghost use Rattle.scan.specs.Places.{lent};
@@ -17,7 +15,7 @@ pub struct Copied {
 
 // How many of n bytes, from place `to` on, have a place.
 fn fitting(places: usize, to: usize, n: usize) -> usize
-    ensures { λ r. ⌜ r ≡ cond (leb places to) 0 (cond (leb n (places - to)) n (places - to)) ⌝ }
+    ensures { λ r. ⌜ (r ≤ n) × (0 < r → to + r ≤ places) × (r < n → places ≤ to + r) ⌝ }
 {
     if places <= to {
         return 0;
