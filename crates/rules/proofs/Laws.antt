@@ -8,3 +8,4 @@ pub mod Renewing
 pub mod Alike
 pub mod Locality
 pub mod Filling
+pub mod Mending

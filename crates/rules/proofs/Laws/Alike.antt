@@ -63,9 +63,21 @@ module _ (b : Book) where
       go true h = absurd (let z : _≡_ {A = ℕ} 0 1 = cc in omega arith)
       go false h = h
 
-  pub alike-code : {l m : Bytes} {s : ℕ} → sortOf b l ≡ Row s → isEmpty m ≡ false → cell 1 m ≡ cell 1 l → Alike b l m
+  pub row-stays : (l m : Bytes) (s : ℕ) → sortOf b l ≡ Row s → isEmpty m ≡ false → cell 1 m ≡ cell 1 l → sortOf b m ≡ Row s
   unfolding sortOf
-  alike-code {l} {m} {s} e f q = let r : sortOf b m ≡ Row s = rw (f, q) (row-code l s e) in rows e r
+  row-stays l m s e f q = rw (f, q) (row-code l s e)
+
+  pub alike-code : {l m : Bytes} {s : ℕ} → sortOf b l ≡ Row s → isEmpty m ≡ false → cell 1 m ≡ cell 1 l → Alike b l m
+  alike-code {l} {m} {s} e f q = rows e (row-stays l m s e f q)
+
+  -- and has a byte
+  pub row-some : (l : Bytes) (s : ℕ) → sortOf b l ≡ Row s → isEmpty l ≡ false
+  unfolding sortOf
+  row-some l s e = go (isEmpty l) e
+    where
+      go : (t : Bool) → cond t Silent (codeSort b (cell 1 l)) ≡ Row s → t ≡ false
+      go true h = absurd (let z : _≡_ {A = ℕ} 0 1 = cc in omega arith)
+      go false h = refl
 
   -- a row is no metadata
   code-meta : (code : Bytes) (s : ℕ) → is code "MTD" ≡ true → codeSort b code ≡ Row s → ⊥

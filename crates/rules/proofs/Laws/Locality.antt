@@ -169,7 +169,7 @@ module _ (b : Book) (rs es : List Rule) (w : ℕ) (g : Local b rs) (h : Local b 
 
 -- A CELL OF A ROW, in the bytes of a file
 
-row-sort : (b : Book) (l : Bytes) → isRow b l ≡ true → (s : ℕ) × (sortOf b l ≡ Row s)
+pub row-sort : (b : Book) (l : Bytes) → isRow b l ≡ true → (s : ℕ) × (sortOf b l ≡ Row s)
 row-sort b l = go (sortOf b l) refl
   where
     go : (o : Sort) → sortOf b l ≡ o → ltb 0 (rowIn o) ≡ true → (s : ℕ) × (sortOf b l ≡ Row s)

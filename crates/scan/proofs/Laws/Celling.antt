@@ -1,6 +1,6 @@
 -- The cells of a line, by positions, in loops that judge them one by one. Assumes nothing.
 use mathlib.Core.Path.{_≡_, refl, sym, ap, _∙_}
-use mathlib.Core.Bool.{Bool, true, false, cond, _||_, or-assoc, or-false}
+use mathlib.Core.Bool.{Bool, true, false, cond, _||_, or-false}
 use mathlib.Core.List.{List, [], _∷_, _++_}
 use mathlib.Core.Logic.{⊎-elim}
 use Prim.Native.Nat.{ℕ, suc, _+_, _-_, _≤_, _<_}
@@ -13,6 +13,7 @@ use lib.ListN.{length, take, drop, getD, length-take, length-drop}
 use Rattle.text_bytes.specs.Bytes.{Bytes, any, firstFrom, firstKept, onFirst, splitOn}
 use Rattle.text_bytes.specs.Places.{Ends}
 use Rattle.text.specs.Lines.{cells}
+use Rattle.text_bytes.proofs.Laws.Each.{any-append}
 use Rattle.text_bytes.proofs.Laws.Pieces.{piece-cut, piece-last}
 use Rattle.text_bytes.proofs.Laws.Firsts.{first-more}
 use Rattle.rules.specs.Breaks.{Break}
@@ -65,12 +66,7 @@ module _ (xs : List Bytes) {x : Bytes} {tail : List Bytes} (c : ℕ) (low : 2 �
 
 -- NAMES BEFORE
 
-pub any-append : {A : Type 0} (f : A → Bool) (xs ys : List A) → any f (xs ++ ys) ≡ (any f xs || any f ys)
-unfolding any
-any-append f [] ys = refl
-any-append f (x ∷ xs) ys = rw (any-append f xs ys) (sym (or-assoc (f x) (any f xs) (any f ys)))
-
--- and with one more
+-- with one more
 pub any-one-more : {A : Type 0} (f : A → Bool) (xs : List A) (x : A) → any f (xs ++ (x ∷ [])) ≡ (any f xs || f x)
 unfolding any
 any-one-more f xs x = any-append f xs (x ∷ []) ∙ ap (λ (t : Bool). any f xs || t) (or-false (f x))

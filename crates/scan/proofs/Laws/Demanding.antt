@@ -16,7 +16,7 @@ use Rattle.book.proofs.Laws.Sized.{isLate, rising}
 use Rattle.rules.specs.Breaks.{Break, breakAt, when, each}
 use Rattle.rules.specs.Rules.{hasCell}
 use Rattle.scan.proofs.Laws.Rowing.{test-eq}
-use Rattle.scan.proofs.Laws.Celling.{any-append}
+use Rattle.text_bytes.proofs.Laws.Each.{any-append}
 
 -- A RANGE
 

@@ -255,15 +255,15 @@ some-append [] ys = refl
 some-append (x ∷ xs) ys = refl
 
 -- what a line with such cells has in common with the one that stood there: it has no LF where that has none, ends in CR only where that does, and is some where that is
-record Alike (l m : Bytes) : Type 0 where
+record Akin (l m : Bytes) : Type 0 where
   free : has LF l ≡ false → has LF m ≡ false
   ends : endsCr m ≡ true → endsCr l ≡ true
   some : isEmpty l ≡ false → isEmpty m ≡ false
 
-module _ (x : Bytes) {l m : Bytes} (a : Alike l m) (e : isEmpty l ≡ isEmpty m) where
+module _ (x : Bytes) {l m : Bytes} (a : Akin l m) (e : isEmpty l ≡ isEmpty m) where
   -- the same in front of both
-  alike-same : Alike (x ++ l) (x ++ m)
-  alike-same = record {
+  akin-same : Akin (x ++ l) (x ++ m)
+  akin-same = record {
     free = λ h. let q = has-parts LF x l h in has-append LF x m (q .0) (a .free (q .1));
     ends = rw (ends-append x l, ends-append x m, e) (last-of (isEmpty m) (endsCr x));
     some = rw (some-append x l, some-append x m, e) (λ h. h);
@@ -274,8 +274,8 @@ module _ (x : Bytes) {l m : Bytes} (a : Alike l m) (e : isEmpty l ≡ isEmpty m)
       last-of false u h = a .ends h
 
   -- other bytes in front
-  alike-new : (y : Bytes) → isEmpty y ≡ false → has LF y ≡ false → has CR y ≡ false → Alike (x ++ l) (y ++ m)
-  alike-new y s f c = record {
+  akin-new : (y : Bytes) → isEmpty y ≡ false → has LF y ≡ false → has CR y ≡ false → Akin (x ++ l) (y ++ m)
+  akin-new y s f c = record {
     free = λ h. has-append LF y m f (a .free (has-parts LF x l h .1));
     ends = rw (ends-append x l, ends-append y m, e, ends-free y c) (last-of (isEmpty m));
     some = λ h. rw (some-append y m, s);
@@ -285,9 +285,9 @@ module _ (x : Bytes) {l m : Bytes} (a : Alike l m) (e : isEmpty l ≡ isEmpty m)
       last-of true h = absurd-bool h
       last-of false h = a .ends h
 
-alike-tab : {l m : Bytes} → Alike l m → Alike (TAB ∷ l) (TAB ∷ m)
+akin-tab : {l m : Bytes} → Akin l m → Akin (TAB ∷ l) (TAB ∷ m)
 unfolding any endsCr isEmpty
-alike-tab {l} {m} a = record { free = a .free; ends = rw (tab l, tab m) (a .ends); some = λ h. refl }
+akin-tab {l} {m} a = record { free = a .free; ends = rw (tab l, tab m) (a .ends); some = λ h. refl }
   where
     tab : (s : Bytes) → endsCr (TAB ∷ s) ≡ endsCr s
     tab [] = refl
@@ -299,26 +299,29 @@ filled-empty none = refl
 filled-empty (same x f) = refl
 filled-empty (new x y s t l c f) = refl
 
-alike-tabs : {xs ys : List Bytes} → Filled xs ys → Alike (tabs xs) (tabs ys)
+akin-tabs : {xs ys : List Bytes} → Filled xs ys → Akin (tabs xs) (tabs ys)
 unfolding tabs
-alike-tabs none = record { free = λ h. h; ends = λ h. h; some = λ h. h }
-alike-tabs (same x f) = alike-tab (alike-same x (alike-tabs f) (filled-empty f))
-alike-tabs (new x y s t l c f) = alike-tab (alike-new x (alike-tabs f) (filled-empty f) y s l c)
+akin-tabs none = record { free = λ h. h; ends = λ h. h; some = λ h. h }
+akin-tabs (same x f) = akin-tab (akin-same x (akin-tabs f) (filled-empty f))
+akin-tabs (new x y s t l c f) = akin-tab (akin-new x (akin-tabs f) (filled-empty f) y s l c)
 
-alike-filled : {xs ys : List Bytes} → Filled xs ys → Alike (tabbed xs) (tabbed ys)
+akin-filled : {xs ys : List Bytes} → Filled xs ys → Akin (tabbed xs) (tabbed ys)
 unfolding tabbed
-alike-filled none = record { free = λ h. h; ends = λ h. h; some = λ h. h }
-alike-filled (same {xs} {ys} x f) = rw (tabbed-tabs x xs, tabbed-tabs x ys) (alike-same x (alike-tabs f) (filled-empty f))
-alike-filled (new {xs} {ys} x y s t l c f) = rw (tabbed-tabs x xs, tabbed-tabs y ys) (alike-new x (alike-tabs f) (filled-empty f) y s l c)
+akin-filled none = record { free = λ h. h; ends = λ h. h; some = λ h. h }
+akin-filled (same {xs} {ys} x f) = rw (tabbed-tabs x xs, tabbed-tabs x ys) (akin-same x (akin-tabs f) (filled-empty f))
+akin-filled (new {xs} {ys} x y s t l c f) = rw (tabbed-tabs x xs, tabbed-tabs y ys) (akin-new x (akin-tabs f) (filled-empty f) y s l c)
+
+pub filled-some : (l : Bytes) {ys : List Bytes} → Filled (cells l) ys → isEmpty l ≡ false → isEmpty (tabbed ys) ≡ false
+filled-some l f h = akin-filled f .some (rw (cells-tabbed l) h)
 
 -- such a line in the place of one, before what ends that, is a line, and what is left is cut as it is
-lines-alike : (m : Bytes) {l end rest : Bytes} → Alike l m → has LF l ≡ false → Ended l end rest → (other : Bytes) → (end ≡ [] → other ≡ []) → lines (m ++ (end ++ other)) ≡ m ∷ lines other
+lines-akin : (m : Bytes) {l end rest : Bytes} → Akin l m → has LF l ≡ false → Ended l end rest → (other : Bytes) → (end ≡ [] → other ≡ []) → lines (m ++ (end ++ other)) ≡ m ∷ lines other
 unfolding lines startsLf isEmpty
-lines-alike m a h (last s) other z = rw (z refl) (lines-front m (a .free h) (a .some s) nothing)
-lines-alike [] a h (by-lf rest e) other z = refl
-lines-alike (x ∷ xs) {l} a h (by-lf rest e) other z = lines-front (x ∷ xs) (a .free h) refl (tail-for (endsCr l) (endsCr (x ∷ xs)) (a .ends) (lf other e))
-lines-alike [] a h (by-crlf rest) other z = refl
-lines-alike (x ∷ xs) a h (by-crlf rest) other z = lines-front (x ∷ xs) (a .free h) refl (crlf other)
+lines-akin m a h (last s) other z = rw (z refl) (lines-front m (a .free h) (a .some s) nothing)
+lines-akin [] a h (by-lf rest e) other z = refl
+lines-akin (x ∷ xs) {l} a h (by-lf rest e) other z = lines-front (x ∷ xs) (a .free h) refl (tail-for (endsCr l) (endsCr (x ∷ xs)) (a .ends) (lf other e))
+lines-akin [] a h (by-crlf rest) other z = refl
+lines-akin (x ∷ xs) a h (by-crlf rest) other z = lines-front (x ∷ xs) (a .free h) refl (crlf other)
 
 -- lines, each with such cells
 pub data AllFilled : List Bytes → List Bytes → Type 0 where
@@ -344,10 +347,10 @@ joined-next r e done ih = absurd (omega (arith, ap length e))
 joined-next r e (next {l} {ls} {ys} {ms} p q) ih =
     let h : l ≡ r .line = ap (λ (zs : List Bytes). getD zs 0 []) e in
     let t : ls ≡ lines (r .rest) = ap (λ (zs : List Bytes). drop 1 zs) e in
-    let a : Alike (r .line) (tabbed ys) = rw (← h) (rw (cells-tabbed l) at (alike-filled p)) in
+    let a : Akin (r .line) (tabbed ys) = rw (← h) (rw (cells-tabbed l) at (akin-filled p)) in
     let o : AllFilled (lines (r .rest)) ms = rw (← t) q in
     let z : r .end ≡ [] → joined ms (lineEnds (r .rest)) ≡ [] = λ n. rw (ended-none (r .ended) o n) in
-    lines-alike (tabbed ys) a (r .free) (r .ended) (joined ms (lineEnds (r .rest))) z ∙ ap (λ (zs : List Bytes). tabbed ys ∷ zs) (ih ms o)
+    lines-akin (tabbed ys) a (r .free) (r .ended) (joined ms (lineEnds (r .rest))) z ∙ ap (λ (zs : List Bytes). tabbed ys ∷ zs) (ih ms o)
 
 -- by the length of the text
 joined-step : (f : Bytes) → ((g : Bytes) → length g < length f → (ms : List Bytes) → AllFilled (lines g) ms → lines (joined ms (lineEnds g)) ≡ ms)
