@@ -1,6 +1,6 @@
 -- The copy with `null` in the empty cells where it may stand: its lines and cells, its breaks, its length; mended again it stays the same, and a file with nothing
 -- to mend is its own copy. Assumes nothing.
-use mathlib.Core.Path.{_≡_, refl, sym, ap, _∙_}
+use mathlib.Core.Path.{_≡_, refl, sym, ap, subst, _∙_}
 use mathlib.Core.Bool.{Bool, true, false, cond, _&&_, and-false, or-false}
 use mathlib.Core.List.{List, [], _∷_, _++_}
 use mathlib.Core.Logic.{⊎-elim}
@@ -12,8 +12,8 @@ use lib.ListN.{length, getD, take, drop, length-append}
 use lib.Seq.{drop-cons, drop-drop}
 use borrow.Author.Tests.{eq-eqb, ne-eqb, ltb-true}
 use Rattle.text_bytes.specs.Bytes.{Bytes, bytes, any, isEmpty}
-use Rattle.text_bytes.proofs.Laws.Each.{any-append}
-use Rattle.text.specs.Lines.{lines, cells, cell, width}
+use Rattle.text_bytes.proofs.Laws.Each.{any-append, split-some}
+use Rattle.text.specs.Lines.{TAB, lines, cells, cell, width}
 use Rattle.text.specs.Edits.{has}
 use Rattle.text.specs.Joined.{lineEnds, joined, tabbed}
 use Rattle.text.proofs.Laws.Joining.{lines-joined, cells-tabbed, Filled, none, same, new, filled-cells, filled-some, AllFilled, done, next, joined-filled}
@@ -76,3 +76,112 @@ module _ (b : Book) (file : List Bytes) where
       (any-each t (λ m. holes b (spotAt file m) m) n (length file) 1 nl (omega arith) (λ m ne. any-nowhere t (hole b (spotAt file m) m) (w m) 1 (λ d l. hole-other b (spotAt file m) n c m d (rw (ne-eqb m n ne))))
       ∙ any-each t (hole b (spotAt file n) n) c (w n) 1 cl (omega arith) (λ d ne. hole-other b (spotAt file n) n c n d (rw (ne-eqb d c ne) (and-false (eqb n n))))
       ∙ hole-here b (spotAt file n) n c)
+
+-- CELLS AND LINES
+
+-- the lines from line n on, with `null` where it comes
+unfoldable pub fillLines : Book → List Bytes → ℕ → List Bytes → List Bytes
+fillLines b file n [] = []
+fillLines b file n (l ∷ ls) = tabbed (fillCells b (spotAt file n) 1 (cells l)) ∷ fillLines b file (suc n) ls
+
+-- what stands at the places from i on
+line-here : (file : List Bytes) (i : ℕ) {l : Bytes} {ls : List Bytes} → drop i file ≡ l ∷ ls → (i < length file) × (getD file i [] ≡ l) × (drop (suc i) file ≡ ls)
+line-here [] zero e = absurd (omega (arith, ap length e))
+line-here [] (suc i) e = absurd (omega (arith, ap length e))
+line-here (x ∷ xs) zero e = (omega arith, ap (λ (zs : List Bytes). getD zs 0 []) e, ap (λ (zs : List Bytes). drop 1 zs) e)
+line-here (x ∷ xs) (suc i) e = let r = line-here xs i e in (omega (arith, r .0), r .1, r .2)
+
+module _ (gs : List Break) (b : Book) (p : Spot) (n : ℕ) where
+  cells-same : (c : ℕ) (xs : List Bytes) → ((i : ℕ) → i < length xs → isChanged gs n (c + i) ≡ fillsAt b p (c + i) (getD xs i [])) → mendedCells gs n c xs ≡ fillCells b p c xs
+  unfolding mendedCells fillCells
+  cells-same c [] h = refl
+  cells-same c (x ∷ xs) h =
+      let z : c + 0 ≡ c = omega arith in
+      let here : isChanged gs n c ≡ fillsAt b p c x = rw z at (h 0 (omega arith)) in
+      rw (here, cells-same (suc c) xs (λ i lt. let e : c + suc i ≡ suc c + i = omega arith in rw e at (h (suc i) (omega arith))))
+
+module _ (b : Book) (file : List Bytes) where
+  cells-filled : (n : ℕ) → 1 ≤ n → n ≤ length file → mendedCells (changesBy b file) n 1 (cells (getD file (n - 1) [])) ≡ fillCells b (spotAt file n) 1 (cells (getD file (n - 1) []))
+  unfolding cell
+  cells-filled n low high = cells-same (changesBy b file) b (spotAt file n) n 1 (cells (getD file (n - 1) []))
+      (λ i lt. let e : 1 + i - 1 ≡ i = omega arith in changed-fills b file n (1 + i) low high (omega arith) (omega arith) ∙ rw e)
+
+  lines-same : (n : ℕ) (ls : List Bytes) → 1 ≤ n → drop (n - 1) file ≡ ls → mendedLines (changesBy b file) n ls ≡ fillLines b file n ls
+  unfolding mendedLines fillLines
+  lines-same n [] low e = refl
+  lines-same n (l ∷ ls) low e =
+      let r = line-here file (n - 1) e in
+      let z : suc n - 1 ≡ suc (n - 1) = omega arith in
+      let c : mendedCells (changesBy b file) n 1 (cells l) ≡ fillCells b (spotAt file n) 1 (cells l) =
+      subst (λ (x : Bytes). mendedCells (changesBy b file) n 1 (cells x) ≡ fillCells b (spotAt file n) 1 (cells x)) (r .1) (cells-filled n low (omega (arith, r .0))) in
+      rw (c, lines-same (suc n) ls (omega arith) (rw z (r .2)))
+
+  pub lines-mended : mendedLines (changesBy b file) 1 file ≡ fillLines b file 1 file
+  lines-mended = lines-same 1 file (omega arith) refl
+
+  -- `null` is some, and cuts nothing
+  fill-filled : (p : Spot) (c : ℕ) (xs : List Bytes) → Filled xs (fillCells b p c xs)
+  unfolding fillCells NULL bytes any
+  fill-filled p c [] = none
+  fill-filled p c (x ∷ xs) = go (fillsAt b p c x) (fill-filled p (suc c) xs)
+    where
+      go : (u : Bool) → Filled xs (fillCells b p (suc c) xs) → Filled (x ∷ xs) (cond u NULL x ∷ fillCells b p (suc c) xs)
+      go true ih = new x NULL null-some refl refl refl ih
+      go false ih = same x ih
+
+  all-filled : (n : ℕ) (ls : List Bytes) → AllFilled ls (fillLines b file n ls)
+  unfolding fillLines
+  all-filled n [] = done
+  all-filled n (l ∷ ls) = next (fill-filled (spotAt file n) 1 (cells l)) (all-filled (suc n) ls)
+
+  lines-length : (n : ℕ) (ls : List Bytes) → length (fillLines b file n ls) ≡ length ls
+  unfolding fillLines
+  lines-length n [] = refl
+  lines-length n (l ∷ ls) = ap suc (lines-length (suc n) ls)
+
+  lines-at : (n i : ℕ) (ls : List Bytes) → i < length ls → getD (fillLines b file n ls) i [] ≡ tabbed (fillCells b (spotAt file (n + i)) 1 (cells (getD ls i [])))
+  unfolding fillLines
+  lines-at n i [] lt = absurd (omega arith)
+  lines-at n zero (l ∷ ls) lt = let e : n + 0 ≡ n = omega arith in rw e
+  lines-at n (suc i) (l ∷ ls) lt = let e : n + suc i ≡ suc n + i = omega arith in rw e (lines-at (suc n) i ls (omega arith))
+
+  -- a line, filled: one that is no row stays as it is
+  fill-other : (p : Spot) (c : ℕ) (xs : List Bytes) → isRow b (p .here) ≡ false → fillCells b p c xs ≡ xs
+  unfolding fillCells
+  fill-other p c [] h = refl
+  fill-other p c (x ∷ xs) h = rw (other-fills b p c x h, fill-other p (suc c) xs h)
+
+  -- cell 1 is never filled
+  first-cell : (p : Spot) (l : Bytes) → cell 1 (tabbed (fillCells b p 1 (cells l))) ≡ cell 1 l
+  unfolding cell fillsAt
+  first-cell p l = rw (filled-cells l (fill-filled p 1 (cells l))) (fill-at b p 1 (cells l) 0 (some (cells l) (λ z. split-some TAB l z)))
+    where
+      some : (xs : List Bytes) → (length xs ≡ 0 → ⊥) → 0 < length xs
+      some [] h = absurd (h refl)
+      some (x ∷ xs) h = omega arith
+
+  stood : (n : ℕ) → Stood b (spotAt file n) (tabbed (fillCells b (spotAt file n) 1 (cells (getD file (n - 1) []))))
+  stood n = go (isRow b l) refl
+    where
+      l : Bytes
+      l = getD file (n - 1) []
+
+      p : Spot
+      p = spotAt file n
+
+      of-row : (s : ℕ) → sortOf b l ≡ Row s → isRow b l ≡ true → Stood b p (tabbed (fillCells b p 1 (cells l)))
+      of-row s e h =
+          let f = fill-filled p 1 (cells l) in
+          let m = tabbed (fillCells b p 1 (cells l)) in
+          let code : cell 1 m ≡ cell 1 l = first-cell p l in
+          row e (ltb-true 0 s (rw e at h)) (row-stays b l m s e (filled-some l f (row-some b l s e)) code) (filled-cells l f)
+
+      go : (u : Bool) → isRow b l ≡ u → Stood b p (tabbed (fillCells b p 1 (cells l)))
+      go true h = let r = row-sort b l h in of-row (r .0) (r .1) h
+      go false h = rw (fill-other p 1 (cells l) h, cells-tabbed l) (other h)
+
+  pub fills-lines : Fills b file (fillLines b file 1 file)
+  fills-lines = record {
+    count = lines-length 1 file;
+    each-line = λ n low high. let e : 1 + (n - 1) ≡ n = omega arith in rw (lines-at 1 (n - 1) file (omega arith), e) (stood n);
+  }
