@@ -185,3 +185,77 @@ module _ (b : Book) (file : List Bytes) where
     count = lines-length 1 file;
     each-line = λ n low high. let e : 1 + (n - 1) ≡ n = omega arith in rw (lines-at 1 (n - 1) file (omega arith), e) (stood n);
   }
+
+-- NOTHING TO MEND
+
+cells-kept : (n c : ℕ) (xs : List Bytes) → mendedCells [] n c xs ≡ xs
+unfolding mendedCells any
+cells-kept n c [] = refl
+cells-kept n c (x ∷ xs) = rw (cells-kept n (suc c) xs)
+
+lines-kept : (n : ℕ) (ls : List Bytes) → mendedLines [] n ls ≡ ls
+unfolding mendedLines
+lines-kept n [] = refl
+lines-kept n (l ∷ ls) = rw (cells-kept n 1 (cells l), cells-tabbed l, lines-kept (suc n) ls)
+
+-- a file with nothing to mend is copied byte for byte
+pub copy-same : (file : Bytes) → changesOf file ≡ [] → copyOf file ≡ file
+unfolding copyOf
+copy-same file h = rw (h, lines-kept 1 (lines file)) (lines-joined file)
+
+-- THE COPY
+
+module _ (file : Bytes) where
+  abbrev book : Book
+  book = bookOf (lines file)
+
+  copy-filled : lines (copyOf file) ≡ fillLines book (lines file) 1 (lines file)
+  unfolding copyOf
+  copy-filled = rw (lines-mended book (lines file)) (joined-filled file (all-filled book (lines file) 1 (lines file)))
+
+  copy-fills : Fills book (lines file) (lines (copyOf file))
+  copy-fills = rw copy-filled (fills-lines book (lines file))
+
+  -- its lines are those that are mended
+  pub copy-lines : lines (copyOf file) ≡ mendedLines (changesOf file) 1 (lines file)
+  copy-lines = copy-filled ∙ sym (lines-mended book (lines file))
+
+  pub copy-count : length (lines (copyOf file)) ≡ length (lines file)
+  copy-count = copy-fills .count
+
+  -- its breaks are the file's without the mended ones, in the same order with the same numbers
+  pub copy-breaks : breaks (copyOf file) ≡ leftOf file
+  unfolding breaks bookOf
+  copy-breaks = breaks-filled book copy-fills
+
+  -- nothing is left to mend, and mended again it stays the same
+  pub copy-changes : changesOf (copyOf file) ≡ []
+  unfolding bookOf
+  copy-changes = changes-filled book copy-fills
+
+  pub copy-twice : copyOf (copyOf file) ≡ copyOf file
+  copy-twice = copy-same (copyOf file) copy-changes
+
+  -- CELL BY CELL
+  module _ (n : ℕ) (low : 1 ≤ n) (high : n ≤ length (lines file)) where
+    abbrev line : Bytes
+    line = getD (lines file) (n - 1) []
+
+    abbrev line′ : Bytes
+    line′ = getD (lines (copyOf file)) (n - 1) []
+
+    copy-line : cells line′ ≡ fillCells book (spotAt (lines file) n) 1 (cells line)
+    copy-line =
+        let e : 1 + (n - 1) ≡ n = omega arith in
+        rw (copy-filled, lines-at book (lines file) 1 (n - 1) (lines file) (omega arith), e) (filled-cells line (fill-filled book (lines file) (spotAt (lines file) n) 1 (cells line)))
+
+    -- a line has as many cells as it had
+    pub copy-width : width line′ ≡ width line
+    copy-width = rw copy-line (fill-length book (spotAt (lines file) n) 1 (cells line))
+
+    -- each is `null` where a change is, and else what stood there
+    pub copy-cell : (c : ℕ) → 1 ≤ c → c ≤ width line → cell c line′ ≡ cond (isChanged (changesOf file) n c) NULL (cell c line)
+    unfolding cell
+    copy-cell c cl ch =
+        let e : 1 + (c - 1) ≡ c = omega arith in
+        rw (copy-line, changed-fills book (lines file) n c low high cl ch) (rw e at (fill-at book (spotAt (lines file) n) 1 (cells line) (c - 1) (omega arith)))
