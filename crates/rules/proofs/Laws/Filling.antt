@@ -89,6 +89,13 @@ module _ (k : ℕ) (t : Break → Bool) (p : Spot) (n c : ℕ) where
       ∙ kept-append of-rule (atCell (take i rs) p n c) (atCell (r ∷ drop (suc i) rs) p n c)
       ∙ rw (kept-others (take i rs) before) (one-first r (drop (suc i) rs) number after)
 
+-- what stands at the places from i on
+pub cons-here : (ls : List Bytes) (i : ℕ) {x : Bytes} {xs : List Bytes} → drop i ls ≡ x ∷ xs → (i < length ls) × (getD ls i [] ≡ x) × (drop (suc i) ls ≡ xs)
+cons-here [] zero e = absurd (omega (arith, ap length e))
+cons-here [] (suc i) e = absurd (omega (arith, ap length e))
+cons-here (l ∷ ls) zero e = (omega arith, ap (λ (zs : List Bytes). getD zs 0 []) e, ap (λ (zs : List Bytes). drop 1 zs) e)
+cons-here (l ∷ ls) (suc i) e = let r = cons-here ls i e in (omega (arith, r .0), r .1, r .2)
+
 -- WHERE `null` COMES
 
 -- rule 19 is broken at cell c, which holds x, and `null` may stand there
@@ -105,6 +112,27 @@ hole b p n c = when (fills b p c) (breakAt n c 19) []
 -- the changes of line n
 abbrev pub holes : Book → Spot → ℕ → List Break
 holes b p n = each (width (p .here)) 1 (hole b p n)
+
+-- the same, cell after cell: the changes in the cells xs, the first of which is cell c
+unfoldable pub holesIn : Book → Spot → ℕ → ℕ → List Bytes → List Break
+holesIn b p n c [] = []
+holesIn b p n c (x ∷ xs) = when (fillsAt b p c x) (breakAt n c 19) (holesIn b p n (suc c) xs)
+
+module _ (b : Book) (p : Spot) (n : ℕ) where
+  holes-from : (c : ℕ) (xs : List Bytes) → 1 ≤ c → drop (c - 1) (cells (p .here)) ≡ xs → each (length xs) c (hole b p n) ≡ holesIn b p n c xs
+  unfolding each holesIn cell
+  holes-from c [] low e = refl
+  holes-from c (x ∷ xs) low e =
+      let r = cons-here (cells (p .here)) (c - 1) e in
+      let z : suc c - 1 ≡ suc (c - 1) = omega arith in
+      rw (r .1, holes-from (suc c) xs (omega arith) (rw z (r .2))) (go (fillsAt b p c x))
+    where
+      go : (u : Bool) → when u (breakAt n c 19) [] ++ holesIn b p n (suc c) xs ≡ when u (breakAt n c 19) (holesIn b p n (suc c) xs)
+      go true = refl
+      go false = refl
+
+  pub holes-in : holes b p n ≡ holesIn b p n 1 (cells (p .here))
+  holes-in = holes-from 1 (cells (p .here)) (omega arith) refl
 
 -- in rows alone
 pub other-fills : (b : Book) (p : Spot) (c : ℕ) (x : Bytes) → isRow b (p .here) ≡ false → fillsAt b p c x ≡ false

@@ -7,7 +7,7 @@ use mathlib.Core.Logic.{⊎-elim}
 use Prim.Native.Nat.{ℕ, zero, suc, _+_, _-_, _*_, _≤_, _<_}
 use native.Mathlib.Nat.{eq-or-lt-of-le}
 use native.Mathlib.Omega.{arith}
-use lib.Dec.{eqb, ltb}
+use lib.Dec.{eqb, leb}
 use lib.ListN.{length, getD, take, drop, length-append}
 use lib.Seq.{drop-cons, drop-drop}
 use borrow.Author.Tests.{eq-eqb, ne-eqb, ltb-true}
@@ -20,12 +20,12 @@ use Rattle.text.proofs.Laws.Joining.{lines-joined, cells-tabbed, Filled, none, 
 use Rattle.book.specs.Book.{Book, bookOf}
 use Rattle.rules.specs.Sorts.{sortOf, isRow}
 use Rattle.rules.specs.Breaks.{Break, breakAt, when, Spot, spotAt, each}
-use Rattle.rules.specs.Rules.{breaks}
+use Rattle.rules.specs.Rules.{isUnder, isAsWide, breaks}
 use Rattle.rules.specs.Mended.{NULL, changesBy, changesOf, leftOf, isChanged, mendedCells, mendedLines, copyOf}
 use Rattle.rules.specs.declared.sorts.Sort.the-variants.{Row}
 use Rattle.rules.proofs.Laws.Alike.{row-stays, row-some}
 use Rattle.rules.proofs.Laws.Locality.{row-sort}
-use Rattle.rules.proofs.Laws.Filling.{null-some, fillsAt, fills, hole, holes, other-fills, all-changes, fillCells, fill-length, fill-at, Stood, other, row, Fills, breaks-filled, changes-filled}
+use Rattle.rules.proofs.Laws.Filling.{null-some, cons-here, fillsAt, fills, hole, holes, holesIn, holes-in, other-fills, all-changes, fillCells, fill-length, fill-at, Stood, other, row, Fills, breaks-filled, changes-filled}
 
 -- WHERE A CHANGE IS
 
@@ -84,13 +84,6 @@ unfoldable pub fillLines : Book → List Bytes → ℕ → List Bytes → List B
 fillLines b file n [] = []
 fillLines b file n (l ∷ ls) = tabbed (fillCells b (spotAt file n) 1 (cells l)) ∷ fillLines b file (suc n) ls
 
--- what stands at the places from i on
-line-here : (file : List Bytes) (i : ℕ) {l : Bytes} {ls : List Bytes} → drop i file ≡ l ∷ ls → (i < length file) × (getD file i [] ≡ l) × (drop (suc i) file ≡ ls)
-line-here [] zero e = absurd (omega (arith, ap length e))
-line-here [] (suc i) e = absurd (omega (arith, ap length e))
-line-here (x ∷ xs) zero e = (omega arith, ap (λ (zs : List Bytes). getD zs 0 []) e, ap (λ (zs : List Bytes). drop 1 zs) e)
-line-here (x ∷ xs) (suc i) e = let r = line-here xs i e in (omega (arith, r .0), r .1, r .2)
-
 module _ (gs : List Break) (b : Book) (p : Spot) (n : ℕ) where
   cells-same : (c : ℕ) (xs : List Bytes) → ((i : ℕ) → i < length xs → isChanged gs n (c + i) ≡ fillsAt b p (c + i) (getD xs i [])) → mendedCells gs n c xs ≡ fillCells b p c xs
   unfolding mendedCells fillCells
@@ -110,7 +103,7 @@ module _ (b : Book) (file : List Bytes) where
   unfolding mendedLines fillLines
   lines-same n [] low e = refl
   lines-same n (l ∷ ls) low e =
-      let r = line-here file (n - 1) e in
+      let r = cons-here file (n - 1) e in
       let z : suc n - 1 ≡ suc (n - 1) = omega arith in
       let c : mendedCells (changesBy b file) n 1 (cells l) ≡ fillCells b (spotAt file n) 1 (cells l) =
       subst (λ (x : Bytes). mendedCells (changesBy b file) n 1 (cells x) ≡ fillCells b (spotAt file n) 1 (cells x)) (r .1) (cells-filled n low (omega (arith, r .0))) in
@@ -259,3 +252,72 @@ module _ (file : Bytes) where
     copy-cell c cl ch =
         let e : 1 + (c - 1) ≡ c = omega arith in
         rw (copy-line, changed-fills book (lines file) n c low high cl ch) (rw e at (fill-at book (spotAt (lines file) n) 1 (cells line) (c - 1) (omega arith)))
+
+-- HOW LONG THE COPY IS
+
+module _ (b : Book) (p : Spot) (n : ℕ) where
+  cell-size : (c : ℕ) (x : Bytes) → length (cond (fillsAt b p c x) NULL x) ≡ length x + 4 * length (when (fillsAt b p c x) (breakAt n c 19) [])
+  unfolding fillsAt NULL bytes isEmpty
+  cell-size c [] = go (fillsAt b p c [])
+    where
+      go : (u : Bool) → length (cond u NULL []) ≡ 0 + 4 * length (when u (breakAt n c 19) [])
+      go true = refl
+      go false = refl
+  cell-size c (x ∷ xs) = rw (and-false (isUnder b p && isAsWide b p), and-false (leb 2 c)) (omega arith)
+
+  when-size : (u : Bool) (g : Break) (gs : List Break) → length (when u g gs) ≡ length (when u g []) + length gs
+  when-size true g gs = omega arith
+  when-size false g gs = omega arith
+
+  cells-size : (c : ℕ) (xs : List Bytes) → length (tabbed (fillCells b p c xs)) ≡ length (tabbed xs) + 4 * length (holesIn b p n c xs)
+  unfolding fillCells holesIn tabbed
+  cells-size c [] = refl
+  cells-size c (x ∷ []) = cell-size c x
+  cells-size c (x ∷ (y ∷ ys)) =
+      let u = fillsAt b p c x in
+      let rest = holesIn b p n (suc c) (y ∷ ys) in
+      let t = tabbed (fillCells b p (suc c) (y ∷ ys)) in
+      rw (length-append (cond u NULL x) (TAB ∷ t), length-append x (TAB ∷ tabbed (y ∷ ys)), when-size u (breakAt n c 19) rest)
+      (omega (arith, cell-size c x, cells-size (suc c) (y ∷ ys)))
+
+module _ (b : Book) (file : List Bytes) where
+  lines-size : (n : ℕ) (ls es : List Bytes) → 1 ≤ n → drop (n - 1) file ≡ ls
+      → length (joined (fillLines b file n ls) es) ≡ length (joined ls es) + 4 * length (each (length ls) n (λ i. holes b (spotAt file i) i))
+  unfolding fillLines joined each
+  lines-size n [] es low e = refl
+  lines-size n (l ∷ ls) es low e =
+      let r = cons-here file (n - 1) e in
+      let z : suc n - 1 ≡ suc (n - 1) = omega arith in
+      let p = spotAt file n in
+      let h = holes b p n in
+      let rest = each (length ls) (suc n) (λ i. holes b (spotAt file i) i) in
+      let size : length (tabbed (fillCells b p 1 (cells l))) ≡ length l + 4 * length h =
+      subst (λ (x : Bytes). length (tabbed (fillCells b p 1 (cells x))) ≡ length x + 4 * length h) (r .1)
+      (cells-size b p n 1 (cells (p .here)) ∙ rw (cells-tabbed (p .here), holes-in b p n)) in
+      go es (λ gs. lines-size (suc n) ls gs (omega arith) (rw z (r .2))) (length-append h rest) size
+    where
+      m : Bytes
+      m = tabbed (fillCells b (spotAt file n) 1 (cells l))
+
+      ms : List Bytes
+      ms = fillLines b file (suc n) ls
+
+      H : List Break
+      H = holes b (spotAt file n) n
+
+      R : List Break
+      R = each (length ls) (suc n) (λ i. holes b (spotAt file i) i)
+
+      go : (es : List Bytes) → ((gs : List Bytes) → length (joined ms gs) ≡ length (joined ls gs) + 4 * length R) → length (H ++ R) ≡ length H + length R → length m ≡ length l + 4 * length H
+          → length (joined (m ∷ ms) es) ≡ length (joined (l ∷ ls) es) + 4 * length (H ++ R)
+      go [] ih a s = omega (arith, ih [], a, s, length-append m (joined ms []), length-append l (joined ls []))
+      go (g ∷ gs) ih a s =
+          omega (arith, ih gs, a, s, length-append m (g ++ joined ms gs), length-append g (joined ms gs), length-append l (g ++ joined ls gs), length-append g (joined ls gs))
+
+-- four bytes more for each change
+pub copy-length : (file : Bytes) → length (copyOf file) ≡ length file + 4 * length (changesOf file)
+unfolding copyOf
+copy-length file =
+    let b = bookOf (lines file) in
+    let F = lines file in
+    rw (lines-mended b F, all-changes b F) (lines-size b F 1 F (lineEnds file) (omega arith) refl ∙ rw (lines-joined file))
