@@ -49,5 +49,8 @@ mendedLines gs n [] = []
 mendedLines gs n (l ∷ ls) = tabbed (mendedCells gs n 1 (cells l)) ∷ mendedLines gs (suc n) ls
 
 -- THE COPY: these lines, with the ends that the lines of the file have
-unfoldable pub copyOf : Bytes → Bytes
-copyOf file = joined (mendedLines (changesOf file) 1 (lines file)) (lineEnds file)
+unfoldable pub copyBy : Book → Bytes → Bytes
+copyBy b file = joined (mendedLines (changesBy b (lines file)) 1 (lines file)) (lineEnds file)
+
+abbrev pub copyOf : Bytes → Bytes
+copyOf file = copyBy (bookOf (lines file)) file

@@ -21,7 +21,7 @@ use Rattle.book.specs.Book.{Book, bookOf}
 use Rattle.rules.specs.Sorts.{sortOf, isRow}
 use Rattle.rules.specs.Breaks.{Break, breakAt, when, Spot, spotAt, each}
 use Rattle.rules.specs.Rules.{isUnder, isAsWide, breaks}
-use Rattle.rules.specs.Mended.{NULL, changesBy, changesOf, leftOf, isChanged, mendedCells, mendedLines, copyOf}
+use Rattle.rules.specs.Mended.{NULL, changesBy, changesOf, leftOf, isChanged, mendedCells, mendedLines, copyBy, copyOf}
 use Rattle.rules.specs.declared.sorts.Sort.the-variants.{Row}
 use Rattle.rules.proofs.Laws.Alike.{row-stays, row-some}
 use Rattle.rules.proofs.Laws.Locality.{row-sort}
@@ -193,7 +193,7 @@ lines-kept n (l ∷ ls) = rw (cells-kept n 1 (cells l), cells-tabbed l, lines-ke
 
 -- a file with nothing to mend is copied byte for byte
 pub copy-same : (file : Bytes) → changesOf file ≡ [] → copyOf file ≡ file
-unfolding copyOf
+unfolding copyBy
 copy-same file h = rw (h, lines-kept 1 (lines file)) (lines-joined file)
 
 -- THE COPY
@@ -203,7 +203,7 @@ module _ (file : Bytes) where
   book = bookOf (lines file)
 
   copy-filled : lines (copyOf file) ≡ fillLines book (lines file) 1 (lines file)
-  unfolding copyOf
+  unfolding copyBy
   copy-filled = rw (lines-mended book (lines file)) (joined-filled file (all-filled book (lines file) 1 (lines file)))
 
   copy-fills : Fills book (lines file) (lines (copyOf file))
@@ -316,7 +316,7 @@ module _ (b : Book) (file : List Bytes) where
 
 -- four bytes more for each change
 pub copy-length : (file : Bytes) → length (copyOf file) ≡ length file + 4 * length (changesOf file)
-unfolding copyOf
+unfolding copyBy
 copy-length file =
     let b = bookOf (lines file) in
     let F = lines file in

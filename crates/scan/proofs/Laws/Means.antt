@@ -51,7 +51,7 @@ module _ (book : Book) (sized : Sized book) where
 
   -- SMALL LAWS
 
-  not-over : (w : ℕ) → not (ltb 256 w) ≡ leb w 256
+  pub not-over : (w : ℕ) → not (ltb 256 w) ≡ leb w 256
   not-over w = go (leb w 256) refl
     where
       go : (t : Bool) → leb w 256 ≡ t → not (ltb 256 w) ≡ t
@@ -63,7 +63,7 @@ module _ (book : Book) (sized : Sized book) where
   cell-suc j l = let e : suc j - 1 ≡ j = omega arith in rw e
 
   -- the kind kept for a column
-  kind-at : (l₀ : Bytes) (kinds : List ℕ) (j : ℕ) → 1 ≤ j → j < length (cells l₀) → length (cells l₀) ≤ 256 → Kinds book l₀ kinds
+  pub kind-at : (l₀ : Bytes) (kinds : List ℕ) (j : ℕ) → 1 ≤ j → j < length (cells l₀) → length (cells l₀) ≤ 256 → Kinds book l₀ kinds
       → kindIn (columnOf book (header book l₀) (getD (cells l₀) j [])) ≡ getD kinds (suc j - 1) 0
   kind-at l₀ kinds j a b w k =
       let p : j - 1 + 1 ≡ suc j - 1 = omega arith in

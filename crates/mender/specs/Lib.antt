@@ -1,0 +1,4 @@
+pub mod Mended
+pub mod Outcomes
+pub mod Promised
+pub mod Walk
