@@ -6,7 +6,8 @@ use Prim.Native.Nat.{ℕ, suc, _+_, _-_, _≤_, _<_}
 use native.Mathlib.Numerals.{add-one}
 use native.Mathlib.Omega.{arith}
 use lib.Dec.{eqb}
-use lib.ListN.{length, take, drop, getD}
+use lib.ListN.{length, take, drop, getD, length-drop}
+use lib.Seq.{length-take-le}
 use Rattle.text_bytes.specs.Bytes.{Bytes, bytes}
 use Rattle.text_bytes.specs.Places.{Ends}
 use Rattle.text.specs.Lines.{TAB, cells}
@@ -61,6 +62,10 @@ unfolding noteAll
 note-when true f fs q = refl
 note-when false f fs q = refl
 
+-- how long the cell is that ends at e
+pub cell-length : {line : Bytes} {s e : ℕ} → Ends TAB line s e → length (take (e - s) (drop s line)) ≡ e - s
+cell-length {line} {s} {e} h = length-take-le (e - s) (drop s line) (omega (arith, h .within, length-drop s line))
+
 module _ {line : Bytes} {s e : ℕ} (h : Ends TAB line s e) (kinds : List ℕ) (n c : ℕ) {far few : ℕ} {o o₁ q q₁ : Lent}
     (m : Mends (cond (fillsIn (getD kinds (c - 1) 0) (take (e - s) (drop s line))) NULL (take (e - s) (drop s line))) (when (fillsIn (getD kinds (c - 1) 0) (take (e - s) (drop s line))) (breakAt n c 19) []) far few o o₁ q q₁) where
   pub lays-last : e ≡ length line → o₁ ≡ layAll o (tabbed (filled kinds c (cells (drop s line))))
@@ -78,6 +83,10 @@ module _ {line : Bytes} {s e : ℕ} (h : Ends TAB line s e) (kinds : List ℕ) (
       let x = take (e - s) (drop s line) in
       let rest = tabbed (filled kinds (suc c) (cells (drop (e + 1) line))) in
       rw (add-one c, piece-cut h lt, tabbed-filled kinds c x (drop (e + 1) line), lay-append (cond (fillsIn (getD kinds (c - 1) 0) x) NULL x) (TAB ∷ rest) o, ← m .lays) (ap (λ (p : Lent). layAll p rest) z)
+
+  pub count-next : {o₂ : Lent} → o₂ ≡ layAll o₁ (TAB ∷ []) → o₂ .count ≤ o .count + far + 1
+  unfolding layAll
+  count-next z = omega (arith, ap (λ (p : Lent). p .count) z, m .most-bytes)
 
   pub notes-next : e < length line → noteAll q₁ (found kinds n (c + 1) (cells (drop (e + 1) line))) ≡ noteAll q (found kinds n c (cells (drop s line)))
   unfolding found
