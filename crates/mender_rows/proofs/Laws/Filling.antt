@@ -1,5 +1,5 @@
 -- Cells laid one after the other, with `null` in the empty ones. Assumes nothing.
-use mathlib.Core.Path.{_≡_, refl, sym, ap, _∙_}
+use mathlib.Core.Path.{_≡_, refl, sym, ap}
 use mathlib.Core.Bool.{Bool, true, false, cond, not, _&&_}
 use mathlib.Core.List.{List, [], _∷_, _++_}
 use Prim.Native.Nat.{ℕ, suc, _+_, _-_, _≤_, _<_}
@@ -51,10 +51,9 @@ module _ (kind n c : ℕ) (x : Bytes) {o o' q : Lent} where
 -- THE CELLS, one more of those that are left
 
 -- a cell, a tab, and the cells after it
-tabbed-filled : (kinds : List ℕ) (c : ℕ) (x : Bytes) (l : Bytes)
-    → tabbed (filled kinds c (x ∷ cells l)) ≡ cond (fillsIn (getD kinds (c - 1) 0) x) NULL x ++ (TAB ∷ tabbed (filled kinds (suc c) (cells l)))
+pub tabbed-next : (kinds : List ℕ) (c : ℕ) (x l : Bytes) → tabbed (x ∷ filled kinds c (cells l)) ≡ x ++ (TAB ∷ tabbed (filled kinds c (cells l)))
 unfolding filled tabbed
-tabbed-filled kinds c x l = let r = pieces TAB l (cells l) refl in rw (r .1 .1)
+tabbed-next kinds c x l = let r = pieces TAB l (cells l) refl in rw (r .1 .1)
 
 -- a change, and those after it
 note-when : (t : Bool) (f : Break) (fs : List Break) (q : Lent) → noteAll q (when t f fs) ≡ noteAll (noteAll q (when t f [])) fs
@@ -78,11 +77,12 @@ module _ {line : Bytes} {s e : ℕ} (h : Ends TAB line s e) (kinds : List ℕ) (
 
   pub lays-next : e < length line → {o₂ : Lent} → o₂ ≡ layAll o₁ (TAB ∷ [])
       → layAll o₂ (tabbed (filled kinds (c + 1) (cells (drop (e + 1) line)))) ≡ layAll o (tabbed (filled kinds c (cells (drop s line))))
-  unfolding layAll
+  unfolding layAll filled
   lays-next lt {o₂} z =
       let x = take (e - s) (drop s line) in
+      let y = cond (fillsIn (getD kinds (c - 1) 0) x) NULL x in
       let rest = tabbed (filled kinds (suc c) (cells (drop (e + 1) line))) in
-      rw (add-one c, piece-cut h lt, tabbed-filled kinds c x (drop (e + 1) line), lay-append (cond (fillsIn (getD kinds (c - 1) 0) x) NULL x) (TAB ∷ rest) o, ← m .lays) (ap (λ (p : Lent). layAll p rest) z)
+      rw (add-one c, piece-cut h lt, tabbed-next kinds (suc c) y (drop (e + 1) line), lay-append y (TAB ∷ rest) o, ← m .lays) (ap (λ (p : Lent). layAll p rest) z)
 
   pub count-next : {o₂ : Lent} → o₂ ≡ layAll o₁ (TAB ∷ []) → o₂ .count ≤ o .count + far + 1
   unfolding layAll

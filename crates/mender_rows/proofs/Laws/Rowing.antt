@@ -5,10 +5,9 @@ use mathlib.Core.List.{List, [], _∷_, _++_, append-assoc}
 use mathlib.Core.Logic.{⊎-elim}
 use Prim.Native.Nat.{ℕ, suc, _+_, _-_, _*_, _≤_, _<_}
 use native.Mathlib.Nat.{eq-or-lt-of-le}
-use native.Mathlib.Numerals.{add-one}
 use native.Mathlib.Omega.{arith}
 use lib.Dec.{eqb, leb}
-use lib.ListN.{length, take, drop, getD}
+use lib.ListN.{length, take, drop}
 use lib.Seq.{length-take-le}
 use borrow.Author.Tests.{leb-true, eqb-true, not-true, not-false}
 use Rattle.text_bytes.specs.Bytes.{Bytes, any, isEmpty}
@@ -18,13 +17,12 @@ use Rattle.text_bytes.proofs.Laws.Tests.{absurd-bool, and-both, or-none}
 use Rattle.text.specs.Lines.{TAB, cells}
 use Rattle.text.specs.Joined.{tabbed}
 use Rattle.text.proofs.Laws.Joining.{cells-tabbed}
-use Rattle.text.proofs.Laws.Splicing.{pieces}
-use Rattle.rules.specs.Breaks.{Break}
 use Rattle.scan.specs.Places.{Lent}
 use Rattle.scan.proofs.Laws.Celling.{cell-here, cells-next, cells-last}
 use Rattle.mender_places.specs.Places.{layAll, noteAll, Mends}
 use Rattle.mender_places.proofs.Laws.Laying.{lay-append, lay-count}
-use Rattle.mender_rows.specs.Rows.{fillsIn, filled, found, isEven, rowFilled, rowFound, hasHole}
+use Rattle.mender_rows.specs.Rows.{filled, found, isEven, rowFilled, rowFound, hasHole}
+use Rattle.mender_rows.proofs.Laws.Filling.{tabbed-next}
 
 -- WHETHER A ROW IS FILLED, by its tests
 pub holed-other : (u e k : Bool) → not u ≡ true → false ≡ ((u && e) && k)
@@ -93,13 +91,6 @@ first-tab (x ∷ xs) k = go (eqb x TAB) refl k (first-tab xs)
     go true e k ih = rw (eqb-true x TAB e)
     go false e k ih = ap (λ (l : Bytes). x ∷ l) (ih (omega (arith, k)))
 
--- a cell, a tab, and the cells after it
-tabbed-first : (kinds : List ℕ) (c : ℕ) (x l : Bytes) → tabbed (x ∷ filled kinds c (cells l)) ≡ (x ++ (TAB ∷ [])) ++ tabbed (filled kinds c (cells l))
-unfolding filled tabbed
-tabbed-first kinds c x l =
-    let r = pieces TAB l (cells l) refl in
-    rw (r .1 .1) (sym (append-assoc x (TAB ∷ []) (tabbed (filled kinds c (r .0 ∷ r .1 .0)))))
-
 module _ (h w s : ℕ) (line : Bytes) {e : ℕ} (ends : Ends TAB line 0 e) (d : not (isEven h w s (cells line) && hasHole (cells line)) ≡ false) where
   even-holed : (isEven h w s (cells line) ≡ true) × (hasHole (cells line) ≡ true)
   even-holed = and-both (isEven h w s (cells line)) (hasHole (cells line)) (not-false (isEven h w s (cells line) && hasHole (cells line)) d)
@@ -128,7 +119,9 @@ module _ (h w s : ℕ) (line : Bytes) {e : ℕ} (ends : Ends TAB line 0 e) (d : 
 
   row-first : (kinds : List ℕ) → tabbed (rowFilled h w kinds s (cells line)) ≡ take (e + 1) line ++ tabbed (filled kinds 2 (cells (drop (e + 1) line)))
   unfolding rowFilled
-  row-first kinds = rw (even-holed .0, piece-cut ends holed-cut, ← first-cut) (tabbed-first kinds 2 (take (e - 0) line) (drop (e + 1) line))
+  row-first kinds =
+      rw (even-holed .0, piece-cut ends holed-cut, ← first-cut)
+      (tabbed-next kinds 2 (take (e - 0) line) (drop (e + 1) line) ∙ sym (append-assoc (take (e - 0) line) (TAB ∷ []) (tabbed (filled kinds 2 (cells (drop (e + 1) line))))))
 
   pub row-cut : (kinds : List ℕ) (n : ℕ) {o o₁ o₂ q q₂ : Lent} → o₁ ≡ layAll o (take (e + 1) line)
       → Mends (tabbed (filled kinds 2 (cells (drop (e + 1) line)))) (found kinds n 2 (cells (drop (e + 1) line))) (5 * (length line - (e + 1)) + 4) (length line - (e + 1) + 1) o₁ o₂ q q₂

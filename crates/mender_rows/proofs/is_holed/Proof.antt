@@ -1,8 +1,8 @@
 -- `mender_rows::is_holed` meets its contract: each test that fails answers no, and the last one answers for all. Assumes nothing.
+use mathlib.Core.Bool.{_&&_}
 use lib.Dec.{eqb, leb}
 use lib.ListN.{length}
 use borrow.Author.Needs.{needs}
-use mathlib.Core.Bool.{_&&_}
 use Rattle.text.specs.Lines.{cells}
 use Rattle.mender_rows.specs.Rows.{hasHole}
 use Rattle.mender_rows.proofs.Laws.Rowing.{holed-other, holed-none, holed-some}
