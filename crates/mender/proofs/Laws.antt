@@ -1,3 +1,2 @@
 -- Laws over plain lists, with no code in them: a file for each thing that they speak of.
 pub mod Walking
-

@@ -1,8 +1,7 @@
 // The mending call: a copy of a file with `null` in the empty cells where it may stand. The file is walked twice by one function: lent next to nothing, it says
 // how long the copy will be, and then it writes.
-use book::column;
 use book_text::book;
-use line_head_found::kind_in;
+use line_head_kinds::learn_kinds;
 use mender_places::Copied;
 use mender_places::lay;
 use mender_rows::Above;
@@ -13,45 +12,21 @@ use rules::sorts::Sort;
 use rules::sorts::sort_of;
 use scan::state::MOST_CELLS;
 use text::LIMIT;
-use text::cells::cell_end;
 use text::cells::count_cells;
 use text::lines::line_at;
 use text_bytes::either;
 ghost use mathlib.Core.Path.{_≡_};
 ghost use Prim.Native.Nat.{_+_, _*_, _≤_};
-ghost use lib.ListN.{length, drop};
+ghost use lib.ListN.{length};
 ghost use Rattle.text.specs.Lines.{LIMIT as limit, lines, cells};
 ghost use Rattle.text.specs.Joined.{tabbed};
 ghost use Rattle.book.specs.Text.{bookIn, IsBook};
 ghost use Rattle.rules.specs.Sorts.{sortOf};
 ghost use Rattle.rules.specs.Mended.{changesBy, copyBy};
 ghost use Rattle.scan.specs.Places.{lent};
-ghost use Rattle.scan.specs.Machine.{KindsOf};
 ghost use Rattle.mender_places.specs.Places.{layAll, Mends, COPY-MOST, CHANGES-MOST};
 ghost use Rattle.mender.specs.Mended.{outcome, mended};
 ghost use Rattle.mender.specs.Walk.{sortFilled, sortFound, Passes};
-
-// The kinds of a header's columns, cell c's at place c - 1: of one that has over 256 cells none are asked for.
-fn learn_kinds(book: &[u8], line: &[u8], section: u32, width: usize, kinds: &mut [u8; MOST_CELLS])
-    requires { ⌜ IsBook (now book) ⌝ }
-    requires { ⌜ width ≡ length (cells (now line)) ⌝ }
-    requires { ⌜ length (now kinds) ≡ 256 ⌝ }
-    ensures { λ r. ⌜ (length (cells (now (line .entry))) ≤ 256 → KindsOf (bookIn (now (book .entry))) section (drop 1 (cells (now (line .entry)))) (now (kinds .exit))) ⌝ }
-    ensures { λ r. ⌜ length (now (kinds .exit)) ≡ 256 ⌝ }
-{
-    if MOST_CELLS < width {
-        return;
-    }
-    let mut end = cell_end(line, 0);
-    let mut c: usize = 1;
-    while end < line.len() {
-        let at = end + 1;
-        end = cell_end(line, at);
-        let found = column(book, section as usize, &line[at..end]);
-        kinds[c] = kind_in(found);
-        c += 1;
-    }
-}
 
 // Where a walk stands: the number of the line, how many bytes are laid and changes noted, and the section and the number of cells of the nearest header above.
 pub struct Walk {

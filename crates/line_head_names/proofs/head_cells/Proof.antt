@@ -16,7 +16,7 @@ use Rattle.scan.specs.Machine.{idsOf, eachCell, headCell}
 use Rattle.scan.proofs.Laws.Celling.{cell-here, cells-next, cells-last, turn-next, turn-last, column-next, column-count, any-more, first-more-name}
 use Rattle.line_head_stamps.specs.Ways.{firstNamed, Noted}
 use Rattle.line_head_stamps.proofs.Laws.Noting.{noted-none}
-use Rattle.line_head_names.proofs.Laws.Kinds.{KindsTo, kinds-step}
+use Rattle.line_head_kinds.proofs.Laws.Kinds.{KindsTo, kinds-step}
 use Rattle.line_head_names.proofs.head_cells.Statement.{statement}
 use Rattle.line_head_names.proofs.head_cells.Tie as tie
 use Rattle.book.specs.Text.{bookIn}
