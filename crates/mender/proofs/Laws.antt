@@ -1,2 +1,3 @@
 -- Laws over plain lists, with no code in them: a file for each thing that they speak of.
 pub mod Walking
+pub mod Passing
