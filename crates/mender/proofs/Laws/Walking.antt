@@ -5,26 +5,39 @@ use mathlib.Core.Bool.{Bool, true, false, cond, not, _&&_, and-false, and-true}
 use mathlib.Core.List.{List, [], _∷_, _++_}
 use Prim.Native.Nat.{ℕ, zero, suc, _+_, _-_, _*_, _≤_, _<_}
 use native.Mathlib.Nat.{not-suc-le-zero}
+use native.Mathlib.Numerals.{add-one}
 use native.Mathlib.Omega.{arith}
 use lib.Dec.{eqb, leb, ltb}
-use lib.ListN.{length, getD, take, drop}
+use lib.ListN.{length, getD, take, drop, length-take, length-drop}
+use lib.Seq.{length-take-le}
 use borrow.Author.Tests.{le-leb, lt-ltb, leb-true, eqb-true}
 use Rattle.text_bytes.specs.Bytes.{Bytes, isEmpty, any, splitOn}
 use Rattle.text_bytes.proofs.Laws.Tests.{and-both}
 use Rattle.text_bytes.proofs.Laws.Each.{split-some}
-use Rattle.text.specs.Lines.{TAB, cells, cell, width}
+use Rattle.text_bytes.specs.Places.{part}
+use Rattle.text.specs.Lines.{TAB, lines, cells, cell, width}
+use Rattle.text.specs.Joined.{lineEnds, joined, tabbed}
+use Rattle.text.specs.Places.{LineAt}
+use Rattle.text.proofs.Laws.Lines.{lines-done}
+use Rattle.text.proofs.Laws.Joining.{ends-next, end-before}
 use Rattle.book.specs.Book.{Book}
 use Rattle.book.proofs.Laws.Sized.{Sized}
 use Rattle.rules.specs.Sorts.{sortOf, header, isRow}
-use Rattle.rules.specs.Breaks.{Break, breakAt, when, Spot, spot}
+use Rattle.rules.specs.Breaks.{Spot, spot, spotAt, each}
+use Rattle.rules.specs.Mended.{changesBy, copyBy}
 use Rattle.rules.specs.Rules.{isUnder, isAsWide, nearer, nearest, nearestIn, columnKind}
 use Rattle.rules.specs.declared.sorts.Sort.{Sort}
 use Rattle.rules.specs.declared.sorts.Sort.the-variants.{Silent, Unknown, Meta, Header, Row}
 use Rattle.rules.proofs.Laws.Sorting.{row-section, header-section}
-use Rattle.rules.proofs.Laws.Filling.{null-stands, fillsAt, fillCells, holesIn, other-fills}
+use Rattle.rules.proofs.Laws.Filling.{null-stands, cons-here, fillsAt, holes, holesIn, holes-in, other-fills, all-changes, fillCells}
+use Rattle.rules.proofs.Laws.Mending.{fillLines, lines-mended}
+use Rattle.scan.specs.Places.{Lent, lent}
 use Rattle.scan.specs.Machine.{Kinds}
 use Rattle.scan.proofs.Laws.Means.{not-over, cell-suc, kind-at}
 use Rattle.scan.proofs.Laws.Following.{nearest-append}
+use Rattle.scan.proofs.Laws.Scanning.{lines-above}
+use Rattle.mender_places.specs.Places.{layAll, noteAll, Mends}
+use Rattle.mender_places.proofs.Laws.Laying.{lay-append, lay-count, note-append}
 use Rattle.mender_rows.specs.Rows.{fillsIn, filled, found, isEven, rowFilled, rowFound}
 use Rattle.mender.specs.Walk.{sortFilled, sortFound, sectionAfter, widthAfter, Heads, Passes}
 
@@ -169,3 +182,97 @@ module _ (b : Book) (sized : Sized b) (above : List Bytes) (l : Bytes) (file : L
 pub heads-start : (b : Book) (kinds : List ℕ) → Heads b [] 0 1 kinds
 unfolding nearestIn sortOf isEmpty splitOn
 heads-start b kinds = record { section-of = refl; width-of = refl; columns = λ w i lt. absurd (not-suc-le-zero lt) }
+
+-- FROM LINE TO LINE
+
+-- n lines are passed, up to the place `at`: what is laid and noted, and what is still to come, are the copy and the changes
+pub record Midway (b : Book) (file : Bytes) (copy₀ changes₀ copy changes kinds : List ℕ) (n to count h w at : ℕ) : Type 0 where
+  pub within : at ≤ length file
+  pub counted : n ≤ at
+  pub left : lines (drop at file) ≡ drop n (lines file)
+  pub heads : Heads b (take n (lines file)) h w kinds
+  pub columns : length kinds ≡ 256
+  pub far : to ≤ 5 * at
+  pub few : count ≤ at
+  pub copied : layAll (lent copy to) (joined (fillLines b (lines file) (suc n) (drop n (lines file))) (lineEnds (drop at file))) ≡ layAll (lent copy₀ 0) (copyBy b file)
+  pub noticed : noteAll (lent changes count) (each (length (lines file) - n) (suc n) (λ i. holes b (spotAt (lines file) i) i)) ≡ noteAll (lent changes₀ 0) (changesBy b (lines file))
+
+pub midway-start : (b : Book) (file : Bytes) (copy changes kinds : List ℕ) → length kinds ≡ 256 → Midway b file copy changes copy changes kinds 0 0 0 0 1 0
+unfolding copyBy
+midway-start b file copy changes kinds k = record {
+  within = omega arith;
+  counted = omega arith;
+  left = refl;
+  heads = heads-start b kinds;
+  columns = k;
+  far = omega arith;
+  few = omega arith;
+  copied = ap (layAll (lent copy 0)) (ap (λ (ms : List Bytes). joined ms (lineEnds file)) (sym (lines-mended b (lines file))));
+  noticed = let z : length (lines file) - 0 ≡ length (lines file) = omega arith in rw z (ap (noteAll (lent changes 0)) (sym (all-changes b (lines file))));
+}
+
+module _ (b : Book) (sized : Sized b) {file : Bytes} {copy₀ changes₀ copy changes kinds : List ℕ} {n to count h w at : ℕ} (m : Midway b file copy₀ changes₀ copy changes kinds n to count h w at) where
+  abbrev F : List Bytes
+  F = lines file
+
+  module _ {end next : ℕ} (line : LineAt file at end next) where
+    abbrev l : Bytes
+    l = part at end file
+
+    ahead : drop n F ≡ l ∷ lines (drop next file)
+    ahead = sym (m .left) ∙ line .cut
+
+    here : (n < length F) × (getD F n [] ≡ l) × (drop (suc n) F ≡ lines (drop next file))
+    here = cons-here F n ahead
+
+    spot-here : spotAt F (suc n) ≡ spot (take n F) l F
+    spot-here = let z : suc n - 1 ≡ n = omega arith in rw (z, here .1)
+
+    -- the copy of the line, its end, and those of the lines after it
+    copy-next : joined (fillLines b F (suc n) (drop n F)) (lineEnds (drop at file))
+        ≡ tabbed (sortFilled (sortOf b l) h w kinds (cells l)) ++ (part end next file ++ joined (fillLines b F (suc (suc n)) (drop (suc n) F)) (lineEnds (drop next file)))
+    unfolding fillLines joined
+    copy-next = rw (ahead, ends-next line, spot-here, line-cells b sized (take n F) l F (m .heads), here .2)
+
+    -- the changes of the line, and those of the lines after it
+    notes-next : each (length F - n) (suc n) (λ i. holes b (spotAt F i) i) ≡ sortFound (sortOf b l) h w kinds (n + 1) (cells l) ++ each (length F - suc n) (suc (suc n)) (λ i. holes b (spotAt F i) i)
+    unfolding each
+    notes-next =
+        let z : length F - n ≡ suc (length F - suc n) = omega (arith, here .0) in
+        let e : holes b (spotAt F (suc n)) (suc n) ≡ sortFound (sortOf b l) h w kinds (suc n) (cells l) =
+        ap (λ (p : Spot). holes b p (suc n)) spot-here ∙ holes-in b (spot (take n F) l F) (suc n) ∙ line-holes b sized (take n F) l F (m .heads) (suc n) in
+        rw (z, e, add-one n)
+
+    -- a line further
+    pub midway-next : {copy₁ copy₂ changes₁ kinds' : List ℕ} {to₁ to₂ count₁ h' w' n' : ℕ}
+        → Mends (tabbed (sortFilled (sortOf b l) h w kinds (cells l))) (sortFound (sortOf b l) h w kinds (n + 1) (cells l)) (5 * length l) (length l) (lent copy to) (lent copy₁ to₁) (lent changes count) (lent changes₁ count₁)
+        → Passes b l h w kinds h' w' kinds' → n' ≡ n + 1 → lent copy₂ to₂ ≡ layAll (lent copy₁ to₁) (part end next file) → Midway b file copy₀ changes₀ copy₂ changes₁ kinds' n' to₂ count₁ h' w' next
+    midway-next {copy₁} {copy₂} {changes₁} {kinds'} {to₁} {to₂} {count₁} {h'} {w'} {n'} mends passes e lays =
+        let e' : n' ≡ suc n = e ∙ add-one n in
+        let long : length l ≡ end - at = length-take-le (end - at) (drop at file) (omega (arith, line .starts, line .ends, length-drop at file)) in
+        let rest = joined (fillLines b F (suc (suc n)) (drop (suc n) F)) (lineEnds (drop next file)) in
+        let tail : length (part end next file) ≤ next - end = omega (arith, length-take (next - end) (drop end file)) in
+        record {
+          within = line .within;
+          counted = omega (arith, e, line .on, m .counted);
+          left = rw e' (sym (here .2));
+          heads = rw (e', lines-above b F n ahead) (heads-next b sized (take n F) l F (m .heads) passes);
+          columns = passes .kind-places;
+          far = omega (arith, mends .most-bytes, m .far, long, tail, ap (λ (o : Lent). o .count) lays, lay-count (part end next file) (lent copy₁ to₁), line .starts, end-before line);
+          few = omega (arith, mends .most-changes, m .few, long, line .starts, end-before line);
+          copied = rw (e', lays, mends .lays) (sym (lay-append (tabbed (sortFilled (sortOf b l) h w kinds (cells l))) (part end next file ++ rest) (lent copy to) ∙ lay-append (part end next file) rest (layAll (lent copy to) (tabbed (sortFilled (sortOf b l) h w kinds (cells l))))) ∙ ap (layAll (lent copy to)) (sym copy-next) ∙ m .copied);
+          noticed = rw (e', mends .notes) (sym (note-append (sortFound (sortOf b l) h w kinds (n + 1) (cells l)) (each (length F - suc n) (suc (suc n)) (λ i. holes b (spotAt F i) i)) (lent changes count)) ∙ ap (noteAll (lent changes count)) (sym notes-next) ∙ m .noticed);
+        }
+
+  -- all lines are passed
+  pub midway-end : length file ≤ at → Mends (copyBy b file) (changesBy b F) (5 * length file) (length file) (lent copy₀ 0) (lent copy to) (lent changes₀ 0) (lent changes count)
+  unfolding layAll noteAll fillLines joined each
+  midway-end e =
+      let none : drop n F ≡ [] = sym (m .left) ∙ lines-done file at e in
+      let z : length F - n ≡ 0 = omega (arith, length-drop n F, ap length none) in
+      record {
+        lays = rw none at (m .copied);
+        notes = rw z at (m .noticed);
+        most-bytes = omega (arith, m .far, m .within);
+        most-changes = omega (arith, m .few, m .within);
+      }

@@ -148,10 +148,10 @@ after-ended [] h (by-crlf rest) = refl
 after-ended (x ∷ xs) h t = rw (has-none LF x xs h .0) (omega (arith, after-ended xs (has-none LF x xs h .1) t))
 
 -- the end of the line that begins at `at`, and the ends of the lines after it
-pub ends-next : {f : Bytes} {at end next : ℕ} → LineAt f at end next → lineEnds (drop at f) ≡ part end next f ∷ lineEnds (drop next f)
-ends-next {f} {at} {end} {next} p = go (drop at f) refl
+end-here : {f : Bytes} {at end next : ℕ} → LineAt f at end next → (end ≤ next) × (lineEnds (drop at f) ≡ part end next f ∷ lineEnds (drop next f))
+end-here {f} {at} {end} {next} p = go (drop at f) refl
   where
-    go : (g : Bytes) → drop at f ≡ g → lineEnds (drop at f) ≡ part end next f ∷ lineEnds (drop next f)
+    go : (g : Bytes) → drop at f ≡ g → (end ≤ next) × (lineEnds (drop at f) ≡ part end next f ∷ lineEnds (drop next f))
     go [] e = absurd (omega (arith, p .on, p .within, length-drop at f, ap length e))
     go (x ∷ xs) e =
         let r = cut-first x xs in
@@ -165,7 +165,13 @@ ends-next {f} {at} {end} {next} p = go (drop at f) refl
         let k : next - end ≡ length (r .end) = omega (arith, m) in
         let d : drop end f ≡ r .end ++ r .rest = rw (← n, ← drop-drop (length (r .line)) at f, w) (drop-append-seam (r .line) (r .end ++ r .rest)) in
         let o : drop next f ≡ r .rest = rw (← m, ← drop-drop (length (r .end)) end f, d) (drop-append-seam (r .end) (r .rest)) in
-        rw (e, r .ends-cut, k, d, o, take-append-seam (r .end) (r .rest))
+        (omega (arith, m), rw (e, r .ends-cut, k, d, o, take-append-seam (r .end) (r .rest)))
+
+pub ends-next : {f : Bytes} {at end next : ℕ} → LineAt f at end next → lineEnds (drop at f) ≡ part end next f ∷ lineEnds (drop next f)
+ends-next p = end-here p .1
+
+pub end-before : {f : Bytes} {at end next : ℕ} → LineAt f at end next → end ≤ next
+end-before p = end-here p .0
 
 -- CELLS AND TABS
 
