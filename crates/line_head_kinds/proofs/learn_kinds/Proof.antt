@@ -67,10 +67,16 @@ loop-again c =
     let here : drop (n + 1 - 2) (drop 1 (cells line)) ≡ x ∷ drop 1 (cells (drop (l .loop .end + 1) line)) = drop-drop (n + 1 - 2) 1 (cells line) ∙ ap (λ (i : ℕ). drop i (cells line)) y ∙ ahead d in
     let tail : drop (n + 1) (cells line) ≡ drop 1 (cells (drop (l .loop .end + 1) line)) = sym (drop-drop 1 n (cells line)) ∙ ap (drop 1) (l .loop .inv .4 (d .before .loop-test .taken)) in
     let kind : c .kind-in .result ≡ kindIn (columnOf (bookIn (a .book .now)) (a .section) x) = c .kind-in .ensures ∙ ap kindIn (at-column .column .ensures) in
-    let set-as : set kinds (n + 1 - 1) (kindIn (columnOf (bookIn (a .book .now)) (a .section) x)) ≡ set kinds n (c .kind-in .result) = rw (z, kind) in
-    (ends .within, omega (arith, l .loop .inv .1), l .loop .inv .2, length-set kinds n (c .kind-in .result) ∙ l .loop .inv .3, (λ lt. tail ∙ cells-next ends lt), (λ e. tail ∙ cells-last ends e),
-    subst (KindsTo (bookIn (a .book .now)) (a .section) (n + 1 + 1) (drop 1 (cells line))) set-as
-    (kinds-step (bookIn (a .book .now)) (drop 1 (cells line)) (n + 1) (omega (arith, l .loop .inv .1)) here (a .section) kinds (omega (arith, below d, l .loop .inv .3)) (l .loop .inv .6)))
+    let set-as : set kinds (n + 1 - 1) (kindIn (columnOf (bookIn (a .book .now)) (a .section) x)) ≡ set kinds n (c .kind-in .result) = rw (z, kind) in (
+      ends .within,
+      omega (arith, l .loop .inv .1),
+      l .loop .inv .2,
+      length-set kinds n (c .kind-in .result) ∙ l .loop .inv .3,
+      (λ lt. tail ∙ cells-next ends lt),
+      (λ e. tail ∙ cells-last ends e),
+      subst (KindsTo (bookIn (a .book .now)) (a .section) (n + 1 + 1) (drop 1 (cells line))) set-as
+          (kinds-step (bookIn (a .book .now)) (drop 1 (cells line)) (n + 1) (omega (arith, l .loop .inv .1)) here (a .section) kinds (omega (arith, below d, l .loop .inv .3)) (l .loop .inv .6)),
+    )
 
 returns-2 : tie.Need-returns-2 Inv-loop μ-loop
 returns-2 c =

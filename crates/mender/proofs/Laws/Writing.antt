@@ -1,17 +1,23 @@
--- Bytes laid and changes noted, one after the other from the first place on, make the buffer and the list that the definition has. Assumes nothing.
+-- Bytes laid and changes noted, one after the other from the first place on, make the buffer and the list that the definition has; and what the call gives back.
+-- Assumes nothing.
 use mathlib.Core.Path.{_≡_, refl, sym, ap, _∙_}
+use mathlib.Core.Bool.{true, false, _||_}
 use mathlib.Core.List.{List, [], _∷_, _++_}
-use Prim.Native.Nat.{ℕ, suc, _+_, _*_, _<_}
+use Prim.Native.Nat.{ℕ, suc, _+_, _*_, _≤_, _<_}
 use native.Mathlib.Omega.{arith}
 use lib.ListN.{length, set, length-append}
 use lib.Seq.{set-at, append-snoc}
-use borrow.Author.Tests.{le-leb, lt-leb}
+use lib.Dec.{ltb}
+use borrow.Author.Tests.{le-leb, lt-leb, lt-ltb, le-ltb}
+use Rattle.numbers.specs.Numbers.{TOO-LONG, NO-ROOM}
 use Rattle.text_bytes.specs.Bytes.{Bytes}
+use Rattle.text.specs.Lines.{LIMIT}
 use Rattle.rules.specs.Breaks.{Break}
-use Rattle.scan.specs.Places.{lent}
-use Rattle.mender_places.specs.Places.{layAll, noted, noteAll}
-use Rattle.mender_places.proofs.Laws.Laying.{lay-end}
-use Rattle.mender.specs.Mended.{withBytes, withChanges}
+use Rattle.rules.specs.Mended.{changesOf, copyOf}
+use Rattle.scan.specs.Places.{Lent, lent}
+use Rattle.mender_places.specs.Places.{layAll, noted, noteAll, Mends}
+use Rattle.mender_places.proofs.Laws.Laying.{lay-end, lay-count}
+use Rattle.mender.specs.Mended.{outcome, withBytes, withChanges, mended}
 
 -- BYTES: those in front are laid already
 lay-from : (front xs ys : Bytes) (k : ℕ) → length front ≡ k → layAll (lent (front ++ ys) k) xs ≡ lent (front ++ withBytes xs ys) (k + length xs)
@@ -63,3 +69,34 @@ note-from front (g ∷ gs) (y ∷ (z ∷ zs)) k e =
 
 pub note-all : (gs : List Break) (zs : List ℕ) → noteAll (lent zs 0) gs ≡ lent (withChanges gs zs) (length gs)
 note-all gs zs = let z : 0 + length gs ≡ length gs = omega arith in rw z at (note-from [] gs zs 0 refl)
+
+-- WHAT IS GIVEN BACK
+
+module _ (file ys : Bytes) (zs : List ℕ) where
+  -- a file over the limit
+  pub mended-long : LIMIT < length file → outcome TOO-LONG 0 0 ys zs ≡ mended file ys zs
+  unfolding mended
+  mended-long h = rw (lt-ltb LIMIT (length file) h)
+
+  module _ (low : length file ≤ LIMIT) {far few : ℕ} {us us′ ws ws′ : List ℕ} {to count : ℕ} (p : Mends (copyOf file) (changesOf file) far few (lent us 0) (lent us′ to) (lent ws 0) (lent ws′ count)) where
+    -- what is laid says how long the copy is
+    size : length (copyOf file) ≡ to
+    size = omega (arith, ap (λ (o : Lent). o .count) (p .lays), lay-count (copyOf file) (lent us 0))
+
+    -- a copy that has no room
+    pub mended-none : (ltb LIMIT to || ltb (length ys) to) ≡ true → outcome NO-ROOM 0 0 ys zs ≡ mended file ys zs
+    unfolding mended
+    mended-none h = rw (le-ltb LIMIT (length file) low, size, h)
+
+    -- and one that has room
+    pub mended-room : (ltb LIMIT to || ltb (length ys) to) ≡ false → (ltb LIMIT (length (copyOf file)) || ltb (length ys) (length (copyOf file))) ≡ false
+    mended-room h = rw size h
+
+  -- the copy and the changes
+  pub mended-done : length file ≤ LIMIT → {far few : ℕ} {ys′ zs′ : List ℕ} {to count : ℕ} → (ltb LIMIT (length (copyOf file)) || ltb (length ys) (length (copyOf file))) ≡ false
+      → Mends (copyOf file) (changesOf file) far few (lent ys 0) (lent ys′ to) (lent zs 0) (lent zs′ count) → outcome 0 to count ys′ zs′ ≡ mended file ys zs
+  unfolding mended
+  mended-done low {far} {few} {ys′} {zs′} {to} {count} h p =
+      let e = p .lays ∙ lay-all (copyOf file) ys in
+      let f = p .notes ∙ note-all (changesOf file) zs in
+      rw (le-ltb LIMIT (length file) low, h, ap (λ (o : Lent). o .count) e, ap (λ (o : Lent). o .places) e, ap (λ (o : Lent). o .count) f, ap (λ (o : Lent). o .places) f)
