@@ -5,6 +5,7 @@ use fee::Cents;
 use fee::split_places;
 use judged::judge_places;
 use judged_line::judge_line_places;
+use mender::mend;
 use mztab::cells::locate;
 use mztab::cells::reading;
 use rows::rows;
@@ -17,6 +18,7 @@ ghost use mathlib.Core.Path.{_≡_};
 ghost use Rattle.mztab.specs.Shown.{sought};
 ghost use Rattle.judged.specs.Judged.{outcome, judged};
 ghost use Rattle.judged_line.specs.Judged.{judgedLine};
+ghost use Rattle.mender.specs.Mended.{outcome as mendedAs, mended};
 ghost use Rattle.mztab.specs.Readings.{readingOf};
 ghost use Rattle.faults.specs.Records.{outcome as recorded, judged as judgedRecords};
 ghost use Rattle.fee.specs.Amounts.{added, sumOf};
@@ -45,6 +47,20 @@ pub extern "C" fn mztab_judge_line(
     ensures { λ r. ⌜ outcome (now (number .exit)) r (now (places .exit)) ≡ judgedLine (now (file .entry)) line (now (places .entry)) ⌝ }
 {
     judge_line_places(file, line, places, number)
+}
+
+// The mending call: answers the length of the copy, and writes the copy, the count of changes, and those that fit, two places each: line, cell.
+#[no_mangle]
+pub extern "C" fn mztab_mend(
+    file: &[u8],
+    copy: &mut [u8],
+    changes: &mut [u32],
+    number: &mut u32,
+    count: &mut u32,
+) -> usize
+    ensures { λ r. ⌜ mendedAs (now (number .exit)) r (now (count .exit)) (now (copy .exit)) (now (changes .exit)) ≡ mended (now (file .entry)) (now (copy .entry)) (now (changes .entry)) ⌝ }
+{
+    mend(file, copy, changes, number, count)
 }
 
 // The judging call over records: the same, with a record for each break.

@@ -2,7 +2,7 @@
 -- Assumes nothing.
 use mathlib.Core.Path.{_≡_, refl, sym, ap, subst, _∙_}
 use mathlib.Core.List.{List, []}
-use mathlib.Core.Bool.{true}
+use mathlib.Core.Bool.{Bool, true}
 use Prim.Native.Nat.{ℕ, _*_, _-_, _≤_, _<_}
 use native.Mathlib.Omega.{arith}
 use borrow.Author.Tests.{le-ltb, lt-ltb, eqb-true, eq-eqb}
@@ -37,7 +37,7 @@ module _ (file : Bytes) (l : ℕ) (low : 1 ≤ l) (high : l ≤ length (lines fi
   pub line-reported : ReportsLine file l (ofLine file l)
   line-reported =
       let r = breaks-reported file in
-      let t : ℕ → _ = λ i. eqb i l in
+      let t : Break → Bool = λ g. eqb (g .line) l in
       let was : (g : Break) → In g (ofLine file l) → In g (onLine l (breaks file)) = λ g. subst (In g) of-line in
       let kept : (g : Break) → In g (ofLine file l) → (eqb (g .line) l ≡ true) × In g (breaks file) = λ g h. kept-in t (breaks file) g (was g h) in
       record {
