@@ -509,7 +509,7 @@ fn rule_16(section: u32, columns: &[&[u8]], whole: &Whole, report: &mut Report) 
 
 /// "Cells under an unknown column are text." One whose index is bad is unknown
 /// too: it "would be known but for" it.
-fn kind_of_column(column: Option<Known>) -> Kind {
+pub(crate) fn kind_of_column(column: Option<Known>) -> Kind {
     match column {
         Some(known) => known.kind,
         None => Kind::Text,
@@ -570,7 +570,7 @@ fn rule_20(kind: Kind, cell: &[u8], at: usize, report: &mut Report) {
 /// The kinds of the columns. "In table cells `null` stands for missing in every
 /// column, except protein `accession`, peptide and PSM `sequence`, and
 /// `PSM_ID`, where it is not of the kind."
-fn cell_is_of_its_kind(kind: Kind, cell: &[u8]) -> bool {
+pub(crate) fn cell_is_of_its_kind(kind: Kind, cell: &[u8]) -> bool {
     if cell == b"null" {
         return kind != Kind::NeverNull;
     }

@@ -12,6 +12,7 @@ pub mod fee;
 pub mod judging;
 pub mod kinds;
 pub mod lines;
+pub mod mending;
 pub mod names;
 pub mod printing;
 pub mod reading;
@@ -20,6 +21,7 @@ pub mod weights;
 pub use edits::{edited, judge_line};
 pub use fee::{add, split};
 pub use judging::{judge, Break};
+pub use mending::{mend, mended};
 pub use reading::{cell, cell_or, read, reading, Reading};
 pub use weights::{rows, weights};
 
