@@ -1,8 +1,9 @@
 //! What the binary prints in each of its modes, as bytes.
 
+use crate::mending::Answer;
 use crate::names::{Family, Kind, Known};
 use crate::{
-    add, cell, cell_or, judge, judge_line, kinds, names, read, reading, rows, split,
+    add, cell, cell_or, judge, judge_line, kinds, mend, names, read, reading, rows, split,
     weights as weights_of, Break, Reading,
 };
 
@@ -29,6 +30,14 @@ const LINE_BEFORE: u32 = 9;
 
 /// Of no file a line after this one is asked for.
 const LAST_LINE: u32 = 23;
+
+/// How many bytes the two buffers for a copy have, and what each byte is before
+/// the call; how many places the list of changes has, and what each holds.
+const ROOM: usize = 4_096;
+const SHORT_ROOM: usize = 60;
+const BYTE_BEFORE: u8 = b'#';
+const CHANGE_PLACES: usize = 5;
+const CHANGE_BEFORE: u32 = 9;
 
 /// As the program `judge` prints.
 pub fn judged(file: &[u8]) -> String {
@@ -374,6 +383,40 @@ fn line_text(line: u32, breaks: &Result<Vec<Break>, u32>) -> String {
     }
     let count = breaks.len();
     format!("line {line}: {number} {count}{}\n", spaced(&places))
+}
+
+/// Several files, each ended by the byte 30: what mending answers with either
+/// buffer, the copy in the first and one byte more, all of the second, and a line
+/// `.`.
+pub fn mends(input: &[u8]) -> Vec<u8> {
+    let mut out = Vec::new();
+    for file in pieces(input, END) {
+        let (answer, length, buffer) = mend_into(file, ROOM);
+        out.extend(answer.into_bytes());
+        // The byte past the copy is none of it, and untouched.
+        out.extend(&buffer[..(length + 1).min(ROOM)]);
+        let (answer, _, buffer) = mend_into(file, SHORT_ROOM);
+        out.push(b'\n');
+        out.extend(answer.into_bytes());
+        out.extend(buffer);
+        out.extend(b"\n.\n");
+    }
+    out
+}
+
+/// `mend ROOM: NUMBER LENGTH COUNT` and each place after the call; the length;
+/// and the buffer.
+fn mend_into(file: &[u8], room: usize) -> (String, usize, Vec<u8>) {
+    let mut buffer = vec![BYTE_BEFORE; room];
+    let mut places = [CHANGE_BEFORE; CHANGE_PLACES];
+    let Answer {
+        number,
+        length,
+        count,
+    } = mend(file, &mut buffer, &mut places);
+    let places = spaced(&places);
+    let answer = format!("mend {room}: {number} {length} {count}{places}\n");
+    (answer, length, buffer)
 }
 
 /// The numbers, a space before each.

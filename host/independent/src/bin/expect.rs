@@ -7,8 +7,9 @@ use std::process::ExitCode;
 
 use independent::{cases, printing};
 
-const MODES: &str = "judge, judges, cells, kinds, names, doubles, fees, weights, lines, \
-    make-judges, make-cells, make-kinds, make-names, make-fees, make-weights, make-lines";
+const MODES: &str = "judge, judges, cells, kinds, names, doubles, fees, weights, lines, mends, \
+    make-judges, make-cells, make-kinds, make-names, make-fees, make-weights, make-lines, \
+    make-mends";
 
 fn main() -> ExitCode {
     let mode = std::env::args().nth(1).unwrap_or_default();
@@ -39,6 +40,7 @@ fn printed(mode: &str) -> Option<Vec<u8>> {
         "fees" => Some(printing::fees(&input()).into_bytes()),
         "weights" => Some(printing::weights(&input()).into_bytes()),
         "lines" => Some(printing::lines(&input()).into_bytes()),
+        "mends" => Some(printing::mends(&input())),
         "make-judges" => Some(cases::judges_input()),
         "make-cells" => Some(cases::cells_input()),
         "make-kinds" => Some(cases::kinds_input()),
@@ -46,6 +48,7 @@ fn printed(mode: &str) -> Option<Vec<u8>> {
         "make-fees" => Some(cases::fees_input()),
         "make-weights" => Some(cases::weights_input()),
         "make-lines" => Some(cases::lines_input()),
+        "make-mends" => Some(cases::mends_input()),
         _ => None,
     }
 }

@@ -50,8 +50,8 @@ pub(super) const PH: &str = "PRH→accession→description→database→search_e
 pub(super) const PR: &str = "PRT→Y1→null→db→null";
 pub(super) const EH: &str = "PEH→sequence→accession→charge→mass_to_charge";
 pub(super) const ER: &str = "PEP→AB→Y1→2→10.5";
-const SH: &str = "PSH→sequence→PSM_ID→accession→charge→spectra_ref";
-const SR: &str = "PSM→AB→1→Y1→2→ms_run[1]:index=5";
+pub(super) const SH: &str = "PSH→sequence→PSM_ID→accession→charge→spectra_ref";
+pub(super) const SR: &str = "PSM→AB→1→Y1→2→ms_run[1]:index=5";
 pub(super) const MH: &str = "SMH→identifier→charge";
 pub(super) const MR: &str = "SML→CID:1→1";
 

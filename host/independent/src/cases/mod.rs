@@ -5,9 +5,11 @@
 pub mod cells;
 pub mod edits;
 pub mod fee;
+pub mod holes;
 pub mod judging;
 pub mod kinds;
 pub mod lines;
+pub mod mends;
 pub mod names;
 pub mod weights;
 
@@ -86,6 +88,21 @@ pub fn lines_input() -> Vec<u8> {
     let of_cases = lines::all().into_iter().map(|case| case.file);
     let mut out = Vec::new();
     for file in of_cases.chain(of_edits) {
+        assert!(!file.contains(&END));
+        out.extend(file);
+        out.push(END);
+    }
+    out
+}
+
+/// So many drawn files stand in the table of files with holes.
+const DRAWN: usize = 600;
+
+/// Several files, each ended by the byte 30: those of the cases, then drawn ones.
+pub fn mends_input() -> Vec<u8> {
+    let of_cases = mends::all().into_iter().map(|case| case.file);
+    let mut out = Vec::new();
+    for file in of_cases.chain(holes::files(DRAWN)) {
         assert!(!file.contains(&END));
         out.extend(file);
         out.push(END);
