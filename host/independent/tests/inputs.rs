@@ -45,3 +45,11 @@ fn lines() {
     // As much as the run test has room for.
     assert!(input.len() <= 65_000, "{}", input.len());
 }
+
+#[test]
+fn mends() {
+    let input = include_bytes!("../../../crates/test_mends/stdin");
+    assert!(input == cases::mends_input().as_slice());
+    // As much as the run test has room for.
+    assert!(input.len() < 320_000, "{}", input.len());
+}
