@@ -73,10 +73,11 @@ pub fn mend(file: &[u8], buffer: &mut [u8], list: &mut [u32]) -> Answer {
 pub fn mended(file: &[u8], room: usize) -> Result<Mended, u32> {
     let breaks = judge(file).ok_or(TOO_LONG)?;
     let mended = mended_of(file, &breaks);
-    if mended.copy.len() > room || mended.copy.len() > LIMIT {
-        return Err(NO_ROOM);
+    if mended.fits(room) {
+        Ok(mended)
+    } else {
+        Err(NO_ROOM)
     }
-    Ok(mended)
 }
 
 /// The copy and the changes of a file that has these breaks, whatever the copy's
@@ -110,6 +111,12 @@ fn holes(breaks: &[Break]) -> HashSet<(u32, u32)> {
 }
 
 impl Mended {
+    /// Whether there is room for it in a buffer of so many bytes, and it is not
+    /// "past the length limit".
+    pub fn fits(&self, room: usize) -> bool {
+        self.copy.len() <= room && self.copy.len() <= LIMIT
+    }
+
     /// A line as it is, but for the cells that change.
     fn add_line(&mut self, number: u32, line: &[u8], changes: impl Fn(u32) -> bool) {
         for (at, cell) in (1..).zip(cells(line)) {

@@ -1,4 +1,5 @@
-//! The files written by hand from the paper: every rule, stop and kind on either side; the exports; and keys, headers and names that come again.
+//! The files written by hand from the paper: every rule, stop and kind on either side; the exports; keys, headers and names that come again; and
+//! holes.
 
 use independent::cases;
 use mztab::format::SECTIONS;
@@ -14,12 +15,10 @@ pub fn files() -> Vec<(String, Vec<u8>)> {
     for (k, case) in cases::cells::all().into_iter().enumerate() {
         all.push((format!("cells, case {k}"), case.file));
     }
-    for case in cases::weights::all() {
-        all.push((case.label.to_string(), case.file));
-    }
-    for case in cases::lines::all() {
-        all.push((case.label.to_string(), case.file));
-    }
+    let weights = cases::weights::all().into_iter();
+    all.extend(weights.map(|case| (case.label.to_string(), case.file)));
+    let lines = cases::lines::all().into_iter();
+    all.extend(lines.map(|case| (case.label.to_string(), case.file)));
     for export in samples::EXPORTS {
         all.push((export.name.to_string(), export.file.to_vec()));
     }
@@ -42,6 +41,8 @@ pub fn files() -> Vec<(String, Vec<u8>)> {
             ));
         }
     }
+    let mends = cases::mends::all().into_iter();
+    all.extend(mends.map(|case| (case.label.to_string(), case.file)));
     all
 }
 

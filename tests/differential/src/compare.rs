@@ -10,6 +10,7 @@ use samples::Draws;
 
 use crate::edits::{self, Edited};
 use crate::firsts::{self, Mistaken};
+use crate::mends::{self, Mends};
 use crate::weights;
 
 /// What a place holds that no break fills.
@@ -51,6 +52,8 @@ pub struct Tried {
     pub weighed: u64,
     /// Single lines and edits; in the end of the drawn files alone.
     pub edited: Edited,
+    /// What was mended; in the end of the drawn files alone.
+    pub mends: Mends,
     /// How many splits by the number that was answered.
     pub splits: BTreeMap<u32, u64>,
     pub sums: u64,
@@ -115,8 +118,9 @@ pub fn compare(file: &[u8], draws: &mut Draws, tried: &mut Tried) -> Result<(), 
     // A box of its own has no room after the last byte, so that a checker of memory sees a read past it.
     let file: Box<[u8]> = file.into();
     tried.files += 1;
-    // What is drawn for lines and edits does not hang on what is drawn for the others.
+    // What is drawn for lines and edits, and for mending, does not hang on what is drawn for the others.
     let own = &mut draws.clone();
+    let for_mends = &mut Draws::new(draws.clone().bits());
     let expected = independent::judge(&file);
     match &expected {
         None => too_long(&file)?,
@@ -124,7 +128,8 @@ pub fn compare(file: &[u8], draws: &mut Draws, tried: &mut Tried) -> Result<(), 
     }
     cells(&file, draws, tried)?;
     weights::compare(&file, draws, tried)?;
-    edits::compare(&file, expected.as_deref(), own, tried)
+    edits::compare(&file, expected.as_deref(), own, tried)?;
+    mends::compare(&file, expected.as_deref(), for_mends, tried)
 }
 
 fn judging(

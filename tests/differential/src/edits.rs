@@ -238,7 +238,7 @@ fn cell_of(file: &[u8], line: u32, cell: u32) -> &[u8] {
 }
 
 /// All breaks by the library.
-fn whole_list(file: &[u8]) -> Result<Vec<Break>, String> {
+pub fn whole_list(file: &[u8]) -> Result<Vec<Break>, String> {
     let judged =
         mztab::judge_all(file).map_err(|refusal| format!("judging is refused: {refusal:?}"))?;
     let found = judged.breaks().map(|at| Break {
@@ -303,7 +303,7 @@ fn others(breaks: &[Break], line: u32) -> Vec<Break> {
 }
 
 /// Nothing where the lists are the same, else the first two breaks that differ.
-fn same(what: &str, one: &[Break], other: &[Break]) -> Result<(), String> {
+pub fn same(what: &str, one: &[Break], other: &[Break]) -> Result<(), String> {
     if one == other {
         return Ok(());
     }

@@ -11,6 +11,7 @@ use samples::Draws;
 use crate::again::repeat;
 use crate::complete::completed;
 use crate::damage::damage;
+use crate::holes::punch;
 
 /// The letters of the sections in the independent reading's list of columns.
 const LETTERS: [char; 4] = ['P', 'E', 'S', 'M'];
@@ -23,8 +24,11 @@ pub fn near_values() -> Vec<Vec<u8>> {
         .collect()
 }
 
-/// A file of any sort. One in seven is right and has abundances of study variables; in a third of the others something comes again.
+/// A file of any sort. One in seven is right and has abundances of study variables; in a third of the others something comes again, and
+/// in a third the rows have holes.
 pub fn file(near: &[Vec<u8>], draws: &mut Draws) -> Vec<u8> {
+    // What is drawn for holes does not hang on what is drawn for the others.
+    let mut own = Draws::new(!draws.clone().bits());
     let weighed = draws.once_in(7);
     let mut source = Source::new(near, draws);
     if weighed {
@@ -46,6 +50,9 @@ pub fn file(near: &[Vec<u8>], draws: &mut Draws) -> Vec<u8> {
     if !weighed && !source.draws.once_in(3) {
         damage(&mut file, draws);
     }
+    if !weighed && own.once_in(HOLES) {
+        punch(&mut file, &mut own);
+    }
     file
 }
 
@@ -61,6 +68,9 @@ const NULL: usize = 6;
 
 /// Of the files that may be wrong one in so many has keys, headers and names that come again.
 const AGAIN: usize = 3;
+
+/// And one in so many has holes.
+const HOLES: usize = 3;
 
 /// In a file that may be wrong a metadata line in so many stands below the tables.
 const LATE: usize = 40;

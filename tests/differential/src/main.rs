@@ -1,6 +1,7 @@
 //! Compares the library, through its binding, with the independent reading of the paper: every break, every place of the lent list,
-//! every cell, the rows and the weights, single lines, and files with one cell edited, on files written by hand, hostile ones, and files
-//! drawn by a grammar, most of them damaged; and fees that are split, by hand and drawn, some beside each drawn file.
+//! every cell, the rows and the weights, single lines, files with one cell edited, and mended copies, on files written by hand, hostile ones,
+//! and files drawn by a grammar, most of them damaged, some with holes; and fees that are split, by hand and drawn, some beside each drawn
+//! file, as is a small file with holes that is mended alone.
 //!
 //! `differential [--seed S] [--from K] [--count N] [--sample M]`: N drawn files, beside the hostile ones and every M-th of those written by
 //! hand, else all. With `--from` the drawn files K to K + N - 1 alone, so that a run can be cut into parts. The same seed draws the same files.
@@ -18,6 +19,8 @@ mod edits;
 mod fees;
 mod firsts;
 mod grammar;
+mod holes;
+mod mends;
 mod shrink;
 mod weights;
 
@@ -29,6 +32,7 @@ use std::process::ExitCode;
 use compare::{compare, Tried, INDEX_RULES, WITH_INDEX};
 use edits::Edited;
 use firsts::{AGAIN, MISTAKEN};
+use mends::{every_sort, Mends, AFTER};
 use samples::Draws;
 
 const SEED: u64 = 1;
@@ -110,6 +114,9 @@ fn table(options: &Options) -> Vec<u8> {
     table
 }
 
+/// What compares one file: nothing where both say the same, else words.
+type Compare = fn(&[u8], &mut Draws, &mut Tried) -> Result<(), String>;
+
 /// What was compared so far, and how many files differ.
 #[derive(Default)]
 struct Run {
@@ -130,6 +137,8 @@ impl Run {
         self.note("a fee by hand", fees);
         let edits = edits::by_hand(&mut Draws::new(options.seed), &mut self.tried);
         self.note("an edit by hand", edits);
+        let mends = mends::by_hand(&mut Draws::new(options.seed), &mut self.tried);
+        self.note("mended by hand", mends);
         println!(
             "differential: {} files by hand, {} differences",
             self.tried.files, self.different
@@ -152,6 +161,8 @@ impl Run {
         for sample in samples::long_indices(LONG) {
             self.try_one(sample.name, &sample.file, &mut Draws::new(options.seed));
         }
+        let mends = mends::large(LONG, &mut Draws::new(options.seed), &mut self.tried);
+        self.note("a large file mended", mends);
         println!(
             "differential: {} hostile files, {} differences",
             self.tried.files - before,
@@ -165,16 +176,19 @@ impl Run {
         let weighed_before = self.tried.weighed;
         self.tried.firsts.clear();
         let not_drawn = std::mem::take(&mut self.tried.edited);
+        let other_mends = std::mem::take(&mut self.tried.mends);
         for k in from..from.saturating_add(options.count) {
             let mut draws = draws_of(options.seed, k);
             let file = grammar::file(&near, &mut draws);
             let label = format!("seed {}, file {k}", options.seed);
             self.try_one(&label, &file, &mut draws);
             self.try_fees(&label, &mut draws);
+            self.try_holes(&label, &mut draws);
         }
         self.drawn = options.count;
         self.weighed = self.tried.weighed - weighed_before;
         self.print_edits(&not_drawn);
+        self.print_mends(&other_mends);
         self.print(options.seed, from);
     }
 
@@ -189,6 +203,29 @@ impl Run {
             "differential: in drawn files {lines} lines judged by themselves, the breaks of {hung} hang on lines below; \
              {edits} cells edited, {changed} of the edits changed breaks; in the other files {} lines, and {} cells edited, {} with a change",
             not_drawn.lines, not_drawn.edits, not_drawn.changed
+        );
+    }
+
+    fn print_mends(&self, not_drawn: &Mends) {
+        let drawn = &self.tried.mends;
+        let after: Vec<String> = (drawn.after.iter())
+            .map(|(after, count)| format!("{count} before {after}"))
+            .collect();
+        println!(
+            "differential: {} drawn files have holes that are mended, {} in all, and {} holes stay where `null` may not stand; {}; {} copies \
+             compared and {} refusals, {} bytes of buffers; of the other files {} have such holes, {} in all, {} stay, {} copies and {} refusals",
+            drawn.files,
+            drawn.mended,
+            drawn.stayed,
+            after.join(", "),
+            drawn.copies(),
+            drawn.refusals(),
+            drawn.bytes,
+            not_drawn.files,
+            not_drawn.mended,
+            not_drawn.stayed,
+            not_drawn.copies(),
+            not_drawn.refusals()
         );
     }
 
@@ -222,9 +259,19 @@ impl Run {
         );
     }
 
-    /// Compares one file; where the answers differ, prints both, and the lines of the file that are enough for a difference.
     fn try_one(&mut self, label: &str, file: &[u8], draws: &mut Draws) {
-        if self.different == ENOUGH {
+        self.try_by(compare, label, file, draws);
+    }
+
+    /// A small file with holes, which is mended and nothing more.
+    fn try_holes(&mut self, label: &str, draws: &mut Draws) {
+        let file = independent::cases::holes::file(&mut |n| draws.below(n));
+        self.try_by(mends::alone, &format!("{label}, holes"), &file, draws);
+    }
+
+    /// Compares one file; where the answers differ, prints both, and the lines of the file that are enough for a difference.
+    fn try_by(&mut self, compare: Compare, label: &str, file: &[u8], draws: &mut Draws) {
+        if self.different >= ENOUGH {
             return;
         }
         let before = draws.clone();
@@ -247,7 +294,7 @@ impl Run {
     }
 
     fn try_fees(&mut self, label: &str, draws: &mut Draws) {
-        if self.different == ENOUGH {
+        if self.different >= ENOUGH {
             return;
         }
         let answer = fees::drawn(SPLITS, draws, &mut self.tried);
@@ -277,6 +324,7 @@ impl Run {
         self.every_reading();
         self.every_number();
         self.every_edit();
+        self.every_mend();
     }
 
     /// Files that never break a rule would show nothing of it.
@@ -355,6 +403,25 @@ impl Run {
         }
         if hung == 0 {
             self.too_little("the breaks of no line hang on a line below");
+        }
+    }
+
+    /// The same of what is mended in the drawn files: under every sort of column there are holes, and before everything that ends a cell.
+    fn every_mend(&mut self) {
+        let Mends { sorts, after, .. } = &self.tried.mends;
+        let sorts = (every_sort().into_iter())
+            .filter(|sort| !sorts.contains_key(sort))
+            .map(|(section, sort)| {
+                format!("no hole of section {section} is under a column {sort}")
+            });
+        let ends = (AFTER.iter())
+            .filter(|end| !after.contains_key(*end))
+            .map(|end| format!("no hole stands before {end}"));
+        for lacking in sorts.chain(ends).collect::<Vec<String>>() {
+            self.too_little(&lacking);
+        }
+        if self.tried.mends.mended < self.drawn {
+            self.too_little("few holes are mended");
         }
     }
 
