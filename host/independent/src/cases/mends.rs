@@ -101,8 +101,8 @@ pub fn all() -> Vec<Case> {
     where_null_may_not_stand(&mut c);
     where_such_columns_stand(&mut c);
     names_like_those(&mut c);
-    every_column(&mut c);
-    every_other_column(&mut c);
+    columns(&mut c);
+    other_columns(&mut c);
     optional_and_unknown_columns(&mut c);
     bad_indices_and_undeclared_ids(&mut c);
     empty_names(&mut c);
@@ -326,8 +326,8 @@ fn names_like_those(c: &mut Cases) {
     c.of("an optional accession", file, &[(2, &[2, 3, 4, 5])]);
 }
 
-/// Every column of a section, most of them once.
-fn every_column(c: &mut Cases) {
+/// The columns of a section over one row of holes.
+fn columns(c: &mut Cases) {
     let file = "PRH→accession→description→species→database→database_version→ambiguity_members\
          →modifications→uri→go_terms→taxid→num_psms_ms_run[1]→num_peptides_distinct_ms_run[1]\
          →num_peptides_unique_ms_run[1]→reliability→protein_coverage\
@@ -339,7 +339,7 @@ fn every_column(c: &mut Cases) {
     let cells = &[
         3, 4, 5, 6, 7, 8, 9, 10, 11, 12, 13, 14, 15, 16, 17, 18, 19, 20, 21, 22, 23, 24,
     ];
-    c.of("every column of proteins", file, &[(2, cells)]);
+    c.of("the columns of proteins", file, &[(2, cells)]);
     let file = "PEH→accession→database→database_version→modifications→uri→sequence→spectra_ref\
          →charge→reliability→unique→mass_to_charge→best_search_engine_score[1]\
          →search_engine_score[1]_ms_run[1]→retention_time→retention_time_window→search_engine\
@@ -348,10 +348,10 @@ fn every_column(c: &mut Cases) {
     let cells = &[
         2, 3, 4, 5, 6, 8, 9, 10, 11, 12, 13, 14, 15, 16, 17, 18, 19, 20,
     ];
-    c.of("every column of peptides", file, &[(2, cells)]);
+    c.of("the columns of peptides", file, &[(2, cells)]);
 }
 
-fn every_other_column(c: &mut Cases) {
+fn other_columns(c: &mut Cases) {
     let file = "PSH→sequence→PSM_ID→accession→database→database_version→modifications→uri\
          →spectra_ref→pre→post→start→end→charge→reliability→unique→exp_mass_to_charge\
          →calc_mass_to_charge→search_engine_score[1]→retention_time→search_engine→opt_a\r\n\
@@ -359,7 +359,7 @@ fn every_other_column(c: &mut Cases) {
     let cells = &[
         4, 5, 6, 7, 8, 9, 10, 11, 12, 13, 14, 15, 16, 17, 18, 19, 20, 21, 22,
     ];
-    c.of("every column of PSMs", file, &[(2, cells)]);
+    c.of("the columns of PSMs", file, &[(2, cells)]);
     let file = "SMH→identifier→chemical_formula→smiles→inchi_key→description→species→database\
          →reliability→uri→spectra_ref→modifications→taxid→charge→exp_mass_to_charge\
          →best_search_engine_score[64]→retention_time→search_engine\
@@ -368,7 +368,7 @@ fn every_other_column(c: &mut Cases) {
     let cells = &[
         2, 3, 4, 5, 6, 7, 8, 9, 10, 11, 12, 13, 14, 15, 16, 17, 18, 19, 20,
     ];
-    c.of("every column of small molecules", file, &[(2, cells)]);
+    c.of("the columns of small molecules", file, &[(2, cells)]);
 }
 
 fn optional_and_unknown_columns(c: &mut Cases) {
