@@ -1,5 +1,6 @@
 //! The verified reader of mzTab 1.0 files, safe to call from Rust: [`judge`] judges a file by the 24 rules, [`cell`] shows a cell as the
-//! very bytes that stand there, [`reading`] reads it as a number, [`rows`] counts rows, and [`weights`] and [`split_fee`] split a fee.
+//! very bytes that stand there, [`reading`] reads it as a number, [`rows`] counts rows, [`mend`] fills empty cells, and [`weights`] and
+//! [`split_fee`] split a fee.
 //!
 //! ```
 //! let file = b"SMH\tidentifier\tcharge\nSML\tCID:00027395\t2+\n";
@@ -22,6 +23,15 @@
 //! ```
 //! let edited = b"SMH\tidentifier\tcharge\nSML\tCID:00027395\t2\n";
 //! assert_eq!(mztab::judge_line_all(edited, 2).unwrap().count, 0);
+//! ```
+//!
+//! [`mend`] makes a copy with `null` in each empty cell of a row where it may stand. The copy's breaks are those of the file without the
+//! mended ones:
+//!
+//! ```
+//! let mended = mztab::mend(b"SMH\tidentifier\tcharge\nSML\tCID:00027395\t\n").unwrap();
+//! assert_eq!(mended.copy, b"SMH\tidentifier\tcharge\nSML\tCID:00027395\tnull\n");
+//! assert_eq!(mended.changes, [mztab::Change { line: 2, cell: 3 }]);
 //! ```
 //!
 //! No call keeps what it is lent. Calls may run at the same time; a judging call needs some 350 KB of stack, and a thread of Rust has 2 MB.
@@ -64,6 +74,8 @@ pub enum Refusal {
     NoRow,
     /// The row has no such cell.
     NoCell,
+    /// The copy has no room in the buffer that is lent, or would be longer than [`LIMIT`].
+    NoRoom,
     /// The file breaks a rule, and the answer is only of a file that breaks none. [`judge`] says which, and where.
     NotAccepted,
     /// The weights are not 1 to [`STUDY_VARIABLES`], or the shares are not as many as they.
@@ -82,6 +94,7 @@ impl Refusal {
             Refusal::NoSection => 2,
             Refusal::NoRow => 3,
             Refusal::NoCell => 4,
+            Refusal::NoRoom => 5,
             Refusal::NotAccepted => 7,
             Refusal::NotAsMany => 15,
             Refusal::TooLarge => 16,
@@ -97,6 +110,9 @@ impl fmt::Display for Refusal {
             Refusal::NoSection => "the section is not 1 to 4",
             Refusal::NoRow => "there is no such row, or no such line",
             Refusal::NoCell => "the row has no such cell",
+            Refusal::NoRoom => {
+                "the copy has no room in the buffer, or would be longer than 16,777,216 bytes"
+            }
             Refusal::NotAccepted => "the file breaks a rule",
             Refusal::NotAsMany => "the weights are not 1 to 64, or the shares are not as many",
             Refusal::TooLarge => {
@@ -117,6 +133,7 @@ fn refused(number: u32) -> Result<(), Refusal> {
         2 => Err(Refusal::NoSection),
         3 => Err(Refusal::NoRow),
         4 => Err(Refusal::NoCell),
+        5 => Err(Refusal::NoRoom),
         7 => Err(Refusal::NotAccepted),
         15 => Err(Refusal::NotAsMany),
         16 => Err(Refusal::TooLarge),
@@ -244,6 +261,104 @@ fn broken(places: &[u32]) -> Break {
         cell: places[2],
         first: places[3],
     }
+}
+
+/// A cell that was empty and holds `null` in the copy. It has the same line and cell in both.
+#[derive(Clone, Copy, Debug, PartialEq, Eq)]
+pub struct Change {
+    pub line: u32,
+    pub cell: u32,
+}
+
+/// A mended copy of a file, and all that was changed in it, by line, then cell.
+#[derive(Clone, Debug, PartialEq, Eq)]
+pub struct Mended {
+    pub copy: Vec<u8>,
+    pub changes: Vec<Change>,
+}
+
+/// How many bytes a mended copy has, and how many cells of it were changed.
+#[derive(Clone, Copy, Debug, PartialEq, Eq)]
+pub struct Copied {
+    pub length: usize,
+    pub count: u32,
+}
+
+/// Copies a file, with `null` in every cell that breaks rule 19, an empty cell of a row, save in the columns where `null` may not stand:
+/// protein `accession`, peptide and PSM `sequence`, and `PSM_ID`. Every other byte follows in order. The file need not be accepted. The
+/// copy's breaks are those of the file without the mended ones; so mending it again changes nothing.
+///
+/// A copy that would be longer than [`LIMIT`] is refused, [`Refusal::NoRoom`].
+///
+/// One call makes the copy, in a buffer with room for `null` in every empty cell of the file, and never longer than the limit.
+///
+/// ```
+/// let file = b"PRH\taccession\tdescription\nPRT\t\t\r\nCOM\t";
+/// let mended = mztab::mend(file).unwrap();
+/// assert_eq!(mended.copy, b"PRH\taccession\tdescription\nPRT\t\tnull\r\nCOM\t");
+/// assert_eq!(mended.changes, [mztab::Change { line: 2, cell: 3 }]);
+/// assert_eq!(mztab::mend(&mended.copy).unwrap().copy, mended.copy);
+/// ```
+pub fn mend(file: &[u8]) -> Result<Mended, Refusal> {
+    let most = most_changes(file);
+    // Pages of zeros that nothing is written to take no memory, so what the two are too long by costs nothing.
+    let mut copy = vec![0; (file.len() + NULL.len() * most).min(LIMIT)];
+    let mut places = vec![0; CHANGE_PLACES * most];
+    let copied = mend_into(file, &mut copy, &mut places)?;
+    copy.truncate(copied.length);
+    let listed = places.chunks_exact(CHANGE_PLACES);
+    Ok(Mended {
+        copy,
+        changes: listed.take(copied.count as usize).map(changed).collect(),
+    })
+}
+
+/// Mends as [`mend`] does, into a buffer and a list that are lent. The copy has four bytes more than the file for each change; a shorter
+/// buffer is refused, [`Refusal::NoRoom`]. The list has two places for each change, line and cell. A short one holds the first changes, and
+/// the count is of all. The bytes past the copy and the places past the last whole change stay as they were; where it is refused, all do.
+///
+/// ```
+/// let file = b"SMH\tidentifier\tcharge\nSML\t\t";
+/// let (mut copy, mut changes) = ([b'-'; 39], [0; 2]);
+/// let copied = mztab::mend_into(file, &mut copy, &mut changes).unwrap();
+/// assert_eq!((copied.length, copied.count), (file.len() + 8, 2));
+/// assert_eq!(&copy, b"SMH\tidentifier\tcharge\nSML\tnull\tnull----");
+/// assert_eq!(changes, [2, 2]);
+/// let refused = mztab::mend_into(file, &mut copy[..34], &mut changes);
+/// assert_eq!(refused, Err(mztab::Refusal::NoRoom));
+/// ```
+pub fn mend_into(file: &[u8], copy: &mut [u8], changes: &mut [u32]) -> Result<Copied, Refusal> {
+    let mended = raw::mend(file, copy, changes);
+    refused(mended.number).map(|()| Copied {
+        length: mended.length,
+        count: mended.count,
+    })
+}
+
+/// What stands in a mended cell.
+const NULL: &[u8] = b"null";
+
+/// A change has so many places in a list of plain places.
+const CHANGE_PLACES: usize = 2;
+
+/// The change that its places hold.
+fn changed(places: &[u32]) -> Change {
+    Change {
+        line: places[0],
+        cell: places[1],
+    }
+}
+
+/// No more cells than this can be mended: so many after a tab have no byte before the next tab, CR or LF, and no more fit into a copy
+/// within the limit.
+///
+/// To count them takes a fraction of the time of the call, which a buffer that is too short would cost a second time; and room for five
+/// times the file's bytes, which is always enough, would be far too much for most files.
+fn most_changes(file: &[u8]) -> usize {
+    let after_tabs = file.split(|byte| *byte == b'\t').skip(1);
+    let empty = after_tabs.filter(|part| matches!(part.first(), None | Some(b'\r' | b'\n')));
+    let fit = LIMIT.saturating_sub(file.len()) / NULL.len();
+    empty.take(fit).count()
 }
 
 /// Shows a cell as a part of the file. Sections: 1 protein, 2 peptide, 3 PSM, 4 small molecule. Row 0 is the section's first header, row r

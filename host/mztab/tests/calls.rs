@@ -823,6 +823,7 @@ fn refusals_have_their_numbers_and_words() {
         (Refusal::NoSection, 2),
         (Refusal::NoRow, 3),
         (Refusal::NoCell, 4),
+        (Refusal::NoRoom, 5),
         (Refusal::NotAccepted, 7),
         (Refusal::NotAsMany, 15),
         (Refusal::TooLarge, 16),
@@ -835,4 +836,6 @@ fn refusals_have_their_numbers_and_words() {
     // One number for both.
     let words = "there is no such row, or no such line";
     assert_eq!(Refusal::NoRow.to_string(), words);
+    let words = "the copy has no room in the buffer, or would be longer than 16,777,216 bytes";
+    assert_eq!(Refusal::NoRoom.to_string(), words);
 }

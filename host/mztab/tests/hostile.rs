@@ -1,7 +1,7 @@
 //! Hostile files of 16 MB, each on a thread with a stack of 2 MB: the count of breaks is right and no call needs more. Under an emulator, which is slow,
 //! they are of 1 MB.
 
-use mztab::{cell, judge, judge_line, reading, rows, weights, Refusal, LIMIT};
+use mztab::{cell, count, judge, judge_line, mend, reading, rows, weights, Refusal, LIMIT};
 use samples::{hostile, Hostile};
 
 const STACK: usize = 2 * 1024 * 1024;
@@ -52,6 +52,7 @@ fn every_call(sample: &Hostile) {
     let expected = Some(Refusal::NotAccepted).filter(|_| !accepted);
     assert_eq!(weighed.err(), expected, "{}", sample.name);
     lines(sample);
+    mended(sample);
 }
 
 /// The last line and one in the middle, each judged by itself, and the line after the last, which is none.
@@ -80,16 +81,51 @@ fn lines(sample: &Hostile) {
     assert_eq!(after, Err(Refusal::NoRow), "{name}");
 }
 
+/// The name of the one file that has cells to mend.
+const EMPTY_CELLS: &str = "rows of empty cells";
+
+/// The mended copy: it has fewer breaks, or it is the file itself, or it has no room within the limit.
+fn mended(sample: &Hostile) {
+    let (file, name) = (&sample.file, sample.name);
+    let mended = match mend(file) {
+        Ok(mended) => mended,
+        Err(refusal) => {
+            assert_eq!((refusal, name), (Refusal::NoRoom, EMPTY_CELLS));
+            assert!(file.len() > LIMIT / 5);
+            return;
+        }
+    };
+    let changed = mended.changes.len();
+    assert_eq!(changed > 0, name == EMPTY_CELLS, "{name}");
+    assert_eq!(mended.copy.len(), file.len() + 4 * changed, "{name}");
+    assert!(changed > 0 || mended.copy == *file, "{name}");
+    let left = count(&mended.copy).expect(name);
+    assert_eq!(left, sample.breaks - changed as u32, "{name}");
+}
+
+/// Does the work on a thread with a small stack.
+fn on_a_small_stack(sample: Hostile, work: fn(&Hostile)) {
+    let thread = std::thread::Builder::new().stack_size(STACK);
+    let name = sample.name;
+    let ended = thread
+        .spawn(move || work(&sample))
+        .expect("a thread")
+        .join();
+    assert!(ended.is_ok(), "{name}");
+}
+
 #[test]
 fn on_a_stack_of_two_megabytes() {
     for sample in hostile(bytes()) {
         assert_eq!(sample.file.len(), bytes(), "{}", sample.name);
-        let thread = std::thread::Builder::new().stack_size(STACK);
-        let name = sample.name;
-        let ended = thread
-            .spawn(move || every_call(&sample))
-            .expect("a thread")
-            .join();
-        assert!(ended.is_ok(), "{name}");
+        on_a_small_stack(sample, every_call);
+    }
+}
+
+/// Files of a fifth of the length, whose copies have room whatever is mended.
+#[test]
+fn mended_on_a_stack_of_two_megabytes() {
+    for sample in hostile(bytes() / 5) {
+        on_a_small_stack(sample, mended);
     }
 }
