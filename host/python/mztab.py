@@ -12,6 +12,10 @@ of one line, judged under the whole file, which is all that the edit of one cell
 
     print(mztab.judge_line(data, 8))
 
+a copy with null in the empty cells where it may stand, and what was changed
+
+    copy, changes = mztab.mend(data)
+
 and of an accepted file, with study variables, a fee in cents over them
 
     data = open("fee.mztab", "rb").read()
@@ -38,6 +42,8 @@ _U32_MAX = 0xFFFFFFFF
 _U64_MAX = 0xFFFFFFFFFFFFFFFF
 # The first list has room for so many breaks; only a file with more is judged twice.
 _FIRST_LIST = 4096
+# What stands in a mended cell.
+_NULL = b"null"
 
 
 class Refusal(Exception):
@@ -68,6 +74,12 @@ class NoCell(Refusal):
     """The row has no such cell."""
 
     number = 4
+
+
+class NoRoom(Refusal):
+    """The copy would be longer than 16,777,216 bytes."""
+
+    number = 5
 
 
 class NotAccepted(Refusal):
@@ -109,6 +121,20 @@ class Break(NamedTuple):
     first: int
 
 
+class Change(NamedTuple):
+    """A cell that was empty and holds `null` in the copy. It has the same line and cell in both."""
+
+    line: int
+    cell: int
+
+
+class Mended(NamedTuple):
+    """A mended copy of a file, and all that was changed in it, by line, then cell."""
+
+    copy: bytes
+    changes: List[Change]
+
+
 class Reading(NamedTuple):
     """What a cell reads as, and where it stands.
 
@@ -127,7 +153,7 @@ class Reading(NamedTuple):
 
 
 _CASES = ("missing", "whole", "decimal", "infinite", "not a number", "long decimal", "text")
-_REFUSALS = {kind.number: kind for kind in (TooLong, NoSection, NoRow, NoCell, NotAccepted, NotAsMany, TooLarge, AllZero)}
+_REFUSALS = {kind.number: kind for kind in (TooLong, NoSection, NoRow, NoCell, NoRoom, NotAccepted, NotAsMany, TooLarge, AllZero)}
 
 
 def _load():
@@ -164,6 +190,8 @@ def _typed(library):
     library.mztab_judge.restype = u32
     library.mztab_judge_line.argtypes = file + [u32, u32_place, size, u32_place]
     library.mztab_judge_line.restype = u32
+    library.mztab_mend.argtypes = file + [ctypes.POINTER(ctypes.c_char), size, u32_place, size, u32_place, u32_place]
+    library.mztab_mend.restype = size
     library.mztab_rows.argtypes = file + [u32, u32_place]
     library.mztab_rows.restype = u32
     library.mztab_weights.argtypes = file + [u32_place, size, u32_place]
@@ -260,6 +288,33 @@ def _filled(room: int, call):
     found = call(places, number)
     _refuse(number.value)
     return found, places
+
+
+def mend(data: bytes) -> Mended:
+    """A copy with `null` in every cell that breaks rule 19, an empty cell of a row, and line and cell of each change.
+
+    The columns where `null` may not stand, protein `accession`, peptide and PSM `sequence`, and `PSM_ID`, stay as they are, and so does every other byte.
+    The file need not be accepted. The copy's breaks are those of the file without the mended ones; so mending it again changes nothing. Raises TooLong,
+    NoRoom, in this order.
+    """
+    data = _bytes(data)
+    most = _most_changes(data)
+    room = min(len(data) + len(_NULL) * most, LIMIT)
+    # One byte and one place more are made than are lent, as for a list of breaks.
+    copy, places = (ctypes.c_char * (room + 1))(), (ctypes.c_uint32 * (2 * most + 1))()
+    number, found = ctypes.c_uint32(), ctypes.c_uint32()
+    length = _library.mztab_mend(data, len(data), copy, room, places, 2 * most, number, found)
+    _refuse(number.value)
+    return Mended(ctypes.string_at(copy, length), [Change(places[k], places[k + 1]) for k in range(0, 2 * found.value, 2)])
+
+
+def _most_changes(data: bytes) -> int:
+    """No more cells than this can be mended. One that is stands between a tab and the next tab, or the line's end; and the copy is within the limit.
+
+    Among tabs side by side there are at most twice as many such cells as pairs. To count them takes little time, and so one call is enough.
+    """
+    empty = 2 * data.count(b"\t\t") + data.count(b"\t\n") + data.count(b"\t\r\n") + data.endswith(b"\t")
+    return min(empty, max(LIMIT - len(data), 0) // len(_NULL))
 
 
 def cell(data: bytes, section: int, row: int, column: int, stand_in: Optional[bytes] = None) -> bytes:

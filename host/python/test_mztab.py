@@ -230,22 +230,122 @@ class Lines(unittest.TestCase):
             for found in pool.map(mztab.judge_line, [YEAST] * 100, [8] * 100):
                 self.assertEqual(found, [(8, 6, 19, 0)])
 
-    def test_a_library_without_the_call(self):
-        class Call:
-            pass
 
-        class Earlier:
-            """The calls of the version before, each of which can be given its types."""
+# The calls of the version before judge_line, and of that before mend.
+BEFORE_LINES = ("cell", "cell_or", "reading", "judge", "rows", "weights", "add_cents", "split_fee")
+BEFORE_MEND = BEFORE_LINES + ("judge_line",)
 
-            def __init__(self):
-                for name in ("cell", "cell_or", "reading", "judge", "rows", "weights", "add_cents", "split_fee"):
-                    setattr(self, "mztab_" + name, Call())
 
-        with self.assertRaises(AttributeError):
-            mztab._typed(Earlier())
-        with unittest.mock.patch("ctypes.CDLL", lambda path: Earlier()):
-            with self.assertRaisesRegex(ImportError, r"is of an earlier version \(.*mztab_judge_line.*\): run \./build"):
-                mztab._load()
+class Earlier:
+    """A library with these calls, each of which can be given its types."""
+
+    class Call:
+        pass
+
+    def __init__(self, names):
+        for name in names:
+            setattr(self, "mztab_" + name, self.Call())
+
+
+class Versions(unittest.TestCase):
+    def test_a_library_without_a_call(self):
+        for names, lacking in [(BEFORE_LINES, "mztab_judge_line"), (BEFORE_MEND, "mztab_mend")]:
+            with self.assertRaisesRegex(AttributeError, lacking):
+                mztab._typed(Earlier(names))
+            with unittest.mock.patch("ctypes.CDLL", lambda path: Earlier(names)):
+                with self.assertRaisesRegex(ImportError, rf"is of an earlier version \(.*{lacking}.*\): run \./build"):
+                    mztab._load()
+
+
+class Mending(unittest.TestCase):
+    HOLES = b"SMH\tidentifier\tcharge\tx\r\nSML\t\tx\t\r\nCOM\t\t\nSML\tC1\t\t"
+    FILLED = b"SMH\tidentifier\tcharge\tx\r\nSML\tnull\tx\tnull\r\nCOM\t\t\nSML\tC1\tnull\tnull"
+
+    def mends(self, file, copy, changes):
+        """The copy and the changes are these; its breaks are those of the file without the mended ones; mending it again changes nothing."""
+        found = mztab.mend(file)
+        self.assertEqual(found, (copy, changes), file)
+        self.assertEqual(len(copy), len(file) + 4 * len(changes))
+        left = [fault for fault in mztab.judge(file) if fault.rule != 19 or fault[:2] not in changes]
+        self.assertEqual(mztab.judge(copy), left, file)
+        self.assertEqual(mztab.mend(copy), (copy, []), file)
+
+    def test_the_papers_example(self):
+        copy = YEAST.replace(b"\tdb\tnull\t\n", b"\tdb\tnull\tnull\n")
+        self.mends(YEAST, copy, [(8, 6)])
+        self.assertEqual(mztab.mend(YEAST), mztab.Mended(copy=copy, changes=[mztab.Change(line=8, cell=6)]))
+
+    def test_nothing_to_mend(self):
+        for file in (ACCEPTED, EXPONENTS, FEE, b"", b"\t", b"\n", b"\r", b"x\t\t", b"SML\t\t", b"MTD\ttitle\t"):
+            self.mends(file, file, [])
+
+    def test_every_line_end(self):
+        self.mends(self.HOLES, self.FILLED, [(2, 2), (2, 4), (4, 3), (4, 4)])
+        for end in (b"", b"\n", b"\r\n", b"\n\n"):
+            self.mends(self.HOLES + end, self.FILLED + end, [(2, 2), (2, 4), (4, 3), (4, 4)])
+        # A CR that no LF follows is part of the cell, which is not empty then.
+        self.mends(self.HOLES + b"\r", self.FILLED[:-4] + b"\r", [(2, 2), (2, 4), (4, 3)])
+
+    def test_where_null_may_not_stand(self):
+        names = [b"sequence", b"accession", b"PSM_ID", b"charge"]
+        for code, unfit in [(b"PR", {b"accession"}), (b"PE", {b"sequence"}), (b"PS", {b"sequence", b"PSM_ID"}), (b"SM", set())]:
+            row = {b"PR": b"PRT", b"PE": b"PEP", b"PS": b"PSM", b"SM": b"SML"}[code]
+            header = b"\t".join([code + b"H"] + names)
+            cells = [b"" if name in unfit else b"null" for name in names]
+            changes = [(2, cell) for cell, name in enumerate(names, 2) if name not in unfit]
+            self.mends(header + b"\n" + row + b"\t" * 4, header + b"\n" + b"\t".join([row] + cells), changes)
+
+    def test_zero_bytes_are_bytes(self):
+        self.mends(b"SMH\tcharge\topt_a\nSML\t\t\0\0\n\0", b"SMH\tcharge\topt_a\nSML\tnull\t\0\0\n\0", [(2, 2)])
+
+    def test_cells_that_look_empty(self):
+        # No fewer than can be mended, and not many more.
+        for file, empty, most in [
+            (b"", 0, 0),
+            (b"a\tb\nc\td", 0, 0),
+            (b"\t", 1, 1),
+            (b"\t\t", 2, 3),
+            (b"\t\t\t", 3, 3),
+            (b"\t\n\t\r\n\t\t\n", 4, 5),
+            (b"\t\r", 0, 0),
+        ]:
+            self.assertEqual(mztab._most_changes(file), most, file)
+            self.assertGreaterEqual(most, empty, file)
+        for tabs in range(300):
+            self.assertGreaterEqual(mztab._most_changes(b"SML" + b"\t" * tabs), tabs)
+        self.assertEqual(mztab._most_changes(b"\t" * mztab.LIMIT), 0)
+        self.assertEqual(mztab._most_changes(LONG), 0)
+
+    def test_the_limit(self):
+        file = self.HOLES + b"\n" * (mztab.LIMIT - 16 - len(self.HOLES))
+        copy, changes = mztab.mend(file)
+        self.assertEqual((len(copy), len(changes)), (mztab.LIMIT, 4))
+        self.assertTrue(copy.startswith(self.FILLED))
+        with self.assertRaises(mztab.NoRoom) as caught:
+            mztab.mend(file + b"\n")
+        self.assertEqual((caught.exception.number, str(caught.exception)), (5, "The copy would be longer than 16,777,216 bytes."))
+        with self.assertRaises(mztab.TooLong):
+            mztab.mend(self.HOLES + LONG)
+        self.assertEqual(mztab.mend(LONG[1:]), (LONG[1:], []))
+
+    def test_many_changes(self):
+        header = b"SMH\tidentifier\tcharge\n"
+        copy, changes = mztab.mend(header + b"SML\t\t\n" * 100_000)
+        self.assertEqual(copy, header + b"SML\tnull\tnull\n" * 100_000)
+        self.assertEqual(changes, [(line, cell) for line in range(2, 100_002) for cell in (2, 3)])
+
+    def test_bytes_of_other_sorts(self):
+        for file in (bytearray(self.HOLES), memoryview(self.HOLES)):
+            self.assertEqual(mztab.mend(file).copy, self.FILLED)
+        self.assertIs(type(mztab.mend(bytearray(self.HOLES)).copy), bytes)
+        for file in ("text", None, 1.5):
+            with self.assertRaises(TypeError):
+                mztab.mend(file)
+
+    def test_many_at_once(self):
+        with concurrent.futures.ThreadPoolExecutor(8) as pool:
+            for found in pool.map(mztab.mend, [self.HOLES] * 100):
+                self.assertEqual(found.copy, self.FILLED)
 
 
 class Cells(unittest.TestCase):
