@@ -1,83 +1,19 @@
 //! The tool as its users run it, on small files in folders of their own below target/.
 
 mod common;
+#[path = "common/folder.rs"]
+mod folder;
 
 use std::ffi::OsStr;
 use std::fs;
-use std::io::Write;
 use std::os::unix::ffi::OsStrExt;
 use std::os::unix::fs::{symlink, PermissionsExt};
-use std::path::PathBuf;
-use std::process::{Command, Stdio};
+use std::process::Stdio;
 
 use common::Run;
+use folder::{headed, on_a_terminal, Folder, HEAD};
 use mztab::RULES;
 use samples::{Export, EXPORTS};
-
-/// Nine lines, with all that a Summary Identification file of proteins and small molecules needs.
-const HEAD: &str =
-    "MTD\tmzTab-version\t1.0.0\nMTD\tmzTab-mode\tSummary\nMTD\tmzTab-type\tIdentification\n\
-    MTD\tdescription\tYeast check\nMTD\tms_run[1]-location\tfile:///a.mzML\n\
-    MTD\tprotein_search_engine_score[1]\t[, , a score, ]\nMTD\tsmallmolecule_search_engine_score[1]\t[, , a score, ]\n\
-    MTD\tfixed_mod[1]\t[, , none, ]\nMTD\tvariable_mod[1]\t[, , none, ]\n";
-
-/// A folder of this test alone, empty.
-struct Folder(PathBuf);
-
-impl Folder {
-    fn new(name: &str) -> Folder {
-        let path = PathBuf::from(env!("CARGO_TARGET_TMPDIR")).join(name);
-        let _ = fs::remove_dir_all(&path);
-        fs::create_dir_all(&path).unwrap();
-        Folder(path)
-    }
-
-    fn write(&self, name: &str, bytes: impl AsRef<[u8]>) -> &Folder {
-        let path = self.0.join(name);
-        fs::create_dir_all(path.parent().unwrap()).unwrap();
-        fs::write(path, bytes).unwrap();
-        self
-    }
-
-    /// The names in it, sorted: hidden ones too.
-    fn names(&self) -> Vec<String> {
-        let entries = fs::read_dir(&self.0).unwrap();
-        let mut names: Vec<String> = entries
-            .map(|entry| entry.unwrap().file_name().into_string().unwrap())
-            .collect();
-        names.sort();
-        names
-    }
-
-    /// The tool, to be run in this folder.
-    fn command(&self, words: &[&str]) -> Command {
-        let mut command = common::tool();
-        command
-            .args(words)
-            .current_dir(&self.0)
-            .env_remove("NO_COLOR");
-        command
-    }
-
-    fn run(&self, words: &[&str]) -> Run {
-        Run::of(self.command(words).stdin(Stdio::null()).output().unwrap())
-    }
-
-    fn run_with_input(&self, words: &[&str], input: &[u8]) -> Run {
-        let mut command = self.command(words);
-        command
-            .stdin(Stdio::piped())
-            .stdout(Stdio::piped())
-            .stderr(Stdio::piped());
-        let mut child = command.spawn().unwrap();
-        child.stdin.take().unwrap().write_all(input).unwrap();
-        Run::of(child.wait_with_output().unwrap())
-    }
-}
-
-fn headed(rest: &str) -> String {
-    format!("{HEAD}{rest}")
-}
 
 #[test]
 fn an_accepted_file() {
@@ -365,6 +301,18 @@ fn columns_that_a_quantification_file_needs() {
     assert!(run.out.starts_with(expected), "{}", run.out);
     let run = folder.run(&["check", "i.mztab"]);
     assert!(!run.out.contains("rule 16"), "{}", run.out);
+}
+
+/// The header is as long as half of a file may be, and 200,000 rows below it have another number of cells.
+#[test]
+fn a_long_header_over_many_rows() {
+    let folder = Folder::new("long header");
+    let header = format!("SMH\tidentifier\tcharge\topt_{}\n", "x".repeat(8_000_000));
+    folder.write("l.mztab", headed(&header) + &"SML\n".repeat(200_000));
+    let run = folder.run(&["check", "l.mztab"]);
+    let last = "l.mztab:200010:1: rule 18: row has another number of cells: `SML`, the row has 1 cell, its header 4 cells\n";
+    assert!(run.out.contains(last));
+    assert!(run.out.ends_with("; 200,000 breaks in all\n"));
 }
 
 #[test]
@@ -695,22 +643,6 @@ fn a_reader_that_leaves_early() {
     drop(child.stdout.take());
     let run = Run::of(child.wait_with_output().unwrap());
     assert_eq!((run.status, run.error.as_str()), (141, ""));
-}
-
-/// What the tool prints on a terminal, which `script` stands in for; nothing where there is no such program.
-fn on_a_terminal(folder: &Folder, words: &str) -> Option<String> {
-    let runner = std::env::var("BOLFRAKE_RUNNER").unwrap_or_default();
-    let line = format!("{runner} '{}' {words}", env!("CARGO_BIN_EXE_bolfrake"));
-    let mut command = Command::new("script");
-    command
-        .args(["-qec", &line, "/dev/null"])
-        .current_dir(&folder.0);
-    command
-        .env("TERM", "xterm")
-        .env_remove("NO_COLOR")
-        .stdin(Stdio::null());
-    let output = command.output().ok()?;
-    Some(String::from_utf8(output.stdout).unwrap())
 }
 
 #[test]

@@ -10,11 +10,9 @@ mod print;
 use std::ffi::OsString;
 use std::io::{self, Write};
 use std::os::unix::ffi::OsStringExt;
-use std::path::Path;
 
 use crate::ask::question::Question;
-use crate::files::save::save;
-use crate::output::show;
+use crate::files::new::{New, Written};
 use crate::output::terminal;
 use crate::output::write::Format;
 use crate::words::failure::Failure;
@@ -25,30 +23,17 @@ use print::Report;
 struct Options {
     format: Format,
     /// Where the edited copy is written to.
-    new: Option<OsString>,
-    /// Whether a file that stands there is written over.
-    force: bool,
-}
-
-/// Where the edited copy was written to.
-pub enum Written {
-    Nowhere,
-    Output,
-    /// A file, by its name as it is printed.
-    File(String),
+    new: New,
 }
 
 /// FILE SECTION ROW COLUMN TEXT
 pub fn run(words: Words) -> Result<u8, Failure> {
     let mut options = Options {
         format: Format::for_people(),
-        new: None,
-        force: false,
+        new: New::default(),
     };
     let plain = words.sort(|name, words| option(name, words, &mut options))?;
-    if options.force && options.new.is_none() {
-        return Err(misused("edit", "takes --force beside -o NEW alone"));
-    }
+    options.new.hold_together("edit")?;
     let [file, section, row, column, text]: [OsString; 5] = match plain.try_into() {
         Ok(five) => five,
         Err(_) => {
@@ -58,41 +43,21 @@ pub fn run(words: Words) -> Result<u8, Failure> {
     };
     let asked = Question::new("edit", [file, section, row, column])?;
     let change = Change::new(asked, text.into_vec())?;
-    let written = write_copy(&options, change.edited())?;
+    let written = options.new.write(change.edited())?;
     tell(&change, options.format, &written)?;
     Ok(u8::from(change.after().count > 0))
 }
 
 fn option(name: &str, words: &mut Words, options: &mut Options) -> Result<bool, Failure> {
-    match name {
-        "--format" => options.format = Format::named(words.choice(name, &Format::NAMES)?),
-        "-o" => options.new = Some(words.value(name)?),
-        "--force" => options.force = true,
-        _ => {
-            let words_for_it =
-                format!("takes no option `{name}`: where that is the TEXT, write -- before it");
-            return Err(words.misused(&words_for_it));
-        }
+    if name == "--format" {
+        options.format = Format::named(words.choice(name, &Format::NAMES)?);
+        return Ok(true);
     }
-    Ok(true)
-}
-
-/// Writes the edited copy where one is asked for.
-fn write_copy(options: &Options, edited: &[u8]) -> Result<Written, Failure> {
-    match &options.new {
-        None => Ok(Written::Nowhere),
-        Some(new) if new == "-" => {
-            let mut output = io::stdout().lock();
-            output.write_all(edited)?;
-            output.flush()?;
-            Ok(Written::Output)
-        }
-        Some(new) => {
-            let path = Path::new(new);
-            save(path, edited, options.force)?;
-            Ok(Written::File(show::path(path)))
-        }
+    if options.new.option(name, words)? {
+        return Ok(true);
     }
+    let hint = format!("takes no option `{name}`: where that is the TEXT, write -- before it");
+    Err(words.misused(&hint))
 }
 
 /// Prints the report: on standard output, or on standard error where the edited copy has that.

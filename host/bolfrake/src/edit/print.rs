@@ -6,7 +6,7 @@ use mztab::Judged;
 
 use super::change::Change;
 use super::fate::{fates, Fate};
-use super::Written;
+use crate::files::new::Written;
 use crate::output::pages::Titles;
 use crate::output::show;
 use crate::output::terminal::Colours;
@@ -87,12 +87,7 @@ fn as_json(change: &Change, written: &Written, out: &mut Vec<u8>) -> io::Result<
     breaks(change, change.file(), change.before(), out)?;
     out.write_all(b"], \"breaks_after\": [")?;
     breaks(change, change.edited(), change.after(), out)?;
-    let written = match written {
-        Written::Nowhere => "null".to_string(),
-        Written::Output => json("-"),
-        Written::File(name) => json(name),
-    };
-    writeln!(out, "], \"written\": {written}}}")
+    writeln!(out, "], \"written\": {}}}", written.json())
 }
 
 fn breaks(change: &Change, file: &[u8], judged: &Judged, out: &mut Vec<u8>) -> io::Result<()> {
@@ -157,10 +152,6 @@ fn counts(change: &Change) -> String {
 
 /// What became of the edited copy.
 fn copy(change: &Change, written: &Written) -> String {
-    let bytes = show::counted(change.edited().len() as u64, "byte");
-    match written {
-        Written::Nowhere => "nothing was written: -o NEW writes the edited copy".to_string(),
-        Written::Output => format!("the edited copy was written to standard output: {bytes}"),
-        Written::File(name) => format!("{name} was written: {bytes}"),
-    }
+    let line = written.line("edited", change.edited());
+    line.unwrap_or_else(|| "nothing was written: -o NEW writes the edited copy".to_string())
 }

@@ -3,6 +3,7 @@
 pub mod finder;
 pub mod judged;
 pub mod mode_and_type;
+pub mod new;
 pub mod save;
 pub mod tables;
 mod unread;

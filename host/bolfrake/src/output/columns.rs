@@ -3,33 +3,43 @@
 /// Lines of as many cells each, every column as wide as its widest cell. The columns that `left` names are laid to the left, the others, which hold
 /// numbers, to the right.
 pub fn table<L: AsRef<[String]>>(lines: &[L], left: &[usize]) -> String {
-    let count = lines.first().map_or(0, |line| line.as_ref().len());
-    let widths: Vec<usize> = (0..count).map(|k| width(lines, k)).collect();
-    let laid_out = lines
-        .iter()
-        .map(|line| laid_out(line.as_ref(), &widths, left));
+    let mut widths = Widths::default();
+    for line in lines {
+        widths.fit(line.as_ref());
+    }
+    let laid_out = lines.iter().map(|line| widths.lay(line.as_ref(), left));
     laid_out.collect()
 }
 
-fn width<L: AsRef<[String]>>(lines: &[L], k: usize) -> usize {
-    let widths = lines.iter().map(|line| line.as_ref()[k].chars().count());
-    widths.max().unwrap_or(0)
-}
+/// The widths of a table's columns, for lines that are not all held at once.
+#[derive(Default)]
+pub struct Widths(Vec<usize>);
 
-fn laid_out(line: &[String], widths: &[usize], left: &[usize]) -> String {
-    let mut out = String::new();
-    for (k, (cell, width)) in line.iter().zip(widths).enumerate() {
-        if k > 0 {
-            out += "  ";
-        }
-        let space = " ".repeat(width - cell.chars().count());
-        if left.contains(&k) {
-            out += &format!("{cell}{space}");
-        } else {
-            out += &format!("{space}{cell}");
+impl Widths {
+    /// Makes the columns as wide as this line needs.
+    pub fn fit(&mut self, line: &[String]) {
+        self.0.resize(line.len(), 0);
+        for (width, cell) in self.0.iter_mut().zip(line) {
+            *width = cell.chars().count().max(*width);
         }
     }
-    out + "\n"
+
+    /// A line of the table, once all were fitted.
+    pub fn lay(&self, line: &[String], left: &[usize]) -> String {
+        let mut out = String::new();
+        for (k, (cell, width)) in line.iter().zip(&self.0).enumerate() {
+            if k > 0 {
+                out += "  ";
+            }
+            let space = " ".repeat(width - cell.chars().count());
+            if left.contains(&k) {
+                out += &format!("{cell}{space}");
+            } else {
+                out += &format!("{space}{cell}");
+            }
+        }
+        out + "\n"
+    }
 }
 
 #[cfg(test)]

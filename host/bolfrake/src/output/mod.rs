@@ -2,6 +2,7 @@
 
 pub mod columns;
 pub mod in_order;
+pub mod names;
 pub mod pages;
 pub mod show;
 pub mod terminal;

@@ -5,6 +5,7 @@ use mztab::Break;
 
 use crate::files::finder::{cells, code, Finder};
 use crate::files::mode_and_type::is_quantified;
+use crate::output::names::Names;
 use crate::output::pages::Titles;
 use crate::output::show;
 
@@ -24,9 +25,7 @@ pub struct Teller<'a> {
     finder: Finder<'a>,
     /// Whether the file is one of Quantification, once that was asked.
     quantified: Option<bool>,
-    /// A header, and its cells as they are shown: many breaks name the same.
-    header: &'a [u8],
-    columns: Vec<String>,
+    names: Names<'a>,
 }
 
 impl<'a> Teller<'a> {
@@ -36,8 +35,7 @@ impl<'a> Teller<'a> {
             file,
             finder: Finder::new(file),
             quantified: None,
-            header: b"",
-            columns: Vec::new(),
+            names: Names::default(),
         }
     }
 
@@ -71,12 +69,16 @@ impl<'a> Teller<'a> {
             13 => format!("first in cell {}", at.first),
             7 | 8 => for_key(line),
             16 => format!("the header has no {}", self.lacking(line)),
-            18 => format!(
-                "the row has {}, its header {}",
-                count(line),
-                count(self.finder.header())
-            ),
-            19 | 20 => format!("in the column `{}`", self.column(at.cell)),
+            18 => {
+                let names = self.names.all(self.finder.header());
+                let header = show::counted(names.len() as u64, "cell");
+                format!("the row has {}, its header {header}", count(line))
+            }
+            // A row that breaks one of these stands under a header of its own width.
+            19 | 20 => {
+                let name = self.names.of(self.finder.header(), at.cell);
+                format!("in the column `{name}`")
+            }
             23 | 24 if is_value(line, at.cell) => format!("{}, {}", for_key(line), unfit(cell)),
             23 | 24 => unfit(cell),
             _ => String::new(),
@@ -102,17 +104,6 @@ impl<'a> Teller<'a> {
     fn quantified(&mut self) -> bool {
         let file = self.file;
         *self.quantified.get_or_insert_with(|| is_quantified(file))
-    }
-
-    /// The name of a cell's column. A row that breaks rule 19 or 20 stands under a header of its own width.
-    fn column(&mut self, cell: u32) -> &str {
-        let header = self.finder.header();
-        if !std::ptr::eq(header, self.header) {
-            self.header = header;
-            self.columns = cells(header).map(show::cell).collect();
-        }
-        let name = self.columns.get((cell as usize).wrapping_sub(1));
-        name.map_or("", String::as_str)
     }
 }
 
