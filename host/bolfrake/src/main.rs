@@ -1,4 +1,4 @@
-//! `bolfrake`: judges mzTab 1.0 files, counts their rows, shows, reads and edits their cells, splits fees over them, and explains the rules.
+//! `bolfrake`: judges mzTab 1.0 files, counts their rows, shows, reads, edits and mends their cells, splits fees over them, and explains the rules.
 
 #![forbid(unsafe_code)]
 
@@ -7,6 +7,7 @@ mod check;
 mod edit;
 mod fee;
 mod files;
+mod mend;
 mod output;
 mod rows;
 mod words;
@@ -45,12 +46,13 @@ fn run(given: Vec<OsString>) -> Result<u8, Failure> {
         "cell" => ask::cell(words),
         "read" => ask::read(words),
         "edit" => edit::run(words),
+        "mend" => mend::run(words),
         "fee" => fee::run(words),
         "explain" => pages::run(words),
         "" | "help" | "-h" | "--help" => print(help::of(&words.next_as_text())),
         "-V" | "--version" | "version" => print(help::VERSION),
         other => Err(Failure::usage(format!(
-            "there is no command `{other}`: use check, rows, cell, read, edit, fee or explain (`bolfrake --help` tells more)"
+            "there is no command `{other}`: use check, rows, cell, read, edit, mend, fee or explain (`bolfrake --help` tells more)"
         ))),
     }
 }

@@ -3,7 +3,7 @@
 pub const VERSION: &str = concat!(
     "bolfrake ",
     env!("CARGO_PKG_VERSION"),
-    "\nmzTab 1.0, 24 rules, files of at most 16,777,216 bytes. The judging, the cells, the rows and the split of a fee are a library that is proved to keep its contracts.\n"
+    "\nmzTab 1.0, 24 rules, files of at most 16,777,216 bytes. The judging, the cells, the rows, the mending and the split of a fee are a library that is proved to keep its contracts.\n"
 );
 
 pub const ALL: &str = "\
@@ -16,6 +16,7 @@ bolfrake judges mzTab 1.0 files: exactly which rules a file breaks, and where.
   bolfrake read FILE SECTION ROW COLUMN     a cell read as a number, exactly
   bolfrake edit FILE SECTION ROW COLUMN TEXT
                                             what a text in place of a cell would change; -o NEW writes the edited copy
+  bolfrake mend FILE -o NEW                 a copy with null in the empty cells of rows; --dry-run shows it and writes nothing
   bolfrake fee FILE AMOUNT                  a fee split over the study variables of a file, to the cent
   bolfrake explain RULE                     what breaks a rule, an example, and how to mend the file
 
@@ -25,9 +26,9 @@ FILE may be - for standard input. Of a folder every file is taken whose name end
 the folders in it the same, sorted by name; links to folders are not followed. A file that is named itself is taken
 whatever its name.
 
-Exit status: 0 done, and every file accepted; 1 a file breaks a rule, or there is no such section, row, cell or
-line, or an edit is refused, or there is no weight to split a fee by; 2 a file cannot be read or written or is longer than
-16,777,216 bytes, or the words were not understood.
+Exit status: 0 done, and every file accepted; 1 a file or a mended copy breaks a rule, or there is no such section, row,
+cell or line, or an edit is refused, or there is no weight to split a fee by; 2 a file cannot be read or written or is
+longer than 16,777,216 bytes, or its mended copy would be, or the words were not understood.
 ";
 
 const CHECK: &str = "\
@@ -124,6 +125,39 @@ Exit status: 0 the edited line breaks no rule; 1 it breaks one, or there is no s
 refused; 2 a file that cannot be read or written or is too long, or words that are not understood.
 ";
 
+const MEND: &str = "\
+bolfrake mend [--format text|csv|json] [--max N] -o NEW [--force] FILE
+bolfrake mend [--format text|csv|json] [--max N] --dry-run FILE
+
+Writes a copy of FILE to NEW, with null in every cell that breaks rule 19: the empty cells of rows, save in the columns
+where null may not stand (protein accession, peptide and PSM sequence, PSM_ID). Every other byte stays as it is, line
+ends too. FILE need not be accepted. Where there is nothing to mend, NEW is FILE byte for byte.
+
+Prints a table of the cells that now hold null, and how many there are; the empty cells that stay, for whose values the
+laboratory must be asked; and the other breaks of the copy, both as `bolfrake check` prints them. The copy's breaks are
+those of FILE without the mended ones, that is proved: nothing else is mended, and nothing is broken.
+
+  -o NEW          write the copy to the file NEW: the whole of it, or nothing is changed. A file that exists is refused,
+                  FILE itself too. - is standard output, and what is printed is then on standard error
+  --force         write over NEW where it exists, FILE itself too; its permissions are kept
+  --dry-run       print the same and write nothing, beside -o NEW too
+  --max N         print the first N changes, and the first N breaks of both sorts; the counts are still of all. The
+                  default is 100 of each, and for json, and for the changes in csv, all of them
+  --format text   as above (the default)
+  --format csv    a line for each change: file,line,cell,section,row,column,new; the column's name stands between
+                  backticks, so that a table program takes it as text; the rest is on standard error
+  --format json   one document: file, count (of the changes), rows (how many have one), shown, changes, each with line,
+                  cell, section, row, column and new; status (of the copy: accepted or broken), left (how many breaks it
+                  has), left_empty (how many of them are empty cells; null where --max is given and the copy has over
+                  1,000,000 breaks), left_shown, breaks_left, each as `bolfrake check` has it; bytes (of the copy), and
+                  written (the name of NEW, or null)
+
+In a column's name, bytes that do not print are shown as \\xNN, a backslash as \\\\, and what does not fit is cut with an
+ellipsis.
+Exit status: 0 the copy is accepted; 1 it has breaks left; 2 nothing was written: FILE cannot be read or is too long, its
+copy would be too long, NEW exists or cannot be written, or words that are not understood.
+";
+
 const FEE: &str = "\
 bolfrake fee [--format table|csv|json] FILE AMOUNT
 bolfrake fee [--format table|csv|json] --weights W,W,... AMOUNT
@@ -170,6 +204,7 @@ pub fn of(command: &str) -> &'static str {
         "cell" => CELL,
         "read" => READ,
         "edit" => EDIT,
+        "mend" => MEND,
         "fee" => FEE,
         "explain" => EXPLAIN,
         _ => ALL,
