@@ -820,7 +820,9 @@ fn help() {
         .out
         .contains("bolfrake check FILE|DIR..."));
     assert!(folder.run(&[]).out.contains("Exit status"));
-    for command in ["check", "rows", "cell", "read", "edit", "fee", "explain"] {
+    for command in [
+        "check", "rows", "cell", "read", "edit", "mend", "fee", "explain",
+    ] {
         let run = folder.run(&[command, "--help"]);
         assert!(run.out.starts_with(&format!("bolfrake {command} ")));
         assert_eq!(run.out, folder.run(&["help", command]).out);
@@ -846,7 +848,7 @@ fn help() {
 #[test]
 fn wrong_uses() {
     let folder = Folder::new("wrong");
-    let every = "use check, rows, cell, read, edit, fee or explain";
+    let every = "use check, rows, cell, read, edit, mend, fee or explain";
     assert!(folder.run(&["frob"]).error.contains(every));
     for words in [
         &["frob"][..],
