@@ -608,7 +608,7 @@ class Readme(unittest.TestCase):
         self.addCleanup(os.chdir, folder)
         os.chdir(ROOT)  # the calls name examples/
         calls = [line for line in (ROOT / "README.md").read_text().splitlines() if line.startswith("    mztab.")]
-        self.assertEqual(len(calls), 3)
+        self.assertEqual(len(calls), 4)
         for call in calls:
             code, answer = call.strip().split("  # ")
             found = repr(eval(code, {"mztab": mztab, "open": open}))
