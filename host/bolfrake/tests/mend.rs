@@ -147,6 +147,29 @@ the copy has 2 breaks
 }
 
 #[test]
+fn a_column_without_a_name() {
+    let folder = Folder::new("mend nameless");
+    folder.write(
+        "o.mztab",
+        headed("SMH\tidentifier\t\tcharge\nSML\tC1\t\t\n"),
+    );
+    let run = folder.run(&["mend", "--dry-run", "o.mztab"]);
+    let expected = "\
+line  cell  section         row  column      new
+  11     3  small-molecule    1  (no name)  null
+  11     4  small-molecule    1  charge     null
+2 empty cells in 1 row now hold null
+1 other break is left
+o.mztab:10:3: rule 12: unknown column name: an empty cell
+";
+    assert!(run.out.starts_with(expected), "{}", run.out);
+    let run = folder.run(&["mend", "--dry-run", "--format", "csv", "o.mztab"]);
+    assert!(run
+        .out
+        .contains("\no.mztab,11,3,small-molecule,1,``,null\n"));
+}
+
+#[test]
 fn a_dry_run() {
     let folder = Folder::new("mend dry");
     folder

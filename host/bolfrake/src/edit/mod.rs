@@ -33,7 +33,7 @@ pub fn run(words: Words) -> Result<u8, Failure> {
         new: New::default(),
     };
     let plain = words.sort(|name, words| option(name, words, &mut options))?;
-    options.new.hold_together("edit")?;
+    options.new.refuse_force_alone("edit")?;
     let [file, section, row, column, text]: [OsString; 5] = match plain.try_into() {
         Ok(five) => five,
         Err(_) => {

@@ -38,7 +38,7 @@ impl New {
     }
 
     /// Nothing can be written over where nothing is written.
-    pub fn hold_together(&self, command: &str) -> Result<(), Failure> {
+    pub fn refuse_force_alone(&self, command: &str) -> Result<(), Failure> {
         if self.force && self.name.is_none() {
             return Err(misused(command, "takes --force beside -o NEW alone"));
         }

@@ -39,7 +39,7 @@ pub fn run(words: Words) -> Result<u8, Failure> {
         Ok(one) => one,
         Err(_) => return Err(misused("mend", "takes one file, or - for standard input")),
     };
-    options.new.hold_together("mend")?;
+    options.new.refuse_force_alone("mend")?;
     if options.new.name.is_none() && !options.dry_run {
         let words = "needs -o NEW, the file to write the mended copy to, or --dry-run, which prints the same and writes nothing";
         return Err(misused("mend", words));

@@ -280,12 +280,16 @@ impl<'a> Report<'a> {
 
 /// A line of the table.
 fn line(at: Change, place: &Place) -> [String; 6] {
+    let column = match place.column {
+        "" => "(no name)",
+        name => name,
+    };
     [
         at.line.to_string(),
         at.cell.to_string(),
         place.section.to_string(),
         place.row.to_string(),
-        place.column.to_string(),
+        column.to_string(),
         "null".to_string(),
     ]
 }
