@@ -3,11 +3,11 @@
  * Every call ends, on every file and every number, and touches nothing but what is named here. No call keeps a pointer, allocates, or
  * needs set-up; calls may run at the same time as long as they do not share a place that is written.
  *
- * What the host owes. A `file` and a list are each a pointer and the count of what it points at.
+ * What the host owes. A `file`, a buffer and a list are each a pointer and the count of what it points at.
  *  - Every pointer is not null, also where its count is 0, and aligned, and all that its count says is there.
  *  - What is lent to be read does not change during the call.
- *  - No memory lent to be written (`number`, `length`, .., and the lists `places`, `faults`, `weights` of mztab_weights and `shares`) overlaps
- *    other memory that is lent in the call, be it to be read or to be written.
+ *  - No memory lent to be written (`number`, `length`, .., the buffer `copy`, and the lists `places`, `changes`, `faults`, `weights` of mztab_weights
+ *    and `shares`) overlaps other memory that is lent in the call, be it to be read or to be written.
  *  - The stack has room for what a call says it needs.
  *
  * The number that every call writes says whether there is an answer, and else why not. Each call says which of them it gives.
@@ -16,6 +16,7 @@
  *    2  the section is not 1 to 4
  *    3  no such row, or no such line
  *    4  no such cell
+ *    5  no room: what is to be written is longer than the buffer, or than 16,777,216 bytes
  *    7  the file is not accepted: it breaks a rule
  *   15  the number of weights, or of shares, is not what it should be
  *   16  an amount or a weight is too large
@@ -72,6 +73,22 @@ uint32_t mztab_judge(const uint8_t *file, size_t file_length, uint32_t *places, 
  * Refused with 1, and with 3 where there is no such line, 0 and N + 1 among them; the count is then 0 and no place is written. The call needs some 350 KB of
  * stack. */
 uint32_t mztab_judge_line(const uint8_t *file, size_t file_length, uint32_t line, uint32_t *places, size_t places_length, uint32_t *number);
+
+/* Writes a copy of the file to the buffer copy, with `null` in every cell that breaks rule 19, an empty cell of a row, save in the columns where `null` may not
+ * stand: protein `accession`, peptide and PSM `sequence`, and `PSM_ID`. The answer is the length of the copy, file_length + 4 * *count; *count is the number of
+ * all changes. The first of them that fit are written to changes, two numbers each: line, cell; in order of line, then cell. All other bytes follow in their
+ * order, ends of lines as they stand: LF, CR LF, or none behind the last line. An empty cell that does not break rule 19 stays empty: the name in a header, the
+ * value of a metadata line, a cell of a row under no header of its section (rule 17), of another number of cells than its header (18), or under a header of
+ * over 256 cells (11).
+ * The file need not be accepted. The breaks of the copy are those of the file without the mended ones, in the same order and with the same numbers. So the copy
+ * of a copy has the same bytes, and so has the copy of a file with nothing to mend.
+ * copy is a pointer to copy_length bytes and changes one to changes_length numbers, not null also where that is 0; file, copy and changes do not overlap. The
+ * bytes of the buffer behind the copy are left as they were, and so is a place that no whole change fills: one at the end of a list is too few for the next.
+ * Refused with 1, and then with 5 where the copy is longer than copy_length or than 16,777,216 bytes; the answer and the count are then 0, and no byte of copy
+ * and no place of changes is written. Where the copy is within 16,777,216 bytes, these are always enough for copy_length: 5 * file_length, file_length + 4 *
+ * the number of empty cells, and 16,777,216. The call needs some 300 KB of stack. */
+size_t mztab_mend(const uint8_t *file, size_t file_length, uint8_t *copy, size_t copy_length, uint32_t *changes, size_t changes_length, uint32_t *number,
+                  uint32_t *count);
 
 /* A break: its rule, its line and cell in the file, and where that which comes again stands first: a line for rules 6 and 9, a cell of the break's own line for
  * rule 13, 0 for all others. */
