@@ -332,6 +332,13 @@ static struct want digits(size_t n) {
     return want(5, 21, 3, 1);
 }
 
+static struct want one_text(size_t n) {
+    begin(n);
+    put("SMH\tcharge\tidentifier\nSML\t1\t");
+    fill('x', n);
+    return want(5, 21, 3, 1);
+}
+
 /* One cell with a list of decimals, this text over and over. */
 static struct want list_of(const char *text, size_t n) {
     begin(n);
@@ -360,6 +367,17 @@ static struct want empty_cells(size_t n) {
     struct want w = every(line_of("PRT", 255, no_name), 255, 19, 2);
     w.line = 2;
     return w;
+}
+
+/* A header and a row of empty cells by turns. */
+static struct want empty_by_turns(size_t n) {
+    static char turn[2 * 16384];
+    begin(n);
+    strcpy(turn, line_of("PRH", 255, last_opt_name));
+    strcat(turn, line_of("PRT", 255, no_name));
+    uint32_t turns = over(turn, n);
+    fill('\n', n);
+    return want(turns * 255 + turns - 1 + 5, 19, 2, 2);
 }
 
 /* In each row the accession alone may not be null. */
@@ -420,10 +438,12 @@ static const struct hostile {
     {"255 equal names of 60,000", equal_names},
     {"255 like names of 60,000", alike_names},
     {"one cell of digits", digits},
+    {"one cell of text", one_text},
     {"decimal list", decimals},
     {"decimal list, with exponents", exponent_list},
     {"one cell of exponents", exponents_in_one},
     {"rows of empty cells", empty_cells},
+    {"header and empty row by turns", empty_by_turns},
     {"rows of null", null_cells},
     {"rows of two cells", short_rows},
     {"PRT lines without header", prt_lines},
@@ -519,10 +539,10 @@ static int refused_reading(struct read r, uint32_t number) {
 
 /* ---- the groups */
 
-static const char EXAMPLE[] =
-    "MTD\tmzTab-version\t1.0.0\nMTD\tmzTab-mode\tSummary\nMTD\tmzTab-type\tIdentification\nMTD\tdescription\tYeast check\n"
+#define EXAMPLE_HEAD \
+    "MTD\tmzTab-version\t1.0.0\nMTD\tmzTab-mode\tSummary\nMTD\tmzTab-type\tIdentification\nMTD\tdescription\tYeast check\n" \
     "MTD\tms_run[1]-location\tfile:///a.mzML\n\nPRH\taccession\tdescription\tdatabase\tsearch_engine\tnum_psms_ms_run[2]\n"
-    "PRT\tY1\tnull\tdb\tnull\t\nPRT\tnull\tx\tdb\tnull\t4\n";
+static const char EXAMPLE[] = EXAMPLE_HEAD "PRT\tY1\tnull\tdb\tnull\t\nPRT\tnull\tx\tdb\tnull\t4\n";
 
 static const uint32_t EXAMPLE_BREAKS[24] = {15, 7, 6, 0, 19, 8, 6, 0, 20, 9, 2, 0, 22, 10, 500, 0, 22, 10, 900, 0, 22, 10, 1000, 0};
 
@@ -1098,8 +1118,9 @@ static void put_row(const char *code, uint32_t cells) {
     }
 }
 
-/* A small file: metadata, headers, other lines, and rows, for the most part of the header above; with ends of each sort. */
-static void draw_file(void) {
+/* A small file: metadata, headers, other lines, and rows, for the most part of the header above; with ends of each sort. Its first line is a header where
+ * `head_first` says so. */
+static void draw_file(int head_first) {
     static const char *const codes[4] = {"PRT", "PEP", "PSM", "SML"};
     static const char *const metadata[] = {
         "MTD\tmzTab-version\t1.0", "MTD\tmzTab-mode\tSummary", "MTD\tmzTab-mode\tComplete", "MTD\tmzTab-type\tQuantification", "MTD\tmzTab-type\tIdentification",
@@ -1115,7 +1136,8 @@ static void draw_file(void) {
     uint32_t section = (uint32_t)draw(4), cells = 3;
     begin(LIMIT);
     for (uint64_t left = draw(16); left > 0; left--) {
-        uint64_t way = draw(9);
+        uint64_t way = head_first ? 2 : draw(9);
+        head_first = 0;
         if (way < 2) put(ANY(metadata));
         else if (way == 2) {
             section = (uint32_t)draw(4);
@@ -1133,19 +1155,29 @@ static int is_row(const uint8_t *line, size_t n) {
     return n > 3 && line[3] == '\t' && (memcmp(line, "PRT", 3) == 0 || memcmp(line, "PEP", 3) == 0 || memcmp(line, "PSM", 3) == 0 || memcmp(line, "SML", 3) == 0);
 }
 
+/* Where the line from k on stops, before its end of line; the next begins at *next. */
+static size_t line_stop(const uint8_t *f, size_t n, size_t k, size_t *next) {
+    const uint8_t *lf = memchr(f + k, '\n', n - k);
+    size_t stop = lf ? (size_t)(lf - f) : n;
+    *next = lf ? stop + 1 : n;
+    return lf && stop > k && f[stop - 1] == '\r' ? stop - 1 : stop;
+}
+
+/* Where the cell from k on stops in a line that does at `stop`. */
+static size_t cell_stop(const uint8_t *f, size_t stop, size_t k) {
+    const uint8_t *tab = memchr(f + k, '\t', stop - k);
+    return tab ? (size_t)(tab - f) : stop;
+}
+
 /* Draws a cell of a row, from cell 2 on, of all that the file has; answers its line, 0 where there is none. */
 static uint32_t draw_cell(size_t *start, size_t *end) {
     uint32_t line = 1, drawn = 0;
     uint64_t seen = 0;
     for (size_t k = 0, next; k < at; k = next, line++) {
-        const uint8_t *lf = memchr(file + k, '\n', at - k);
-        size_t stop = lf ? (size_t)(lf - file) : at;
-        next = stop + 1;
-        if (lf && stop > k && file[stop - 1] == '\r') stop--;
+        size_t stop = line_stop(file, at, k, &next);
         if (!is_row(file + k, stop - k)) continue;
         for (size_t a = k + 4, b; a <= stop; a = b + 1) {
-            const uint8_t *tab = memchr(file + a, '\t', stop - a);
-            b = tab ? (size_t)(tab - file) : stop;
+            b = cell_stop(file, stop, a);
             if (draw(++seen) == 0) drawn = line, *start = a, *end = b;
         }
     }
@@ -1206,7 +1238,7 @@ static void drawn_lines(void) {
     seed = 14;
     rules_seen = 0;
     for (uint32_t i = 0; i < DRAWN_FILES; i++) {
-        draw_file();
+        draw_file(0);
         check(lines_make(file, at), "drawn lines", i);
         line_is(file, at, lines_of(file, at) + 1, 4, 3, NULL, 0, "drawn lines: beyond the last");
         edit(2, "an edited cell");
@@ -1216,6 +1248,469 @@ static void drawn_lines(void) {
     null_cells((size_t)1 << 20);
     edit(16, "an edited cell of a long file");
     group("one line, drawn files and edits");
+}
+
+/* ---- mending empty cells */
+
+/* Small files have copies of at most so many bytes. What is not to be touched has one byte over and over. */
+enum { MOST_COPY = 1 << 17, UNTOUCHED = 0xA5 };
+
+/* What mending a file is to give: the copy, and line and cell of each change. */
+struct mended {
+    size_t length;
+    uint32_t count, changes[2 * MOST_BREAKS];
+    uint8_t copy[MOST_COPY];
+};
+
+/* A mending call, with its outcome. */
+struct outcome {
+    size_t length;
+    uint32_t number, count;
+};
+
+static struct outcome mend(const uint8_t *f, size_t n, uint8_t *copy, size_t room, uint32_t *list, size_t places) {
+    struct outcome o = {77, 77, 77};
+    o.length = mztab_mend(f, n, copy, room, list, places, &o.number, &o.count);
+    return o;
+}
+
+static int refused_mend(struct outcome o, uint32_t number) { return o.number == number && o.length == 0 && o.count == 0; }
+
+static int untouched(const uint8_t *bytes, size_t n) { return n == 0 || (*bytes == UNTOUCHED && memcmp(bytes, bytes + 1, n - 1) == 0); }
+
+/* Mending into so many bytes and so many places, among others that are not to be touched. */
+static void mend_is(const uint8_t *f, size_t n, const struct mended *m, size_t room, size_t places, const char *what) {
+    static uint8_t bytes[AROUND + MOST_COPY + AROUND], *const copy = bytes + AROUND;
+    static uint32_t numbers[AROUND + 2 * MOST_BREAKS + AROUND], *const list = numbers + AROUND;
+    int fits = m->length <= room;
+    size_t length = fits ? m->length : 0, whole = !fits ? 0 : places / 2 < m->count ? places / 2 : m->count;
+    memset(bytes, UNTOUCHED, AROUND + room + AROUND);
+    mark(numbers, AROUND + places + AROUND);
+    struct outcome o = mend(f, n, copy, room, list, places);
+    check(fits ? o.number == 0 && o.length == length && o.count == m->count : refused_mend(o, 5), what, room);
+    check(memcmp(copy, m->copy, length) == 0, what, room);
+    check(memcmp(list, m->changes, 2 * whole * sizeof *list) == 0, what, places);
+    check(untouched(bytes, AROUND) && untouched(copy + length, room - length + AROUND), what, room);
+    check(marked(numbers, AROUND) && marked(list + 2 * whole, places - 2 * whole + AROUND), what, places);
+}
+
+/* The file so far is mended so, into lists of every length and into buffers that are too short, just long enough and longer; it is as it was. */
+static void mends_to(const struct mended *m, const char *what) {
+    static uint8_t before[MOST_COPY];
+    size_t rooms[] = {0, m->length / 2, at, m->length + 1, m->length + 100, 5 * at};
+    memcpy(before, file, at);
+    for (size_t places = 0; places <= 2 * (size_t)m->count + 3; places++) {
+        mend_is(file, at, m, m->length, places, what);
+        if (m->length > 0) mend_is(file, at, m, m->length - 1, places, what);
+    }
+    for (size_t i = 0; i < COUNT(rooms); i++) mend_is(file, at, m, rooms[i], 2 * (size_t)m->count, what);
+    check(memcmp(file, before, at) == 0, what, at);
+}
+
+static int is_mended(const struct mended *m, uint32_t line, uint32_t cell) {
+    for (uint32_t k = 0; k < m->count; k++)
+        if (m->changes[2 * k] == line && m->changes[2 * k + 1] == cell) return 1;
+    return 0;
+}
+
+static uint32_t holes_mended, holes_left; /* breaks of rule 19 that were mended, and that stayed */
+
+/* Whether the breaks of the copy are those of the file so far without the mended ones, in the same order and with the same numbers. */
+static int breaks_left(const struct mended *m) {
+    static struct judged old, new;
+    uint32_t left = 0;
+    judge_whole(&old, file, at);
+    judge_whole(&new, m->copy, m->length);
+    for (uint32_t k = 0; k < old.count; k++) {
+        const uint32_t *b = old.places + 4 * k;
+        if (b[0] == 19 && is_mended(m, b[1], b[2])) continue;
+        if (left == new.count || memcmp(b, new.places + 4 * left, 4 * sizeof *b) != 0) return 0;
+        holes_left += b[0] == 19;
+        left++;
+    }
+    holes_mended += m->count;
+    return left == new.count && old.count == left + m->count && old.lines == new.lines;
+}
+
+/* Whether each cell of the copy, as the cell call shows it, is that of the file so far, or `null` in the place of an empty one that is mended. */
+static int cells_left(const struct mended *m) {
+    uint32_t seen = 0, number = 77;
+    for (uint32_t section = 1; section <= 4; section++) {
+        uint32_t rows = mztab_rows(file, at, section, &number);
+        if (mztab_rows(m->copy, m->length, section, &number) != rows) return 0;
+        for (uint32_t row = 0; row <= rows; row++)
+            for (uint32_t column = 1;; column++) {
+                struct view a = cell(file, at, section, row, column), b = cell(m->copy, m->length, section, row, column);
+                if (a.number != b.number) return 0;
+                if (a.number) break;
+                struct read r = reading(file, at, section, row, column);
+                int now = row > 0 && a.length == 0 && is_mended(m, r.line, r.cell);
+                const uint8_t *bytes = now ? (const uint8_t *)"null" : file + a.start;
+                if (b.length != (now ? 4 : a.length) || memcmp(m->copy + b.start, bytes, b.length) != 0) return 0;
+                seen += (uint32_t)now;
+            }
+    }
+    return seen == m->count;
+}
+
+/* What holds of every file that is mended, here of the file so far: its length, its breaks and its cells, and that the copy of the copy has the same bytes. */
+static void mend_holds(const struct mended *m, const char *what) {
+    static struct mended again;
+    check(m->length == at + 4 * (size_t)m->count, what, m->length);
+    check(breaks_left(m), what, m->count);
+    check(cells_left(m), what, m->count);
+    again.length = m->length;
+    memcpy(again.copy, m->copy, m->length);
+    mend_is(again.copy, again.length, &again, again.length, 3, what);
+}
+
+static int is_header(const uint8_t *line, size_t n) {
+    static const char codes[] = "PRH PEH PSH SMH";
+    if (n < 3 || (n > 3 && line[3] != '\t')) return 0;
+    for (size_t k = 0; k < sizeof codes; k += 4)
+        if (memcmp(line, codes + k, 3) == 0) return 1;
+    return 0;
+}
+
+/* Whether `null` may stand in a cell of the rows under a header. */
+static int takes_null(const uint8_t *head, size_t n, uint32_t cell) {
+    static const char *const none[] = {"PRH\taccession", "PEH\tsequence", "PSH\tsequence", "PSH\tPSM_ID"};
+    size_t start = 0;
+    for (; cell > 1; cell--) start = cell_stop(head, n, start) + 1;
+    size_t length = cell_stop(head, n, start) - start;
+    for (size_t i = 0; i < COUNT(none); i++)
+        if (memcmp(head, none[i], 3) == 0 && length == strlen(none[i]) - 4 && memcmp(head + start, none[i] + 4, length) == 0) return 0;
+    return 1;
+}
+
+static int breaks_19(const struct judged *j, uint32_t line, uint32_t cell) {
+    for (uint32_t k = above(j->places, j->count, line); k < j->count && j->places[4 * k + 1] == line; k++)
+        if (j->places[4 * k] == 19 && j->places[4 * k + 2] == cell) return 1;
+    return 0;
+}
+
+static void add(struct mended *m, const void *bytes, size_t n) {
+    if (n > MOST_COPY - m->length) exit(2);
+    memcpy(m->copy + m->length, bytes, n);
+    m->length += n;
+}
+
+/* What mending is to give, plainly: `null` behind the tab of each cell that the judging call lists with rule 19, by the name in the nearest header. */
+static const struct mended *plainly(const uint8_t *f, size_t n) {
+    static struct judged all;
+    static struct mended m;
+    size_t head = 0, head_stop = 0, next;
+    uint32_t line = 1;
+    judge_whole(&all, f, n);
+    m.length = m.count = 0;
+    for (size_t k = 0; k < n; k = next, line++) {
+        size_t stop = line_stop(f, n, k, &next), b;
+        uint32_t cell = 1;
+        if (is_header(f + k, stop - k)) head = k, head_stop = stop;
+        for (size_t a = k; a <= stop; a = b + 1, cell++) {
+            b = cell_stop(f, stop, a);
+            add(&m, f + a, b - a);
+            if (breaks_19(&all, line, cell) && takes_null(f + head, head_stop - head, cell)) {
+                add(&m, "null", 4);
+                m.changes[2 * m.count] = line;
+                m.changes[2 * m.count + 1] = cell;
+                m.count++;
+            }
+            if (b < stop) add(&m, "\t", 1);
+        }
+        add(&m, f + stop, next - stop);
+    }
+    return &m;
+}
+
+/* Files, their copies, NULL for the same bytes, and line and cell of each change. */
+static const struct { const char *text, *copy; uint32_t count, changes[16]; } MENDED[] = {
+    /* nothing to mend: no bytes, ends of lines, comments, unknown lines, metadata, headers */
+    {"", NULL, 0, {0}},
+    {"\n", NULL, 0, {0}},
+    {"\r\n\n\r\n", NULL, 0, {0}},
+    {"\t\t\n\t", NULL, 0, {0}},
+    {"COM\t\t\nCOM\t\nCOM", NULL, 0, {0}},
+    {"x\t\t\n\001\t\n\177\t\t\377\r\r\n", NULL, 0, {0}},
+    {"MTD\ttitle\t\nMTD\t\t\nMTD\t\nMTD\t\t\t\n", NULL, 0, {0}},
+    {"SMH\t\t\nSMH\t\nPSH\t\tcharge\t", NULL, 0, {0}},
+    {"SMH\nSML\nSML\t\nSML", NULL, 0, {0}},
+    {MOLECULES "SML\ta\t1\nSML\tnull\tnull", NULL, 0, {0}},
+    /* ends of lines: LF, CR LF, none; a CR before that of the end, or without LF, is a byte of its cell */
+    {MOLECULES "SML\ta\t\nSML\t\t1\nSML\t\t\n", MOLECULES "SML\ta\tnull\nSML\tnull\t1\nSML\tnull\tnull\n", 4, {2, 3, 3, 2, 4, 2, 4, 3}},
+    {"SMH\tidentifier\tcharge\r\nSML\ta\t\r\n\r\nSML\t\t1\r\nSML\t\t\r\n", "SMH\tidentifier\tcharge\r\nSML\ta\tnull\r\n\r\nSML\tnull\t1\r\nSML\tnull\tnull\r\n", 4,
+     {2, 3, 4, 2, 5, 2, 5, 3}},
+    {MOLECULES "SML\ta\t", MOLECULES "SML\ta\tnull", 1, {2, 3}},
+    {MOLECULES "SML\t\t", MOLECULES "SML\tnull\tnull", 2, {2, 2, 2, 3}},
+    {MOLECULES "SML\t\t1", MOLECULES "SML\tnull\t1", 1, {2, 2}},
+    {MOLECULES "SML\ta\t\r", NULL, 0, {0}},
+    {MOLECULES "SML\ta\t\r\r\nSML\t\r\t\r\nSML\t\t\r", MOLECULES "SML\ta\t\r\r\nSML\t\r\tnull\r\nSML\tnull\t\r", 2, {3, 3, 4, 2}},
+    {MOLECULES "SML\ta\t\n\r", MOLECULES "SML\ta\tnull\n\r", 1, {2, 3}},
+    /* columns where `null` may not stand, of their own section alone */
+    {PROTEINS "\nPRT\t\t\t\t\n", PROTEINS "\nPRT\t\tnull\tnull\tnull\n", 3, {2, 3, 2, 4, 2, 5}},
+    {PEPTIDES "\nPEP\t\t\t\t", PEPTIDES "\nPEP\t\tnull\tnull\tnull", 3, {2, 3, 2, 4, 2, 5}},
+    {SPECTRA "\r\nPSM\t\t\t\t\t\r\n", SPECTRA "\r\nPSM\t\t\tnull\tnull\tnull\r\n", 3, {2, 4, 2, 5, 2, 6}},
+    {MOLECULES "SML\t\t\n", MOLECULES "SML\tnull\tnull\n", 2, {2, 2, 2, 3}},
+    {"PRH\tsequence\tPSM_ID\taccession\nPRT\t\t\t\n", "PRH\tsequence\tPSM_ID\taccession\nPRT\tnull\tnull\t\n", 2, {2, 2, 2, 3}},
+    {"PEH\taccession\tPSM_ID\tsequence\nPEP\t\t\t", "PEH\taccession\tPSM_ID\tsequence\nPEP\tnull\tnull\t", 2, {2, 2, 2, 3}},
+    {"PSH\taccession\tPSM_ID\tsequence\nPSM\t\t\t\n", "PSH\taccession\tPSM_ID\tsequence\nPSM\tnull\t\t\n", 1, {2, 2}},
+    {"SMH\taccession\tPSM_ID\tsequence\nSML\t\t\t\n", "SMH\taccession\tPSM_ID\tsequence\nSML\tnull\tnull\tnull\n", 3, {2, 2, 2, 3, 2, 4}},
+    {"PRH\taccession\topt_a\taccession\r\nPRT\t\t\t\nPRT\t\t\t\r\n", "PRH\taccession\topt_a\taccession\r\nPRT\t\tnull\t\nPRT\t\tnull\t\r\n", 2, {2, 3, 3, 3}},
+    {"PRH\taccessio\taccessions\tAccession\t accession\taccession \taccession\r\r\nPRT\t\t\t\t\t\t\n",
+     "PRH\taccessio\taccessions\tAccession\t accession\taccession \taccession\r\r\nPRT\tnull\tnull\tnull\tnull\tnull\tnull\n", 6,
+     {2, 2, 2, 3, 2, 4, 2, 5, 2, 6, 2, 7}},
+    {"PSH\tPSM_I\tPSM_ID\tpsm_id\tPSM_ID1\tsequences\tsequence\nPSM\t\t\t\t\t\t",
+     "PSH\tPSM_I\tPSM_ID\tpsm_id\tPSM_ID1\tsequences\tsequence\nPSM\tnull\t\tnull\tnull\tnull\t", 4, {2, 2, 2, 4, 2, 5, 2, 6}},
+    /* columns of each kind, unknown ones, one without a name, bad indices and runs that are not declared */
+    {"PRH\ttaxid\treliability\tprotein_coverage\tsearch_engine\tx\t\tnum_psms_ms_run[1]\tnum_psms_ms_run[65]\nPRT\t\t\t\t\t\t\t\t\n",
+     "PRH\ttaxid\treliability\tprotein_coverage\tsearch_engine\tx\t\tnum_psms_ms_run[1]\tnum_psms_ms_run[65]\nPRT\tnull\tnull\tnull\tnull\tnull\tnull\tnull\tnull\n",
+     8, {2, 2, 2, 3, 2, 4, 2, 5, 2, 6, 2, 7, 2, 8, 2, 9}},
+    {"PEH\tretention_time\tretention_time_window\tunique\topt_\topt_a\nPEP\t\t\t\t\t\n",
+     "PEH\tretention_time\tretention_time_window\tunique\topt_\topt_a\nPEP\tnull\tnull\tnull\tnull\tnull\n", 5, {2, 2, 2, 3, 2, 4, 2, 5, 2, 6}},
+    /* rows of another number of cells, under no header, and under one of another section: the nearest header counts */
+    {MOLECULES "SML\t\nSML\t\t\t\nSML\t\t\nSML\n", MOLECULES "SML\t\nSML\t\t\t\nSML\tnull\tnull\nSML\n", 2, {4, 2, 4, 3}},
+    {"SML\t\t\n" MOLECULES, NULL, 0, {0}},
+    {MOLECULES PROTEINS "\nSML\t\t\nSMH\tcharge\nSML\t\t\nSML\t\n", MOLECULES PROTEINS "\nSML\t\t\nSMH\tcharge\nSML\t\t\nSML\tnull\n", 1, {6, 2}},
+    {MOLECULES "PRT\t\t\nSML\t\t1\nPEP\t\t", MOLECULES "PRT\t\t\nSML\tnull\t1\nPEP\t\t", 1, {3, 2}},
+    {"PRH\taccession\tdatabase\nPRT\t\t\nPRH\tdatabase\taccession\nPRT\t\t\n",
+     "PRH\taccession\tdatabase\nPRT\t\tnull\nPRH\tdatabase\taccession\nPRT\tnull\t\n", 2, {2, 3, 4, 2}},
+    {PEPTIDES "\n" SPECTRA "\nPEP\t\t\t\t\nPSM\t\t\t\t\t\n", PEPTIDES "\n" SPECTRA "\nPEP\t\t\t\t\nPSM\t\t\tnull\tnull\tnull\n", 3, {4, 4, 4, 5, 4, 6}},
+    /* what stands between a header and its row, and what is nearly a row */
+    {MOLECULES "\nCOM\t\t\n\r\nx\t\t\nMTD\ttitle\t\nSMLx\t\t\nsml\t\t\nSML \t\t\nSMHx\tcharge\nSML\t\t",
+     MOLECULES "\nCOM\t\t\n\r\nx\t\t\nMTD\ttitle\t\nSMLx\t\t\nsml\t\t\nSML \t\t\nSMHx\tcharge\nSML\tnull\tnull", 2, {11, 2, 11, 3}},
+    /* other breaks stay: control bytes, and values that are not of their kind */
+    {MOLECULES "SML\t\001\t\nSML\t\tx\nSML\t\177\377\t\nSML\t \t\n", MOLECULES "SML\t\001\tnull\nSML\tnull\tx\nSML\t\177\377\tnull\nSML\t \tnull\n", 4,
+     {2, 3, 3, 2, 4, 3, 5, 3}},
+    /* the example */
+    {EXAMPLE_HEAD "PRT\tY1\tnull\tdb\tnull\t\nPRT\tnull\tx\tdb\tnull\t4\n", EXAMPLE_HEAD "PRT\tY1\tnull\tdb\tnull\tnull\nPRT\tnull\tx\tdb\tnull\t4\n", 1, {8, 6}},
+};
+
+static void mended_by_hand(void) {
+    static struct mended m;
+    for (size_t i = 0; i < COUNT(MENDED); i++) {
+        begin(LIMIT);
+        put(MENDED[i].text);
+        const char *copy = MENDED[i].copy ? MENDED[i].copy : MENDED[i].text;
+        m.length = strlen(copy);
+        memcpy(m.copy, copy, m.length);
+        m.count = MENDED[i].count;
+        memcpy(m.changes, MENDED[i].changes, sizeof MENDED[i].changes);
+        mends_to(&m, "mending");
+        mend_holds(&m, "mending: what holds");
+        const struct mended *p = plainly(file, at);
+        check(p->length == m.length && memcmp(p->copy, m.copy, m.length) == 0, "mending, plainly: copy", i);
+        check(p->count == m.count && memcmp(p->changes, m.changes, 2 * m.count * sizeof *m.changes) == 0, "mending, plainly: list", i);
+    }
+}
+
+/* Under a header of 256 cells a row is mended, up to its last cell; under one of 257 none is. */
+static void mended_under_wide(void) {
+    for (uint32_t names = 254; names <= 257; names++) {
+        begin(LIMIT);
+        put(line_of("PRH", names, last_opt_name));
+        put(line_of("PRT", names, no_name));
+        put(line_of("PRT", names - 1, no_name));
+        put(line_of("PRT", names, null_cell));
+        at -= 5; /* without the last `null` and LF */
+        const struct mended *m = plainly(file, at);
+        check(m->count == (names > 255 ? 0 : names), "mending under a wide header: how many", names);
+        mend_is(file, at, m, m->length, 2 * (size_t)m->count + 3, "mending under a wide header");
+        mend_is(file, at, m, m->length - 1, 2 * (size_t)m->count, "mending under a wide header: no room");
+        mend_holds(m, "mending under a wide header: what holds");
+    }
+}
+
+/* Empty cells at each place of a block of 64 bytes: behind other lines, a long cell, ends of lines or many such cells; with LF and CR LF, and at the end. */
+static void mended_at_places(void) {
+    static const char *const between[4] = {"x", "\n", "SML\t\t1\ta\n", "\t"};
+    for (size_t pad = 0; pad < 140; pad++)
+        for (int way = 0; way < 32; way++) {
+            begin(LIMIT);
+            put("SMH\tidentifier\tcharge\topt_a\n");
+            put((way & 3) == 3 ? "x" : (way & 3) == 0 && way & 16 ? "SML\t" : "");
+            for (size_t k = 0; k < pad; k++) put(between[way & 3]);
+            put(way & 16 ? "\t\t\n" : "\n");
+            put(way & 4 ? "SML\t\t\t\r\n" : "SML\t\t1\t\n");
+            put(way & 8 ? "SML\ta\t\t" : "COM\t\t");
+            const struct mended *m = plainly(file, at);
+            check(m->count >= 2, "empty cells at each place: how many", m->count);
+            mend_is(file, at, m, m->length, 2 * (size_t)m->count, "empty cells at each place");
+        }
+}
+
+/* Each front part of a file at either edge of a page; buffers that are just long enough, or a byte too short, and lists that are, or a place too short, at those
+ * of others. */
+static void mend_edges(void) {
+    static const char text[] = "MTD\ttitle\t\nPRH\taccession\tdescription\t\nPRT\t\t\ta\nPRT\tnull\t\t\r\n\nPRT\t\tx\t";
+    size_t length = 65536;
+    uint8_t *f = page(length), *c = page(length), *l = page(length);
+    for (size_t part = 0; part < sizeof text; part++)
+        for (int way = 0; way < 8; way++) {
+            uint8_t *here = way & 1 ? f + length - part : f;
+            memcpy(here, text, part);
+            const struct mended *m = plainly(here, part);
+            int fits = !(way & 2) || m->length == 0;
+            size_t room = m->length - !fits, places = 2 * (size_t)m->count, written = fits ? room : 0;
+            places -= way & 4 && places;
+            size_t whole = fits ? places / 2 : 0;
+            uint8_t *copy = way & 1 ? c + length - room : c;
+            uint32_t *list = (uint32_t *)(way & 1 ? l + length - places * sizeof *list : l);
+            memset(copy, UNTOUCHED, room);
+            mark(list, places);
+            struct outcome o = mend(here, part, copy, room, list, places);
+            check(fits ? o.number == 0 && o.length == room && o.count == m->count : refused_mend(o, 5), "mending at the edge of a page", part);
+            check(memcmp(copy, m->copy, written) == 0 && untouched(copy + written, room - written), "mending at the edge of a page: copy", part);
+            check(memcmp(list, m->changes, 2 * whole * sizeof *list) == 0 && marked(list + 2 * whole, places - 2 * whole), "mending at the edge of a page: list", part);
+            check(memcmp(here, text, part) == 0, "mending at the edge of a page: the file is as it was", part);
+        }
+    munmap(f - length, 3 * length);
+    munmap(c - length, 3 * length);
+    munmap(l - length, 3 * length);
+}
+
+static void mends(void) {
+    mended_by_hand();
+    mended_under_wide();
+    group("mending");
+    mended_at_places();
+    group("mending, each place of a block");
+    mend_edges();
+    group("mending, edges of a page");
+}
+
+/* Empties so many drawn cells of rows. */
+static void empty_some(uint64_t count) {
+    for (size_t start, end; count > 0 && draw_cell(&start, &end); count--) {
+        memmove(file + start, file + end, at - end);
+        at -= end - start;
+    }
+}
+
+/* Drawn files, some with a byte that is changed; lists and buffers of drawn lengths. */
+static void drawn_mends(void) {
+    seed = 2;
+    rules_seen = holes_mended = holes_left = 0;
+    for (uint32_t i = 0; i < DRAWN_FILES; i++) {
+        draw_file(i % 4 > 0);
+        empty_some(draw(12));
+        if (at > 0 && draw(4) == 0) file[draw(at)] = (uint8_t)draw(256);
+        const struct mended *m = plainly(file, at);
+        mend_is(file, at, m, m->length, 2 * (size_t)m->count, "drawn files, mended");
+        mend_is(file, at, m, m->length + draw(100), draw(2 * (uint64_t)m->count + 4), "drawn files, mended: drawn lengths");
+        if (m->length > 0) mend_is(file, at, m, draw(m->length), 2 * (size_t)m->count, "drawn files, mended: no room");
+        mend_holds(m, "drawn files, mended: what holds");
+    }
+    check(rules_seen == (1u << 25) - 2, "drawn files, mended: every rule is broken in some file", rules_seen);
+    check(holes_mended > 2 * DRAWN_FILES, "drawn files, mended: how many cells", holes_mended);
+    check(holes_left > DRAWN_FILES / 4, "drawn files, mended: how many stay empty", holes_left);
+    group("mending, drawn files");
+}
+
+/* A buffer between pages that may not be touched, of five bytes for each that a file can have. */
+#define BUFFER (5 * LIMIT)
+static uint8_t *buffer;
+
+/* Mends a file into so many bytes at the upper edge of the buffer. */
+static struct outcome mend_high(const uint8_t *f, size_t n, size_t room, uint32_t *list, size_t places) {
+    memset(buffer + BUFFER - room, UNTOUCHED, room);
+    return mend(f, n, buffer + BUFFER - room, room, list, places);
+}
+
+/* The first n bytes of the file are refused, and nothing is written. */
+static void mend_refused(size_t n, size_t room, uint32_t number, const char *what) {
+    uint32_t list[8];
+    mark(list, COUNT(list));
+    check(refused_mend(mend_high(file, n, room, list, COUNT(list)), number), what, room);
+    check(untouched(buffer + BUFFER - room, room) && marked(list, COUNT(list)), what, room);
+}
+
+/* Of the first n bytes of the file so many cells are mended, the last of a row of three on its last line; the copy ends so. */
+static void mend_last(size_t n, size_t room, uint32_t count, uint32_t line, const char *end, const char *what) {
+    uint32_t list[8];
+    const uint8_t *copy = buffer + BUFFER - room;
+    size_t length = n + 4 * (size_t)count, same = length - strlen(end);
+    mark(list, COUNT(list));
+    struct outcome o = mend_high(file, n, room, list, COUNT(list));
+    check(o.number == 0 && o.length == length && o.count == count, what, o.length);
+    check(memcmp(copy, file, same) == 0 && memcmp(copy + same, end, length - same) == 0, what, n);
+    for (uint32_t k = 0; k < count; k++) check(list[2 * k] == line && list[2 * k + 1] == 4 - count + k, what, line);
+    check(untouched(copy + length, room - length) && marked(list + 2 * count, COUNT(list) - 2 * count), what, room);
+}
+
+/* Files of LIMIT bytes and of one byte more, and copies of as many. */
+static void mends_to_limit(void) {
+    static const char hole[] = "\n" MOLECULES "SML\ta\t", holes[] = MOLECULES "SML\t\t";
+    begin(LIMIT + 1);
+    put("PRH\taccession\nPRT\t12.5\nCOM\t");
+    fill(' ', LIMIT + 1);
+    mend_last(LIMIT, LIMIT, 0, 0, "", "limit: mended");
+    mend_last(LIMIT, LIMIT + 4096, 0, 0, "", "limit: mended, room behind it");
+    mend_refused(LIMIT, LIMIT - 1, 5, "limit: one byte too few");
+    mend_refused(LIMIT, 0, 5, "limit: no byte");
+    mend_refused(LIMIT + 1, BUFFER, 1, "over the limit: mended");
+    mend_refused(LIMIT + 1, LIMIT, 1, "over the limit: mended, too few bytes");
+    mend_refused(LIMIT + 1, 0, 1, "over the limit: mended, no byte");
+    /* an empty cell at the end of so many bytes */
+    for (size_t n = LIMIT - 6; n <= LIMIT + 1; n++) {
+        begin(n);
+        put("COM");
+        fill(' ', n - (sizeof hole - 1));
+        put(hole);
+        if (n + 4 <= LIMIT) mend_last(n, n + 4, 1, 3, "null", "a copy up to the limit");
+        mend_refused(n, n + 3, n > LIMIT ? 1 : 5, "one byte too few for the copy");
+        if (n + 4 > LIMIT) mend_refused(n, BUFFER, n > LIMIT ? 1 : 5, "a copy over the limit");
+    }
+    /* two on the last of many lines */
+    ends(LIMIT - 8);
+    at = LIMIT - 8 - (sizeof holes - 1);
+    put(holes);
+    mend_last(LIMIT - 8, LIMIT, 2, (uint32_t)(LIMIT - 8 - (sizeof holes - 1)) + 2, "null\tnull", "empty cells on the last of many lines");
+    group("mending, files at the limit");
+}
+
+static void mended_cell(char *s, uint32_t k) { strcpy(s, k ? "null" : ""); }
+
+/* Whether the list has the cells of so many rows from line 2 on: cells 3 to 256 of each. */
+static int rows_listed(const uint32_t *list, size_t changes) {
+    for (size_t k = 0; k < changes; k++)
+        if (list[2 * k] != 2 + k / 254 || list[2 * k + 1] != 3 + k % 254) return 0;
+    return 1;
+}
+
+/* Rows of empty cells, as many as make a copy of LIMIT bytes, with LF after them; and one LF more. Their list is long: it is lent whole, and with one to three
+ * places too few. */
+static void mend_long(void) {
+    size_t head = strlen(line_of("PRH", 255, last_opt_name)), row = strlen(line_of("PRT", 255, no_name)), wide = row + 4 * 254;
+    size_t rows = (LIMIT - head) / wide, n = LIMIT - 4 * 254 * rows, changes = 254 * rows;
+    uint32_t *list = malloc((2 * changes + 3) * sizeof *list);
+    if (!list) exit(2);
+    empty_cells(n + 1);
+    at = head + rows * row;
+    fill('\n', n + 1);
+    for (size_t less = 0; less < 4; less++) {
+        mark(list, 2 * changes + 3);
+        struct outcome o = mend_high(file, n, LIMIT, list, 2 * changes - less);
+        check(o.number == 0 && o.length == LIMIT && o.count == changes, "rows of empty cells, up to the limit", o.length);
+        check(rows_listed(list, changes - (less + 1) / 2), "rows of empty cells: changes", less);
+        check(marked(list + 2 * (changes - (less + 1) / 2), 3 + 2 * ((less + 1) / 2)), "rows of empty cells: changes that do not fit", less);
+    }
+    const uint8_t *copy = buffer + BUFFER - LIMIT;
+    const char *mended = line_of("PRT", 255, mended_cell);
+    int same = memcmp(copy, file, head) == 0 && memcmp(copy + head + rows * wide, file + head + rows * row, n - head - rows * row) == 0;
+    for (size_t k = 0; k < rows; k++) same = same && memcmp(copy + head + k * wide, mended, wide) == 0;
+    check(same, "rows of empty cells: copy", rows);
+    mend_refused(n, LIMIT - 1, 5, "rows of empty cells, one byte too few");
+    mend_refused(n + 1, BUFFER, 5, "rows of empty cells, over the limit");
+    mend_refused(n + 1, 5 * (n + 1), 5, "rows of empty cells, over the limit, five bytes for each");
+    empty_cells(LIMIT);
+    mend_refused(LIMIT, BUFFER, 5, "16 MB of rows of empty cells");
+    free(list);
+}
+
+static void mend_limits(void) {
+    mends_to_limit();
+    mend_long();
+    group("mending, rows of empty cells");
 }
 
 /* The example at either edge of a page, and each front part of it: a byte touched outside is a fault. */
@@ -1916,6 +2411,23 @@ static void hostile_lines(const char *name, const uint32_t *places, uint32_t cou
     free(all);
 }
 
+/* Of the hostile files two have empty cells that can be mended, all of a row but its accession; the others are copied byte for byte. */
+static void mend_hostile(int which) {
+    int holes = HOSTILE[which].make == empty_cells || HOSTILE[which].make == empty_by_turns;
+    uint32_t count = holes ? 254 * protein_rows() : 0, list[5];
+    size_t length = most + 4 * (size_t)count, room = length < LIMIT ? length : LIMIT;
+    mark(list, COUNT(list));
+    struct outcome o = mend_high(tight + LIMIT - most, most, room, list, 3);
+    const uint8_t *copy = buffer + BUFFER - room;
+    if (length > LIMIT) {
+        check(refused_mend(o, 5) && untouched(copy, room) && marked(list, COUNT(list)), HOSTILE[which].name, length);
+        return;
+    }
+    check(o.number == 0 && o.length == length && o.count == count, HOSTILE[which].name, o.count);
+    check(holes ? list[0] == 2 && list[1] == 3 && marked(list + 2, 3) : marked(list, COUNT(list)), HOSTILE[which].name, list[0]);
+    check(holes || memcmp(copy, file, most) == 0, HOSTILE[which].name, length);
+}
+
 static void hostile(void) {
     static uint32_t places[4 * LISTED + 12];
     for (int i = 0; i < FILES; i++) {
@@ -1932,6 +2444,7 @@ static void hostile(void) {
         if (i % 8 == 0) check(same_records(most / 16, 3), HOSTILE[i].name, 3);
         weigh_hostile(HOSTILE[i].name);
         hostile_lines(HOSTILE[i].name, places, count);
+        mend_hostile(i);
     }
     every_first();
     weigh_accepted();
@@ -1975,8 +2488,8 @@ static void on_small_stack(void) {
     printf("%34s %6zu KB of stack used, files of %zu bytes\n", "", kilobytes, most);
 }
 
-/* What the header says of the stack that judging a file needs, and judging one line, in KB. */
-enum { JUDGE_STACK = 300, LINE_STACK = 350 };
+/* What the header says of the stack that judging a file needs, judging one line, and mending, in KB. */
+enum { JUDGE_STACK = 300, LINE_STACK = 350, MEND_STACK = 300 };
 
 static void judge_file(void) {
     uint32_t place, number;
@@ -1989,21 +2502,29 @@ static void judge_last(void) {
     check(number == 0, "stack: the last line", number);
 }
 
-/* Each of the two calls on a stack of its own, over hostile files of at most 1 MB and the example. */
+static void mend_file(void) {
+    uint32_t place;
+    struct outcome o = mend(file, size, buffer, BUFFER, &place, 0);
+    check(o.number == 0 && o.length == size + 4 * (size_t)o.count, "stack: mending", o.number);
+}
+
+/* Each of the three calls on a stack of its own, over hostile files of at most 1 MB and the example. */
 static void stacks(void) {
     size_t n = most < (size_t)1 << 20 ? most : (size_t)1 << 20;
-    uint8_t *whole = marked_stack(), *line = marked_stack();
+    uint8_t *whole = marked_stack(), *line = marked_stack(), *mending = marked_stack();
     for (int i = 0; i <= FILES; i++) {
         if (i < FILES) HOSTILE[i].make(n);
         else begin(sizeof EXAMPLE - 1), put(EXAMPLE);
         on_stack(whole, STACK, judge_file);
         on_stack(line, STACK, judge_last);
+        on_stack(mending, STACK, mend_file);
     }
-    size_t a = used(whole), b = used(line);
+    size_t a = used(whole), b = used(line), c = used(mending);
     check(a <= JUDGE_STACK, "stack of mztab_judge", a);
     check(b <= LINE_STACK, "stack of mztab_judge_line", b);
+    check(c <= MEND_STACK, "stack of mztab_mend", c);
     group("stack");
-    printf("%34s %6zu KB of stack used by mztab_judge, %zu KB by mztab_judge_line\n", "", a, b);
+    printf("%34s %6zu KB of stack used by mztab_judge, %zu KB by mztab_judge_line, %zu KB by mztab_mend\n", "", a, b, c);
 }
 
 /* host [BYTES]: the hostile files have so many bytes, else as many as a file can have. */
@@ -2022,6 +2543,10 @@ int main(int words, char **word) {
     drawn_firsts();
     one_line_each();
     drawn_lines();
+    buffer = page(BUFFER);
+    mends();
+    drawn_mends();
+    mend_limits();
     edges();
     views();
     refusals();
