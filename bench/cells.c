@@ -6,19 +6,13 @@
 #include <stdlib.h>
 #include <string.h>
 #include <sys/wait.h>
-#include <time.h>
 #include <unistd.h>
 #include "../crates/capi/mztab.h"
+#include "least.h"
 
 enum { SIZE = 16777216, TRIES = 9 };
 extern char **environ;
 static uint8_t *file;
-
-static double now(void) {
-    struct timespec t;
-    clock_gettime(CLOCK_MONOTONIC, &t);
-    return t.tv_sec * 1e3 + t.tv_nsec / 1e6;
-}
 
 /* Milliseconds of one `wc -l` of the file at path, start of the process included. */
 static double wc(const char *path) {
@@ -51,10 +45,9 @@ static void measure(const char *name, uint32_t row, uint32_t column) {
     if (fd < 0 || write(fd, file, SIZE) != SIZE) { perror("write"); exit(2); }
     double best = 1e9, half = 1e9, best_wc = 1e9;
     for (int i = 0; i < TRIES; i++) {
-        double a = ask(SIZE, row, column), h = ask(SIZE / 2, row, column), w = wc(path);
-        if (a < best) best = a;
-        if (h < half) half = h;
-        if (w < best_wc) best_wc = w;
+        least(&best, ask(SIZE, row, column));
+        least(&half, ask(SIZE / 2, row, column));
+        least(&best_wc, wc(path));
     }
     close(fd);
     unlink(path);

@@ -3,15 +3,9 @@
 #define HOSTILE_FILES_ONLY
 #include "../tests/host.c"
 #include "ordinary.h"
-#include <time.h>
+#include "least.h"
 
 enum { TRIES = 5 };
-
-static double now(void) {
-    struct timespec t;
-    clock_gettime(CLOCK_MONOTONIC, &t);
-    return (double)t.tv_sec * 1e3 + (double)t.tv_nsec / 1e6;
-}
 
 /* Both calls on the file, with room for so many breaks. */
 static int beside(const char *name, size_t breaks) {
@@ -26,8 +20,8 @@ static int beside(const char *name, size_t breaks) {
         double b = now();
         count[1] = mztab_faults(file, LIMIT, faults, breaks, &number);
         double c = now();
-        if (b - a < best[0]) best[0] = b - a;
-        if (c - b < best[1]) best[1] = c - b;
+        least(&best[0], b - a);
+        least(&best[1], c - b);
     }
     int same = count[0] == count[1] && memcmp(places, faults, 16 * breaks) == 0;
     printf("%-34s %10u %10.2f %10.2f %8.2f%s\n", name, count[0], best[0], best[1], best[1] / best[0], same ? "" : "  DIFFERENT");

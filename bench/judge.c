@@ -4,20 +4,14 @@
 #define HOSTILE_FILES_ONLY
 #include "../tests/host.c"
 #include "ordinary.h"
+#include "least.h"
 #include <fcntl.h>
 #include <spawn.h>
 #include <sys/wait.h>
-#include <time.h>
 
 enum { TRIES = 5 };
 extern char **environ;
 static int wrong;
-
-static double now(void) {
-    struct timespec t;
-    clock_gettime(CLOCK_MONOTONIC, &t);
-    return (double)t.tv_sec * 1e3 + (double)t.tv_nsec / 1e6;
-}
 
 /* Milliseconds of the best judging of the first n bytes. */
 static double judge(const char *name, size_t n, struct want w) {
@@ -29,7 +23,7 @@ static double judge(const char *name, size_t n, struct want w) {
         uint32_t count = mztab_judge(file, n, places, 4 * 4096, &number);
         t = now() - t;
         spent += t;
-        if (t < best) best = t;
+        least(&best, t);
         if (number != 0 || count != w.count || (count && (places[0] != w.rule || places[1] != w.line || places[2] != w.cell || places[3] != w.first))) {
             printf("WRONG %s, %zu bytes: %u breaks, not %u\n", name, n, count, w.count);
             wrong = 1;
@@ -54,7 +48,7 @@ static double program(char *const argv[]) {
         t = now() - t;
         posix_spawn_file_actions_destroy(&quiet);
         if (no || status != 0) return -1;
-        if (t < best) best = t;
+        least(&best, t);
     }
     return best;
 }

@@ -5,20 +5,10 @@
 #define HOSTILE_FILES_ONLY
 #include "../tests/host.c"
 #include "ordinary.h"
-#include <time.h>
+#include "least.h"
 
 enum { TRIES = 9, LISTED = 4096, ASKED = 4 };
 static int wrong;
-
-static double now(void) {
-    struct timespec t;
-    clock_gettime(CLOCK_MONOTONIC, &t);
-    return (double)t.tv_sec * 1e3 + (double)t.tv_nsec / 1e6;
-}
-
-static void least(double *best, double t) {
-    if (t < *best) *best = t;
-}
 
 static uint32_t lines_of_file(void) {
     uint32_t lines = file[LIMIT - 1] != '\n';

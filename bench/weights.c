@@ -2,20 +2,10 @@
  * them `null`, and `mztab_rows` on the same files. Best of nine each. And a split over 8 and 64 weights. Fails where an answer is wrong. */
 #define HOSTILE_FILES_ONLY
 #include "../tests/host.c"
-#include <time.h>
+#include "least.h"
 
 enum { TRIES = 9, VARIABLES = 64, SPLITS = 100000 };
 static int wrong;
-
-static double now(void) {
-    struct timespec t;
-    clock_gettime(CLOCK_MONOTONIC, &t);
-    return (double)t.tv_sec * 1e3 + (double)t.tv_nsec / 1e6;
-}
-
-static void least(double *best, double t) {
-    if (t < *best) *best = t;
-}
 
 /* Ordinary rows with the abundances of so many study variables; their weights and the rows are counted on the way. */
 static uint32_t abundances(size_t n, unsigned variables, uint32_t weights[VARIABLES]) {
