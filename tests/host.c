@@ -1353,12 +1353,42 @@ static int cells_left(const struct mended *m) {
     return seen == m->count;
 }
 
-/* What holds of every file that is mended, here of the file so far: its length, its breaks and its cells, and that the copy of the copy has the same bytes. */
+/* Where a cell of a line begins. */
+static size_t cell_start(const uint8_t *f, size_t n, uint32_t line, uint32_t cell) {
+    size_t k = 0, next = 0;
+    for (; line > 1; line--, k = next) line_stop(f, n, k, &next);
+    size_t stop = line_stop(f, n, k, &next);
+    for (; cell > 1; cell--) k = cell_stop(f, stop, k) + 1;
+    return k;
+}
+
+/* Whether each cell of the copy that still breaks rule 19 would break rule 20 with `null` in it. */
+static int none_may_stand(const struct mended *m) {
+    static struct judged left;
+    static uint8_t bytes[MOST_COPY + 4];
+    judge_whole(&left, m->copy, m->length);
+    for (uint32_t k = 0; k < left.count; k++) {
+        uint32_t places[4 * 256], number = 77, line = left.places[4 * k + 1], cell = left.places[4 * k + 2], found = 0;
+        if (left.places[4 * k] != 19) continue;
+        size_t start = cell_start(m->copy, m->length, line, cell);
+        memcpy(bytes, m->copy, start);
+        memcpy(bytes + start, "null", 4);
+        memcpy(bytes + start + 4, m->copy + start, m->length - start);
+        uint32_t count = mztab_judge_line(bytes, m->length + 4, line, places, COUNT(places), &number);
+        for (uint32_t i = 0; i < count && i < 256; i++) found |= places[4 * i] == 20 && places[4 * i + 2] == cell;
+        if (number || !found) return 0;
+    }
+    return 1;
+}
+
+/* What holds of every file that is mended, here of the file so far: its length, its breaks and its cells, that `null` may not stand in a cell that stays empty,
+ * and that the copy of the copy has the same bytes. */
 static void mend_holds(const struct mended *m, const char *what) {
     static struct mended again;
     check(m->length == at + 4 * (size_t)m->count, what, m->length);
     check(breaks_left(m), what, m->count);
     check(cells_left(m), what, m->count);
+    check(none_may_stand(m), what, m->count);
     again.length = m->length;
     memcpy(again.copy, m->copy, m->length);
     mend_is(again.copy, again.length, &again, again.length, 3, what);
