@@ -2519,7 +2519,7 @@ static void on_small_stack(void) {
 }
 
 /* What the header says of the stack that judging a file needs, judging one line, and mending, in KB. */
-enum { JUDGE_STACK = 300, LINE_STACK = 350, MEND_STACK = 300 };
+enum { JUDGE_STACK = 300, LINE_STACK = 350, MEND_STACK = 50 };
 
 static void judge_file(void) {
     uint32_t place, number;

@@ -86,7 +86,7 @@ uint32_t mztab_judge_line(const uint8_t *file, size_t file_length, uint32_t line
  * bytes of the buffer behind the copy are left as they were, and so is a place that no whole change fills: one at the end of a list is too few for the next.
  * Refused with 1, and then with 5 where the copy is longer than copy_length or than 16,777,216 bytes; the answer and the count are then 0, and no byte of copy
  * and no place of changes is written. Where the copy is within 16,777,216 bytes, these are always enough for copy_length: 5 * file_length, file_length + 4 *
- * the number of empty cells, and 16,777,216. The call needs some 300 KB of stack. */
+ * the number of empty cells, and 16,777,216. The call needs some 50 KB of stack. */
 size_t mztab_mend(const uint8_t *file, size_t file_length, uint8_t *copy, size_t copy_length, uint32_t *changes, size_t changes_length, uint32_t *number,
                   uint32_t *count);
 
