@@ -166,7 +166,8 @@ pub fn mend(
     let mut no_copy = [0u8; 1];
     let mut no_changes = [0u32; 1];
     let planned = mend_lines(&mut no_copy, &mut no_changes, &rows, file);
-    if either(LIMIT < planned.to, copy.len() < planned.to) {
+    let size = planned.to;
+    if either(LIMIT < size, copy.len() < size) {
         *number = NO_ROOM;
         return 0;
     }

@@ -54,16 +54,14 @@ fn fill_cell(
     requires { ⌜ (so .to + length (now cell) + 4 ≤ COPY-MOST) × (so .count + 1 ≤ CHANGES-MOST) ⌝ }
     ensures { λ r. ⌜ Mends (cond (fillsIn kind (now (cell .entry))) NULL (now (cell .entry))) (when (fillsIn kind (now (cell .entry))) (breakAt n c 19) []) (length (now (cell .entry)) + 4) 1 (lent (now (copy .entry)) (so .to)) (lent (now (copy .exit)) (r .to)) (lent (now (changes .entry)) (so .count)) (lent (now (changes .exit)) (r .count)) ⌝ }
 {
+    let count = so.count;
     if both(cell.len() == 0, kind != KEPT) {
         let to = lay(copy, so.to, b"null");
-        let count = note(changes, so.count, n, c);
-        return Copied { to, count };
+        let more = note(changes, count, n, c);
+        return Copied { to, count: more };
     }
     let to = lay(copy, so.to, cell);
-    Copied {
-        to,
-        count: so.count,
-    }
+    Copied { to, count }
 }
 
 // The cells of the row on line n from cell 2 on, which begins at `from`, with tabs between.

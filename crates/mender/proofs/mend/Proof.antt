@@ -18,7 +18,7 @@ returns-2 : tie.Need-returns-2
 unfolding bookIn bookOf
 returns-2 c =
     let at-either = c .before in
-    let at-plan = at-either .before .before .before .before .before in
+    let at-plan = at-either .before .before .before in
     let a = start at-plan .args in
     let low = at-plan .before .before .before .before .before .if1 .left in
     mended-none (a .file .now) (a .copy .now) (a .changes .now) low (at-plan .mend-lines .ensures) (sym (at-either .either .ensures) ∙ c .if2 .taken)
@@ -29,7 +29,7 @@ returns-3 c =
     let at-mend = c .before .before .before .before in
     let else = at-mend .before .before .before .before in
     let at-either = else .before in
-    let at-plan = at-either .before .before .before .before .before in
+    let at-plan = at-either .before .before .before in
     let a = start at-plan .args in
     let low = at-plan .before .before .before .before .before .if1 .left in
     mended-done (a .file .now) (a .copy .now) (a .changes .now) low

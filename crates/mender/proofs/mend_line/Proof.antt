@@ -10,7 +10,7 @@ use Rattle.book.proofs.Laws.Sized.{book-sized}
 use Rattle.rules.specs.Sorts.{sortOf}
 use Rattle.rules.specs.declared.sorts.Sort.{Sort}
 use Rattle.rules.proofs.Laws.Sorting.{header-section}
-use Rattle.mender.proofs.Laws.Passing.{kept-mends, kept-passes, head-passes}
+use Rattle.mender.proofs.Laws.Passing.{kept-mends, kept-passes, kept-line, head-passes}
 use Rattle.mender.proofs.mend_line.Statement.{statement}
 use Rattle.mender.proofs.mend_line.Tie as tie
 
@@ -24,35 +24,32 @@ book w = bookIn (start w .args .book .now)
 of-sort : (w : tie.After-sort-of) {σ : Sort} → w .sort-of .result ≡ σ → sortOf (book w) (start w .args .line .now) ≡ σ
 of-sort w e = sym (w .sort-of .ensures) ∙ e
 
+-- a silent line
 returns : tie.Need-returns
 returns c =
     let at = c .before .before in
     let told = at .before .before in
     let w = told .before .before in
     let a = start w .args in
-    let e = of-sort w (told .enum-told .given .1) in
-    let kept = at .keep-line .ensures in
-    (kept-mends (book w) (a .line .now) e (a .walk .section) (a .walk .width) (a .kinds .now) (a .walk .line + 1) refl refl (kept .0) (kept .1 .1), (kept-passes (book w) (a .line .now) e (a .walk .section) (a .walk .width) (a .kinds .now) refl refl refl (kept .1 .2) (kept .1 .3) (start w .pre .1 .1), kept .1 .0))
+    kept-line (book w) (a .line .now) (of-sort w (told .enum-told .given .1)) (a .walk) (a .kinds .now) refl refl refl refl refl (start w .pre .1 .1) (at .keep-line .ensures .0) (at .keep-line .ensures .1)
 
+-- one with an unknown code
 returns-2 : tie.Need-returns-2
 returns-2 c =
     let at = c .before .before in
     let told = at .before .before in
     let w = told .before .before in
     let a = start w .args in
-    let e = of-sort w (told .enum-told2 .given .1) in
-    let kept = at .keep-line2 .ensures in
-    (kept-mends (book w) (a .line .now) e (a .walk .section) (a .walk .width) (a .kinds .now) (a .walk .line + 1) refl refl (kept .0) (kept .1 .1), (kept-passes (book w) (a .line .now) e (a .walk .section) (a .walk .width) (a .kinds .now) refl refl refl (kept .1 .2) (kept .1 .3) (start w .pre .1 .1), kept .1 .0))
+    kept-line (book w) (a .line .now) (of-sort w (told .enum-told2 .given .1)) (a .walk) (a .kinds .now) refl refl refl refl refl (start w .pre .1 .1) (at .keep-line2 .ensures .0) (at .keep-line2 .ensures .1)
 
+-- a metadata line
 returns-3 : tie.Need-returns-3
 returns-3 c =
     let at = c .before .before in
     let told = at .before .before in
     let w = told .before .before in
     let a = start w .args in
-    let e = of-sort w (told .enum-told3 .given .1) in
-    let kept = at .keep-line3 .ensures in
-    (kept-mends (book w) (a .line .now) e (a .walk .section) (a .walk .width) (a .kinds .now) (a .walk .line + 1) refl refl (kept .0) (kept .1 .1), (kept-passes (book w) (a .line .now) e (a .walk .section) (a .walk .width) (a .kinds .now) refl refl refl (kept .1 .2) (kept .1 .3) (start w .pre .1 .1), kept .1 .0))
+    kept-line (book w) (a .line .now) (of-sort w (told .enum-told3 .given .1)) (a .walk) (a .kinds .now) refl refl refl refl refl (start w .pre .1 .1) (at .keep-line3 .ensures .0) (at .keep-line3 .ensures .1)
 
 -- a header
 returns-4 : tie.Need-returns-4
