@@ -8,6 +8,7 @@ use Prim.Native.Nat.{ℕ, _+_, _-_, _*_, _≤_, _<_}
 use lib.ListN.{length, getD, take}
 use Rattle.text_bytes.specs.Bytes.{Bytes}
 use Rattle.text.specs.Lines.{lines, cell, width}
+use Rattle.text.specs.Joined.{lineEnds}
 use Rattle.rules.specs.Breaks.{Break, breakAt}
 use Rattle.rules.specs.Rules.{breaks}
 use Rattle.rules.specs.Mended.{NULL, changesOf, leftOf, isChanged}
@@ -32,11 +33,12 @@ pub record Lists (gs : List Break) (zs : List ℕ) (k : ℕ) (cs : List ℕ) : T
   pub cell-of : (i : ℕ) → HasPlaces k zs i → getD cs (2 * i + 1) 0 ≡ (getD gs i (breakAt 0 0 0)) .cell
   pub untouched : (j : ℕ) → ((i : ℕ) → HasPlaces k zs i → (j < 2 * i) ⊎ (2 * i + 2 ≤ j)) → getD cs j 0 ≡ getD zs j 0
 
--- of a copy: the lines of the file, cell by cell, with `null` where a change is; its breaks are those of the file without the mended ones; and mended again
--- nothing changes
+-- of a copy: the lines of the file with their ends, cell by cell, with `null` where a change is; its breaks are those of the file without the mended ones; and
+-- mended again nothing changes
 pub record Copies (file copy : Bytes) : Type 0 where
   pub size : length copy ≡ length file + 4 * length (changesOf file)
   pub count : length (lines copy) ≡ length (lines file)
+  pub ends : lineEnds copy ≡ lineEnds file
   pub widths : (l : ℕ) → 1 ≤ l → l ≤ length (lines file) → width (getD (lines copy) (l - 1) []) ≡ width (getD (lines file) (l - 1) [])
   pub cells : (l c : ℕ) → 1 ≤ l → l ≤ length (lines file) → 1 ≤ c → c ≤ width (getD (lines file) (l - 1) [])
       → cell c (getD (lines copy) (l - 1) []) ≡ cond (isChanged (changesOf file) l c) NULL (cell c (getD (lines file) (l - 1) []))

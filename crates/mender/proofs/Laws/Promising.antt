@@ -16,7 +16,7 @@ use Rattle.text_bytes.specs.Bytes.{Bytes}
 use Rattle.text.specs.Lines.{LIMIT}
 use Rattle.rules.specs.Breaks.{Break, breakAt}
 use Rattle.rules.specs.Mended.{changesOf, copyOf}
-use Rattle.rules.proofs.Laws.Mending.{copy-same, copy-count, copy-breaks, copy-changes, copy-twice, copy-width, copy-cell, copy-length}
+use Rattle.rules.proofs.Laws.Mending.{copy-same, copy-count, copy-ends, copy-breaks, copy-changes, copy-twice, copy-width, copy-cell, copy-length}
 use Rattle.mender.specs.Mended.{Outcome, outcome, withBytes, withChanges, mended}
 use Rattle.mender.specs.Promised.{Refused, HasPlaces, Lists, Copies, Promised}
 
@@ -88,6 +88,7 @@ copy-copies : (file : Bytes) → Copies file (copyOf file)
 copy-copies file = record {
   size = copy-length file;
   count = copy-count file;
+  ends = copy-ends file;
   widths = λ l low high. copy-width file l low high;
   cells = λ l c low high cl ch. copy-cell file l low high c cl ch;
   left = copy-breaks file;

@@ -1,5 +1,5 @@
--- The copy with `null` in the empty cells where it may stand: its lines and cells, its breaks, its length; mended again it stays the same, and a file with nothing
--- to mend is its own copy. Assumes nothing.
+-- The copy with `null` in the empty cells where it may stand: its lines, their ends and cells, its breaks, its length; mended again it stays the same, and a file
+-- with nothing to mend is its own copy. Assumes nothing.
 use mathlib.Core.Path.{_≡_, refl, sym, ap, subst, _∙_}
 use mathlib.Core.Bool.{Bool, true, false, cond, _&&_, and-false, or-false}
 use mathlib.Core.List.{List, [], _∷_, _++_}
@@ -16,7 +16,7 @@ use Rattle.text_bytes.proofs.Laws.Each.{any-append, split-some}
 use Rattle.text.specs.Lines.{TAB, lines, cells, cell, width}
 use Rattle.text.specs.Edits.{has}
 use Rattle.text.specs.Joined.{lineEnds, joined, tabbed}
-use Rattle.text.proofs.Laws.Joining.{lines-joined, cells-tabbed, Filled, none, same, new, filled-cells, filled-some, AllFilled, done, next, joined-filled}
+use Rattle.text.proofs.Laws.Joining.{lines-joined, cells-tabbed, Filled, none, same, new, filled-cells, filled-some, AllFilled, done, next, joined-filled, ends-filled}
 use Rattle.book.specs.Book.{Book, bookOf}
 use Rattle.rules.specs.Sorts.{sortOf, isRow}
 use Rattle.rules.specs.Breaks.{Break, breakAt, when, Spot, spotAt, each}
@@ -212,6 +212,11 @@ module _ (file : Bytes) where
   -- its lines are those that are mended
   pub copy-lines : lines (copyOf file) ≡ mendedLines (changesOf file) 1 (lines file)
   copy-lines = copy-filled ∙ sym (lines-mended book (lines file))
+
+  -- each has the end that it had
+  pub copy-ends : lineEnds (copyOf file) ≡ lineEnds file
+  unfolding copyBy
+  copy-ends = rw (lines-mended book (lines file)) (ends-filled file (all-filled book (lines file) 1 (lines file)))
 
   pub copy-count : length (lines (copyOf file)) ≡ length (lines file)
   copy-count = copy-fills .count

@@ -15,7 +15,7 @@ use Rattle.text.specs.Lines.{TAB, LF, CR, startsLf, lines, cells}
 use Rattle.text.specs.Edits.{has}
 use Rattle.text.specs.Joined.{lineEnds, joined, tabbed}
 use Rattle.text.specs.Places.{LineAt}
-use Rattle.text.proofs.Laws.Splicing.{has-none, pieces, front, endsCr, nothing, lf, crlf, lines-on, lines-front, tail-for, has-append, ends-free, ends-append}
+use Rattle.text.proofs.Laws.Splicing.{has-none, pieces, front, endsCr, Tail, nothing, lf, crlf, lines-on, lines-front, tail-for, has-append, ends-free, ends-append}
 
 -- THE FIRST LINE, WHAT ENDS IT AND WHAT IS LEFT
 
@@ -320,14 +320,34 @@ akin-filled (new {xs} {ys} x y s t l c f) = rw (tabbed-tabs x xs, tabbed-tabs y 
 pub filled-some : (l : Bytes) {ys : List Bytes} → Filled (cells l) ys → isEmpty l ≡ false → isEmpty (tabbed ys) ≡ false
 filled-some l f h = akin-filled f .some (rw (cells-tabbed l) h)
 
--- such a line in the place of one, before what ends that, is a line, and what is left is cut as it is
-lines-akin : (m : Bytes) {l end rest : Bytes} → Akin l m → has LF l ≡ false → Ended l end rest → (other : Bytes) → (end ≡ [] → other ≡ []) → lines (m ++ (end ++ other)) ≡ m ∷ lines other
-unfolding lines startsLf isEmpty
-lines-akin m a h (last s) other z = rw (z refl) (lines-front m (a .free h) (a .some s) nothing)
-lines-akin [] a h (by-lf rest e) other z = refl
-lines-akin (x ∷ xs) {l} a h (by-lf rest e) other z = lines-front (x ∷ xs) (a .free h) refl (tail-for (endsCr l) (endsCr (x ∷ xs)) (a .ends) (lf other e))
-lines-akin [] a h (by-crlf rest) other z = refl
-lines-akin (x ∷ xs) a h (by-crlf rest) other z = lines-front (x ∷ xs) (a .free h) refl (crlf other)
+-- the lines of a text, and what ends them
+abbrev Split : Bytes → List Bytes → List Bytes → Type 0
+Split f ls es = (lines f ≡ ls) × (lineEnds f ≡ es)
+
+-- a line, and what ends it, or nothing
+ends-front : (m : Bytes) {rest : Bytes} {ls : List Bytes} → has LF m ≡ false → isEmpty m ≡ false → Tail (endsCr m) rest ls → lineEnds (m ++ rest) ≡ cond (isEmpty rest) ([] ∷ []) (lineEnds rest)
+unfolding lineEnds startsLf endsCr isEmpty
+ends-front [] h s t = absurd-bool (sym s)
+ends-front (x ∷ []) h s nothing = rw (has-none LF x [] h .0, and-false (eqb x CR))
+ends-front (x ∷ []) h s (lf rest e) = rw (has-none LF x [] h .0, e)
+ends-front (x ∷ []) h s (crlf rest) = rw (has-none LF x [] h .0, and-false (eqb x CR))
+ends-front (x ∷ (y ∷ ys)) h s t =
+    let q = has-none LF x (y ∷ ys) h in
+    let d : (eqb x CR && eqb y LF) ≡ false = rw (has-none LF y ys (q .1) .0) (and-false (eqb x CR)) in
+    rw (q .0, d) (ends-front (y ∷ ys) (q .1) refl t)
+
+split-front : (m : Bytes) {rest : Bytes} {ls : List Bytes} → has LF m ≡ false → isEmpty m ≡ false → Tail (endsCr m) rest ls → Split (m ++ rest) (m ∷ ls) (cond (isEmpty rest) ([] ∷ []) (lineEnds rest))
+split-front m h s t = (lines-front m h s t, ends-front m h s t)
+
+-- such a line in the place of one, before what ends that, is a line with this end, and what is left is cut as it is
+split-akin : (m : Bytes) {l end rest : Bytes} → Akin l m → has LF l ≡ false → Ended l end rest → (other : Bytes) → (end ≡ [] → other ≡ [])
+    → Split (m ++ (end ++ other)) (m ∷ lines other) (end ∷ lineEnds other)
+unfolding lines lineEnds onFirst startsLf isEmpty
+split-akin m a h (last s) other z = rw (z refl) (split-front m (a .free h) (a .some s) nothing)
+split-akin [] a h (by-lf rest e) other z = (refl, refl)
+split-akin (x ∷ xs) {l} a h (by-lf rest e) other z = split-front (x ∷ xs) (a .free h) refl (tail-for (endsCr l) (endsCr (x ∷ xs)) (a .ends) (lf other e))
+split-akin [] a h (by-crlf rest) other z = (refl, refl)
+split-akin (x ∷ xs) a h (by-crlf rest) other z = split-front (x ∷ xs) (a .free h) refl (crlf other)
 
 -- lines, each with such cells
 pub data AllFilled : List Bytes → List Bytes → Type 0 where
@@ -347,7 +367,8 @@ ended-none (by-crlf rest) q e = absurd (omega (arith, ap length e))
 
 -- the first line and those after it
 joined-next : {f : Bytes} (r : Cut f) {ls ms : List Bytes} → ls ≡ r .line ∷ lines (r .rest) → AllFilled ls ms
-    → ((ns : List Bytes) → AllFilled (lines (r .rest)) ns → lines (joined ns (lineEnds (r .rest))) ≡ ns) → lines (joined ms (r .end ∷ lineEnds (r .rest))) ≡ ms
+    → ((ns : List Bytes) → AllFilled (lines (r .rest)) ns → Split (joined ns (lineEnds (r .rest))) ns (lineEnds (r .rest)))
+    → Split (joined ms (r .end ∷ lineEnds (r .rest))) ms (r .end ∷ lineEnds (r .rest))
 unfolding joined
 joined-next r e done ih = absurd (omega (arith, ap length e))
 joined-next r e (next {l} {ls} {ys} {ms} p q) ih =
@@ -356,19 +377,24 @@ joined-next r e (next {l} {ls} {ys} {ms} p q) ih =
     let a : Akin (r .line) (tabbed ys) = rw (← h) (rw (cells-tabbed l) at (akin-filled p)) in
     let o : AllFilled (lines (r .rest)) ms = rw (← t) q in
     let z : r .end ≡ [] → joined ms (lineEnds (r .rest)) ≡ [] = λ n. rw (ended-none (r .ended) o n) in
-    lines-akin (tabbed ys) a (r .free) (r .ended) (joined ms (lineEnds (r .rest))) z ∙ ap (λ (zs : List Bytes). tabbed ys ∷ zs) (ih ms o)
+    rw (ih ms o .0, ih ms o .1) at (split-akin (tabbed ys) a (r .free) (r .ended) (joined ms (lineEnds (r .rest))) z)
 
 -- by the length of the text
-joined-step : (f : Bytes) → ((g : Bytes) → length g < length f → (ms : List Bytes) → AllFilled (lines g) ms → lines (joined ms (lineEnds g)) ≡ ms)
-    → (ms : List Bytes) → AllFilled (lines f) ms → lines (joined ms (lineEnds f)) ≡ ms
-unfolding lines joined
-joined-step [] ih ms a = rw (all-none refl a)
+joined-step : (f : Bytes) → ((g : Bytes) → length g < length f → (ms : List Bytes) → AllFilled (lines g) ms → Split (joined ms (lineEnds g)) ms (lineEnds g))
+    → (ms : List Bytes) → AllFilled (lines f) ms → Split (joined ms (lineEnds f)) ms (lineEnds f)
+unfolding lines lineEnds joined
+joined-step [] ih ms a = rw (all-none refl a) (refl, refl)
 joined-step (x ∷ xs) ih ms a = let r = cut-first x xs in rw (r .ends-cut) (joined-next r (r .lines-cut) a (ih (r .rest) (cut-less r)))
 
-joined-below : (k : ℕ) (f : Bytes) → length f < k → (ms : List Bytes) → AllFilled (lines f) ms → lines (joined ms (lineEnds f)) ≡ ms
+joined-below : (k : ℕ) (f : Bytes) → length f < k → (ms : List Bytes) → AllFilled (lines f) ms → Split (joined ms (lineEnds f)) ms (lineEnds f)
 joined-below zero f h = absurd (omega arith)
 joined-below (suc k) f h = joined-step f (λ g l. joined-below k g (omega arith))
 
--- a file with such lines, and the ends that stood there, is cut into them
-pub joined-filled : (f : Bytes) {ms : List Bytes} → AllFilled (lines f) ms → lines (joined ms (lineEnds f)) ≡ ms
-joined-filled f {ms} a = joined-below (suc (length f)) f (omega arith) ms a
+module _ (f : Bytes) {ms : List Bytes} (a : AllFilled (lines f) ms) where
+  -- a file with such lines, and the ends that stood there, is cut into them
+  pub joined-filled : lines (joined ms (lineEnds f)) ≡ ms
+  joined-filled = joined-below (suc (length f)) f (omega arith) ms a .0
+
+  -- and has these ends
+  pub ends-filled : lineEnds (joined ms (lineEnds f)) ≡ lineEnds f
+  ends-filled = joined-below (suc (length f)) f (omega arith) ms a .1
