@@ -9,6 +9,7 @@ use Rattle.text_bytes.specs.Bytes.{Bytes, bytes, same, begins, isEmpty, any, al
 use Rattle.text_bytes.specs.Places.{after}
 use Rattle.text.specs.Lines.{lines, startsLf, coded, cell, isField, control}
 use Rattle.text.specs.Edits.{editedFile}
+use Rattle.text.specs.Joined.{lineEnds, joined, tabbed}
 use Rattle.value_references.specs.Index.{written, digits, number, bracketed, indexAt}
 use Rattle.values.specs.Values.{areDigits, unsigned, unmarked, dotted, isE, mantissa, exponent, isExponent, isUnsigned, isText, isWhole, isNumeral, isDecimal, isDecimals, isWindow, isNull}
 use Rattle.value_parameters.specs.Parameters.{quotedAfter, cutOutside, hasFields, isParameter, isParameters}
@@ -25,6 +26,7 @@ use Rattle.rules.specs.Sorts.{codeSort, sortOf, isSilent}
 use Rattle.rules.specs.Breaks.{Break, breakWith, breakAt, each, atCell, atLine, inLines, atEnd}
 use Rattle.rules.specs.Rules.{sameKey, namedIn, isUndeclared, lacksColumn, nearestIn, flawAt, rules, isPresent, isAsked, hasKey, isUnmet, endRules, breaksBy, breaks}
 use Rattle.rules.specs.Edited.{kept, renewed}
+use Rattle.rules.specs.Mended.{NULL, changesBy, mendedCells, mendedLines, copyBy, copyOf}
 
 -- the paper's example, and its breaks
 abbrev yeast : Bytes
@@ -83,6 +85,10 @@ repeats =
 abbrev edited : Bytes
 edited = editedFile 8 6 (bytes "many") yeast
 
+-- and with `null` in it, of request 2026-02: the copy is the file with that one cell edited, and has the old breaks without that one
+abbrev isMendedAt : ℕ → ℕ → Bytes → Bool
+isMendedAt n c file = same (copyOf file) (editedFile n c NULL file)
+
 unfoldable pub files : List Case
 files =
     isA (hasBreaks (allAbsent 1)) (bytes "")
@@ -91,8 +97,10 @@ files =
     ∷ isA (hasBreaks (misnumbers ++ allAbsent 11)) misnumbered
     ∷ isA (hasBreaks (repeats ++ allAbsent 11)) repeated
     ∷ isA (hasBreaks (renewed 8 (breakAt 8 6 20 ∷ []) yeasts)) edited
+    ∷ isA (isMendedAt 8 6) yeast
+    ∷ isA (hasBreaks (renewed 8 [] yeasts)) (copyOf yeast)
     ∷ []
 
 pub all-hold : all agrees (cases ++ files) ≡ true
-unfolding cases files sameBreaks kept after bytes same begins isEmpty any all onFirst splitOn lines startsLf coded cell isField control firstFrom written digits number bracketed indexAt areDigits unsigned unmarked dotted isE mantissa exponent isExponent isUnsigned isText isWhole isNumeral isDecimal isDecimals isWindow isNull quotedAfter cutOutside isSpace hasFields isParameter isParameters piecesFrom entryOf fits firstOf keys isColunit proteinColumns peptideColumns psmColumns moleculeColumns proteinRequired peptideRequired psmRequired moleculeRequired mzTab demands bookOf isSection sectionOf codedFrom keyOf isOpt optOf columnOf declares refIn refTo refFlaw trimmed refsTo isReferences flawAmong refsFlaw familyNumber isKept isFixed namedIn ofKind kindFlaw cellOfKind codeSort sortOf isSilent each atCell atLine inLines atEnd sameKey isUndeclared lacksColumn nearestIn flawAt rules hasForm hasKey asks modeOf typeOf earliest isPresent isAsked upFrom wantsOf wantsIn isUnmet lastCell endRules breaksBy breaks
+unfolding cases files sameBreaks kept NULL changesBy mendedCells mendedLines copyBy lineEnds joined tabbed after bytes same begins isEmpty any all onFirst splitOn lines startsLf coded cell isField control firstFrom written digits number bracketed indexAt areDigits unsigned unmarked dotted isE mantissa exponent isExponent isUnsigned isText isWhole isNumeral isDecimal isDecimals isWindow isNull quotedAfter cutOutside isSpace hasFields isParameter isParameters piecesFrom entryOf fits firstOf keys isColunit proteinColumns peptideColumns psmColumns moleculeColumns proteinRequired peptideRequired psmRequired moleculeRequired mzTab demands bookOf isSection sectionOf codedFrom keyOf isOpt optOf columnOf declares refIn refTo refFlaw trimmed refsTo isReferences flawAmong refsFlaw familyNumber isKept isFixed namedIn ofKind kindFlaw cellOfKind codeSort sortOf isSilent each atCell atLine inLines atEnd sameKey isUndeclared lacksColumn nearestIn flawAt rules hasForm hasKey asks modeOf typeOf earliest isPresent isAsked upFrom wantsOf wantsIn isUnmet lastCell endRules breaksBy breaks
 all-hold = refl
