@@ -1,6 +1,6 @@
 -- What is carried from line to line while a file is copied, and what of the copy and the changes is still to come. No public contract cites this file. Assumes
 -- nothing.
-use Prim.Native.Nat.{ℕ, suc, _-_}
+use Prim.Native.Nat.{ℕ, _-_}
 use mathlib.Core.Path.{_≡_}
 use mathlib.Core.List.{List, []}
 use lib.ListN.{length}

@@ -1,9 +1,8 @@
 -- A line that stays as it is, and one that is a header: what is laid, and what is carried after it. Assumes nothing.
-use mathlib.Core.Path.{_≡_, refl, sym, ap, subst⁻¹, _∙_}
+use mathlib.Core.Path.{_≡_, sym, ap, _∙_}
 use mathlib.Core.List.{List, []}
 use Prim.Native.Nat.{ℕ, _+_, _*_, _≤_, _<_}
 use native.Mathlib.Omega.{arith}
-use lib.Dec.{ltb}
 use lib.ListN.{length, drop}
 use borrow.Author.Tests.{lt-ltb}
 use Rattle.text_bytes.specs.Bytes.{Bytes}
@@ -15,10 +14,9 @@ use Rattle.rules.specs.Sorts.{sortOf, headerIn}
 use Rattle.rules.specs.declared.sorts.Sort.{Sort}
 use Rattle.rules.specs.declared.sorts.Sort.the-variants.{Header}
 use Rattle.scan.specs.Places.{Lent, lent}
-use Rattle.scan.specs.Machine.{KindsOf, Kinds}
+use Rattle.scan.specs.Machine.{KindsOf}
 use Rattle.mender_places.specs.Places.{layAll, noteAll, Mends}
 use Rattle.mender_places.proofs.Laws.Laying.{lay-count}
-use Rattle.rules.specs.Rules.{nearer}
 use Rattle.mender.specs.declared.Walk.{Walk}
 use Rattle.mender.specs.Walk.{sortFilled, sortFound, sectionAfter, widthAfter, Passes}
 

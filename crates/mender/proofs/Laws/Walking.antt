@@ -1,17 +1,17 @@
 -- What is carried of the header says which cells of a row are filled; and a walk from line to line, by what of the copy and the changes is still to come. Assumes
 -- nothing.
 use mathlib.Core.Path.{_≡_, refl, sym, ap, subst, _∙_}
-use mathlib.Core.Bool.{Bool, true, false, cond, not, _&&_, and-false, and-true}
+use mathlib.Core.Bool.{Bool, true, false, cond, _&&_, and-false}
 use mathlib.Core.List.{List, [], _∷_, _++_}
-use Prim.Native.Nat.{ℕ, zero, suc, _+_, _-_, _*_, _≤_, _<_}
+use Prim.Native.Nat.{ℕ, suc, _+_, _-_, _*_, _≤_, _<_}
 use native.Mathlib.Nat.{not-suc-le-zero}
 use native.Mathlib.Numerals.{add-one}
 use native.Mathlib.Omega.{arith}
-use lib.Dec.{eqb, leb, ltb}
+use lib.Dec.{eqb, leb}
 use lib.ListN.{length, getD, take, drop, length-take, length-drop}
 use lib.Seq.{length-take-le}
 use borrow.Author.Tests.{le-leb, lt-ltb, leb-true, eqb-true}
-use Rattle.text_bytes.specs.Bytes.{Bytes, isEmpty, any, splitOn}
+use Rattle.text_bytes.specs.Bytes.{Bytes, isEmpty, splitOn}
 use Rattle.text_bytes.proofs.Laws.Tests.{and-both}
 use Rattle.text_bytes.proofs.Laws.Each.{split-some}
 use Rattle.text_bytes.specs.Places.{part}
@@ -22,14 +22,14 @@ use Rattle.text.proofs.Laws.Lines.{lines-done}
 use Rattle.text.proofs.Laws.Joining.{ends-next, end-before}
 use Rattle.book.specs.Book.{Book}
 use Rattle.book.proofs.Laws.Sized.{Sized}
-use Rattle.rules.specs.Sorts.{sortOf, header, isRow}
+use Rattle.rules.specs.Sorts.{sortOf, header}
 use Rattle.rules.specs.Breaks.{Spot, spot, spotAt, each}
 use Rattle.rules.specs.Mended.{changesBy, copyBy}
 use Rattle.rules.specs.Rules.{isUnder, isAsWide, nearer, nearest, nearestIn, columnKind}
 use Rattle.rules.specs.declared.sorts.Sort.{Sort}
 use Rattle.rules.specs.declared.sorts.Sort.the-variants.{Silent, Unknown, Meta, Header, Row}
 use Rattle.rules.proofs.Laws.Sorting.{row-section, header-section}
-use Rattle.rules.proofs.Laws.Filling.{null-stands, cons-here, fillsAt, holes, holesIn, holes-in, other-fills, all-changes, fillCells}
+use Rattle.rules.proofs.Laws.Filling.{null-stands, cons-here, fillsAt, holes, holesIn, holes-in, all-changes, fillCells, other-cells, other-holes}
 use Rattle.rules.proofs.Laws.Mending.{fillLines, lines-mended}
 use Rattle.scan.specs.Places.{Lent, lent}
 use Rattle.scan.specs.Machine.{Kinds}
@@ -124,34 +124,24 @@ module _ (b : Book) (sized : Sized b) (above : List Bytes) (l : Bytes) (file : L
 
   -- ANY LINE
 
-  other-cells : isRow b l ≡ false → (c : ℕ) (xs : List Bytes) → fillCells b p c xs ≡ xs
-  unfolding fillCells
-  other-cells f c [] = refl
-  other-cells f c (x ∷ xs) = rw (other-fills b p c x f, other-cells f (suc c) xs)
-
-  other-holes : isRow b l ≡ false → (n c : ℕ) (xs : List Bytes) → holesIn b p n c xs ≡ []
-  unfolding holesIn
-  other-holes f n c [] = refl
-  other-holes f n c (x ∷ xs) = rw (other-fills b p c x f, other-holes f n (suc c) xs)
-
   pub line-cells : fillCells b p 1 (cells l) ≡ sortFilled (sortOf b l) h w kinds (cells l)
   line-cells = go (sortOf b l) refl
     where
       go : (σ : Sort) → sortOf b l ≡ σ → fillCells b p 1 (cells l) ≡ sortFilled σ h w kinds (cells l)
-      go Silent e = other-cells (rw e) 1 (cells l)
-      go Unknown e = other-cells (rw e) 1 (cells l)
-      go Meta e = other-cells (rw e) 1 (cells l)
-      go (Header s) e = other-cells (rw e) 1 (cells l)
+      go Silent e = other-cells b p (rw e) 1 (cells l)
+      go Unknown e = other-cells b p (rw e) 1 (cells l)
+      go Meta e = other-cells b p (rw e) 1 (cells l)
+      go (Header s) e = other-cells b p (rw e) 1 (cells l)
       go (Row s) e = row-cells s e (cells l) refl
 
   pub line-holes : (n : ℕ) → holesIn b p n 1 (cells l) ≡ sortFound (sortOf b l) h w kinds n (cells l)
   line-holes n = go (sortOf b l) refl
     where
       go : (σ : Sort) → sortOf b l ≡ σ → holesIn b p n 1 (cells l) ≡ sortFound σ h w kinds n (cells l)
-      go Silent e = other-holes (rw e) n 1 (cells l)
-      go Unknown e = other-holes (rw e) n 1 (cells l)
-      go Meta e = other-holes (rw e) n 1 (cells l)
-      go (Header s) e = other-holes (rw e) n 1 (cells l)
+      go Silent e = other-holes b p (rw e) n 1 (cells l)
+      go Unknown e = other-holes b p (rw e) n 1 (cells l)
+      go Meta e = other-holes b p (rw e) n 1 (cells l)
+      go (Header s) e = other-holes b p (rw e) n 1 (cells l)
       go (Row s) e = row-holes s e n (cells l) refl
 
   -- what is carried after it

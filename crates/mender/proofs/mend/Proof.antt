@@ -1,7 +1,6 @@
 -- `mender::mend` meets its contract: the limit decides, then what a first walk says of the copy's length, and else a second walk writes. Assumes nothing.
 use mathlib.Core.Path.{sym, _∙_}
 use borrow.Author.Needs.{needs}
-use lib.ListN.{length}
 use Rattle.book.specs.Book.{bookOf}
 use Rattle.book.specs.Text.{bookIn}
 use Rattle.mender.proofs.Laws.Writing.{mended-long, mended-none, mended-room, mended-done}

@@ -1,10 +1,9 @@
 -- Bytes laid and changes noted, one after the other. Assumes nothing.
 use mathlib.Core.Path.{_≡_, refl, sym, ap, _∙_}
-use mathlib.Core.Bool.{cond}
 use mathlib.Core.List.{List, [], _∷_, _++_}
-use Prim.Native.Nat.{ℕ, zero, suc, _+_, _-_, _*_, _≤_, _<_}
+use Prim.Native.Nat.{ℕ, suc, _+_, _-_, _≤_, _<_}
 use native.Mathlib.Omega.{arith}
-use lib.ListN.{length, drop, getD, set, length-set, length-drop}
+use lib.ListN.{length, drop, getD, set, length-drop}
 use lib.Seq.{set-out}
 use Rattle.text_bytes.specs.Bytes.{Bytes}
 use Rattle.text_bytes.proofs.Laws.Pieces.{drop-step}

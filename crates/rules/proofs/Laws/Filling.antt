@@ -3,7 +3,7 @@
 use mathlib.Core.Path.{_≡_, refl, sym, ap, _∙_}
 use mathlib.Core.Bool.{Bool, true, false, cond, not, _&&_, _||_, and-false, and-true}
 use mathlib.Core.List.{List, [], _∷_, _++_, append-nil}
-use mathlib.Core.Logic.{⊎-elim, inl, inr}
+use mathlib.Core.Logic.{⊎-elim}
 use Prim.Native.Nat.{ℕ, zero, suc, _+_, _-_, _≤_, _<_}
 use native.Mathlib.Nat.{eq-or-lt-of-le}
 use native.Mathlib.Omega.{arith}
@@ -19,7 +19,7 @@ use Rattle.book_kinds.specs.Kinds.{isKept, ofKind, cellOfKind}
 use Rattle.values.specs.Values.{isText, isNull}
 use Rattle.rules.specs.Sorts.{sortOf, header, rowIn, isRow, isSilent, controlCell}
 use Rattle.rules.specs.Breaks.{Break, breakAt, breakWith, when, Spot, spot, spotAt, Rule, each, atCell, atLine, inLines, atEnd}
-use Rattle.rules.specs.Rules.{isUnder, isAsWide, isWide, nearest, kindIn, columnKind, rules, endRules, ends, breaksBy, flawAt}
+use Rattle.rules.specs.Rules.{isUnder, isAsWide, isWide, nearest, kindIn, rules, endRules, ends, breaksBy, flawAt}
 use Rattle.rules.specs.Edited.{kept, Alike, equal, rows, Alikes}
 use Rattle.rules.specs.Mended.{NULL, takesNull, isMended, changesBy}
 use Rattle.value_references.specs.declared.index.Flaw.the-variants.{Form}
@@ -192,6 +192,18 @@ module _ (b : Book) (file : List Bytes) where
 unfoldable pub fillCells : Book → Spot → ℕ → List Bytes → List Bytes
 fillCells b p c [] = []
 fillCells b p c (x ∷ xs) = cond (fillsAt b p c x) NULL x ∷ fillCells b p (suc c) xs
+
+-- a line that is no row stays as it is
+module _ (b : Book) (p : Spot) (h : isRow b (p .here) ≡ false) where
+  pub other-cells : (c : ℕ) (xs : List Bytes) → fillCells b p c xs ≡ xs
+  unfolding fillCells
+  other-cells c [] = refl
+  other-cells c (x ∷ xs) = rw (other-fills b p c x h, other-cells (suc c) xs)
+
+  pub other-holes : (n c : ℕ) (xs : List Bytes) → holesIn b p n c xs ≡ []
+  unfolding holesIn
+  other-holes n c [] = refl
+  other-holes n c (x ∷ xs) = rw (other-fills b p c x h, other-holes n (suc c) xs)
 
 module _ (b : Book) (p : Spot) where
   pub fill-length : (c : ℕ) (xs : List Bytes) → length (fillCells b p c xs) ≡ length xs

@@ -8,13 +8,11 @@ use Prim.Native.Nat.{ℕ, zero, suc, _+_, _-_, _*_, _≤_, _<_}
 use native.Mathlib.Nat.{eq-or-lt-of-le}
 use native.Mathlib.Omega.{arith}
 use lib.Dec.{eqb, leb}
-use lib.ListN.{length, getD, take, drop, length-append}
-use lib.Seq.{drop-cons, drop-drop}
+use lib.ListN.{length, getD, drop, length-append}
 use borrow.Author.Tests.{eq-eqb, ne-eqb, ltb-true}
 use Rattle.text_bytes.specs.Bytes.{Bytes, bytes, any, isEmpty}
 use Rattle.text_bytes.proofs.Laws.Each.{any-append, split-some}
 use Rattle.text.specs.Lines.{TAB, lines, cells, cell, width}
-use Rattle.text.specs.Edits.{has}
 use Rattle.text.specs.Joined.{lineEnds, joined, tabbed}
 use Rattle.text.proofs.Laws.Joining.{lines-joined, cells-tabbed, Filled, none, same, new, filled-cells, filled-some, AllFilled, done, next, joined-filled, ends-filled}
 use Rattle.book.specs.Book.{Book, bookOf}
@@ -25,7 +23,7 @@ use Rattle.rules.specs.Mended.{NULL, changesBy, changesOf, leftOf, isCha
 use Rattle.rules.specs.declared.sorts.Sort.the-variants.{Row}
 use Rattle.rules.proofs.Laws.Alike.{row-stays, row-some}
 use Rattle.rules.proofs.Laws.Locality.{row-sort}
-use Rattle.rules.proofs.Laws.Filling.{null-some, cons-here, fillsAt, fills, hole, holes, holesIn, holes-in, other-fills, all-changes, fillCells, fill-length, fill-at, Stood, other, row, Fills, breaks-filled, changes-filled}
+use Rattle.rules.proofs.Laws.Filling.{null-some, cons-here, fillsAt, fills, hole, holes, holesIn, holes-in, all-changes, fillCells, other-cells, fill-length, fill-at, Stood, other, row, Fills, breaks-filled, changes-filled}
 
 -- WHERE A CHANGE IS
 
@@ -138,12 +136,6 @@ module _ (b : Book) (file : List Bytes) where
   lines-at n zero (l ∷ ls) lt = let e : n + 0 ≡ n = omega arith in rw e
   lines-at n (suc i) (l ∷ ls) lt = let e : n + suc i ≡ suc n + i = omega arith in rw e (lines-at (suc n) i ls (omega arith))
 
-  -- a line, filled: one that is no row stays as it is
-  fill-other : (p : Spot) (c : ℕ) (xs : List Bytes) → isRow b (p .here) ≡ false → fillCells b p c xs ≡ xs
-  unfolding fillCells
-  fill-other p c [] h = refl
-  fill-other p c (x ∷ xs) h = rw (other-fills b p c x h, fill-other p (suc c) xs h)
-
   -- cell 1 is never filled
   first-cell : (p : Spot) (l : Bytes) → cell 1 (tabbed (fillCells b p 1 (cells l))) ≡ cell 1 l
   unfolding cell fillsAt
@@ -171,7 +163,7 @@ module _ (b : Book) (file : List Bytes) where
 
       go : (u : Bool) → isRow b l ≡ u → Stood b p (tabbed (fillCells b p 1 (cells l)))
       go true h = let r = row-sort b l h in of-row (r .0) (r .1) h
-      go false h = rw (fill-other p 1 (cells l) h, cells-tabbed l) (other h)
+      go false h = rw (other-cells b p h 1 (cells l), cells-tabbed l) (other h)
 
   pub fills-lines : Fills b file (fillLines b file 1 file)
   fills-lines = record {
