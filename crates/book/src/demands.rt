@@ -13,7 +13,7 @@ pub const ONCE: usize = 4;
 
 // The entry of the key that is demanded, the rule that its absence breaks and the cell at which that is reported, the letter that says of which files it is
 // asked, the section that these must have, 0 for none, and the number of the family for each of whose ids it is asked, or ONCE.
-#[derive(Drop)]
+#[derive(Clone, Copy)]
 pub struct Demand {
     pub entry: usize,
     pub rule: u32,

@@ -1,4 +1,6 @@
 // The rule book: the paper's tables of the names that are known, with their kinds and the ids that they name, lent to the look-ups as one text of rows and links.
+#![tactic(auto)]
+
 pub mod demands;
 pub mod directory;
 pub mod slots;

@@ -1,4 +1,6 @@
 // What the first pass finds of a file: the ids that it declares, its mode, its type and its version line.
+#![tactic(auto)]
+
 ghost use Rattle.std.specs.Prelude.{◌≡◌, true, false, cond, ◌&&◌, ◌≤◌, length, get_or, replicate};
 ghost use Rattle.text_bytes.specs.Bytes.{same};
 ghost use Rattle.text.specs.Lines.{LIMIT, is_meta, lines};
@@ -18,7 +20,7 @@ use text_bytes::{begins_with, both, either, same_bytes};
 use value_references::{FAMILIES, INDICES};
 
 // The first valid mode, C or S, the first valid type, I or Q, and the number of the first version line; 0 where there is none.
-#[derive(Drop)]
+#[derive(Clone, Copy)]
 pub struct Facts {
     pub mode: u8,
     pub typed: u8,
@@ -26,7 +28,7 @@ pub struct Facts {
 }
 
 // What decides whether something is asked of a file: the letters of its mode and type, 0 for none, and whether it declares an assay.
-#[derive(Drop)]
+#[derive(Clone, Copy)]
 pub struct Asking {
     pub mode: u8,
     pub typed: u8,

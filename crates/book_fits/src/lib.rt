@@ -1,4 +1,6 @@
 // Whether a name fits a row's pattern.
+#![tactic(auto)]
+
 ghost use Rattle.std.specs.Prelude.{◌≡◌, [], ◌≤◌, length, get_or, drop};
 ghost use Rattle.text_bytes.specs.Bytes.{SPACE as space};
 ghost use Rattle.book_names.specs.Names.{pieces, fits as fitsIn};
@@ -9,7 +11,7 @@ use text_bytes::SPACE;
 use value_references::index::{Flaw, Index, read_index, sooner};
 
 // What stands where a pattern has a place: its bytes, 0 for no index; the index that is taken for it, 1 for a bad one; and its flaw, `Form` for none.
-#[derive(Drop)]
+#[derive(Clone, Copy)]
 struct Bracket {
     width: usize,
     taken: usize,

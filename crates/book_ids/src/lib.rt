@@ -1,4 +1,6 @@
 // The ids that a file declares.
+#![tactic(auto)]
+
 ghost use Rattle.std.specs.Prelude.{◌≡◌, ◌≤◌, length};
 ghost use Rattle.book.specs.Text.{book_in, IsBook};
 ghost use Rattle.book_ids.specs.Ids.{index_after, id_of, key_id, line_id, marked, is_marked};
@@ -13,7 +15,7 @@ use value_references::words::{word, words};
 use value_references::{FAMILIES, INDICES};
 
 // An id: its family, 0 sample, 1 assay, 2 study variable, 3 run, and its index.
-#[derive(Drop)]
+#[derive(Clone, Copy)]
 pub enum Id {
     Nothing,
     Of(usize, usize),

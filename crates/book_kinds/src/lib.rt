@@ -1,4 +1,6 @@
 // Whether a value is of its kind, by the letters of the book.
+#![tactic(auto)]
+
 ghost use Rattle.std.specs.Prelude.{◌≡◌, ◌||◌};
 ghost use Rattle.text_bytes.specs.Bytes.{same};
 ghost use Rattle.value_references.specs.References.{ref_in, Tells};

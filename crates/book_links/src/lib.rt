@@ -1,4 +1,6 @@
 // The links of a table: for each byte the first row that begins with it, and for each row the next one that begins with the same byte; the number past the last row where there is none.
+#![tactic(auto)]
+
 ghost use Rattle.std.specs.Prelude.{◌≡◌, ℕ, ◌+◌, ◌/◌, ◌≤◌, ◌<◌, length, get_or, take, drop};
 ghost use Rattle.book_names.specs.Links.{Links};
 

@@ -1,4 +1,6 @@
 // A name looked up in a table of rows.
+#![tactic(auto)]
+
 ghost use Rattle.std.specs.Prelude.{◌≡◌, true, false, ◌≤◌, ◌<◌, length, get_or, drop};
 ghost use Rattle.text_bytes.specs.Bytes.{SPACE as space};
 ghost use Rattle.value_references.specs.Index.{sooner as soonerOf};

@@ -1,4 +1,6 @@
 // A table of rows, and what it says of a name.
+#![tactic(auto)]
+
 use value_references::index::Flaw;
 
 // The bytes of a row.
@@ -14,7 +16,7 @@ pub const PLACE: usize = 3;
 pub const HEADS: usize = 256;
 
 // Whether a name fits a pattern: with the indices that it has there, 0 for none; but for its indices, with the flaw of the leftmost that is bad; or not at all.
-#[derive(Drop)]
+#[derive(Clone, Copy)]
 pub enum Match {
     Differs,
     Misses(Flaw),
@@ -22,7 +24,7 @@ pub enum Match {
 }
 
 // What a table says of a name: why it is unknown; or its entry there, the letters of its kind and family, and the name's indices, 0 for none.
-#[derive(Drop)]
+#[derive(Clone, Copy)]
 pub enum Found {
     Unknown(Flaw),
     Known {

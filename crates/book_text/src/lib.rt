@@ -1,4 +1,6 @@
 // The book laid out in one text: a directory, the rows of all tables, the required columns, where the slots of the keys begin, and the links of each table.
+#![tactic(auto)]
+
 ghost use Rattle.std.specs.Prelude.{◌≡◌, ◌++◌, ◌+◌, ◌≤◌, length, take};
 ghost use Rattle.book.specs.Book.{mz_tab};
 ghost use Rattle.book.specs.Text.{FRONT as front-end, LINKS as all_end, tables_of, all_rows, all_wanted, all_starts, HasDirectory, IsBook, directory_text, laid_out};

@@ -1,4 +1,6 @@
 // The public calls for hosts in C, Rust and Python: numbers, pointers to them, and byte slices. capi/mztab.h says in words what each does.
+#![tactic(auto)]
+
 ghost use Rattle.std.specs.Prelude.{◌≡◌};
 ghost use Rattle.mztab.specs.Shown.{sought};
 ghost use Rattle.judged.specs.Judged.{outcome, judged};

@@ -1,4 +1,6 @@
 // The mark of each column of a file's first protein header: the study variable or the counter that its cells count for.
+#![tactic(auto)]
+
 ghost use Rattle.std.specs.Prelude.{◌≡◌, cond, ◌+◌, ◌≤◌, ◌<◌, eqb, length};
 ghost use Rattle.text.specs.Lines.{LIMIT as limit};
 ghost use Rattle.rows.specs.Rows.{header_of};
@@ -14,7 +16,7 @@ use value_references::reference;
 const PROTEIN: u32 = 1;
 
 // What a column is marked with: its study variable, or its counter.
-#[derive(Drop)]
+#[derive(Clone, Copy)]
 pub enum Asked {
     Variables,
     Counters,
@@ -28,7 +30,7 @@ pub const DISTINCT: u8 = 2;
 pub const UNIQUE: u8 = 3;
 
 // The mark of each cell of a header, 0 for none, and after which cell there is none more.
-#[derive(Drop)]
+#[derive(Clone, Copy)]
 pub struct Marks {
     pub of: [u8; MOST_CELLS],
     pub width: usize,

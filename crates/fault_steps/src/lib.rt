@@ -1,4 +1,6 @@
 // A record of a break, and the steps of the judging call over records from part to part: each judges as many lines as a part has room for.
+#![tactic(auto)]
+
 ghost use Rattle.std.specs.Prelude.{◌≡◌, true, min, length, replicate};
 ghost use Rattle.scan.specs.Machine.{FIRSTS as All-firsts};
 ghost use Rattle.book.specs.Text.{IsBook};
@@ -9,7 +11,7 @@ use scan::state::FIRSTS;
 
 // A break: its rule, its line and cell in the file, and where what it repeats stands first: a line for rules 6 and 9, a cell for 13, 0 for all others.
 #[repr(C)]
-#[derive(Drop)]
+#[derive(Clone, Copy)]
 pub struct Fault {
     pub rule: u32,
     pub line: u32,
@@ -25,7 +27,7 @@ const FULL: u32 = 2524;
 
 // Where the call stands between two steps: whether there is more to judge, the number, the count of all breaks up to here, how long the lent list is, and
 // where in it the records of the last part go, and how many of them. Then what is carried from part to part.
-#[derive(Drop)]
+#[derive(Clone, Copy)]
 pub struct Progress {
     pub more: bool,
     pub number: u32,

@@ -9,14 +9,14 @@ ghost use Rattle.fee_shares.specs.Steps.{Granted, Rests};
 use crate::refusals::{MOST_WEIGHTS, wide};
 
 // What one weight has of a fee: whole cents, and what is left of the division.
-#[derive(Drop)]
+#[derive(Clone, Copy)]
 pub struct Part {
     pub cents: u64,
     pub rest: u64,
 }
 
 // The remainders of all weights, and the cents that rounding down gives out.
-#[derive(Drop)]
+#[derive(Clone, Copy)]
 pub struct Divided {
     pub rests: [u64; MOST_WEIGHTS],
     pub given: u64,

@@ -1,4 +1,6 @@
 // Judges the file on standard input: OK, or FAULTS with the breaks; TOO LONG beyond 65,536 bytes.
+#![tactic(auto)]
+
 use judge_report::print_judged;
 
 // What the program takes of standard input.

@@ -1,4 +1,6 @@
 // What the judging call gives of a file, printed: OK, or FAULTS and the count and then line, cell, rule and first of the first 4,096 breaks.
+#![tactic(auto)]
+
 ghost use Rattle.std.specs.Prelude.{◌≤◌};
 
 use judged::judge_places;

@@ -1,4 +1,6 @@
 // The judging call over plain places.
+#![tactic(auto)]
+
 ghost use Rattle.std.specs.Prelude.{◌≡◌};
 ghost use Rattle.judged.specs.Judged.{outcome, judged};
 

@@ -1,4 +1,6 @@
 // The call for one line: it is judged under the whole file, and of the lines above only what is carried to it is worked out.
+#![tactic(auto)]
+
 ghost use Rattle.std.specs.Prelude.{◌≡◌, true, false, cond, ◌-◌, ◌≤◌, ◌<◌, length, replicate};
 ghost use Rattle.text.specs.Lines.{LIMIT, lines};
 ghost use Rattle.book.specs.Book.{is_section};
@@ -30,7 +32,7 @@ use text::lines::line_at;
 use value_references::{FAMILIES, INDICES};
 
 // What a line above leaves: the state after it, and whether it is a header.
-#[derive(Drop)]
+#[derive(Clone, Copy)]
 pub struct Passed {
     pub state: State,
     pub header: bool,
@@ -104,7 +106,7 @@ fn nearer_head(header: bool, at: usize, head: usize) -> usize
 }
 
 // Whether the line sought is there, its place, the state that stands for the lines above it, and the place of the nearest header among them.
-#[derive(Drop)]
+#[derive(Clone, Copy)]
 pub struct Reached {
     pub found: bool,
     pub at: usize,
@@ -211,7 +213,7 @@ fn learn_kinds(
 }
 
 // Whether the line is there, and how many breaks it has.
-#[derive(Drop)]
+#[derive(Clone, Copy)]
 pub struct Alone {
     pub found: bool,
     pub count: u32,

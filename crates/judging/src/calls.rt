@@ -12,7 +12,7 @@ use text::LIMIT;
 use value_references::{FAMILIES, INDICES};
 
 // The number of the call, where the judging stands, the kinds of the nearest header's columns, and the ids that the file declares.
-#[derive(Drop)]
+#[derive(Clone, Copy)]
 pub struct Carried {
     pub number: u32,
     pub stand: Stand,

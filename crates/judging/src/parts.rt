@@ -18,7 +18,7 @@ use value_references::{FAMILIES, INDICES};
 
 // Where the judging of a file stands: whether there is more to judge, the place of the next line and how many lines are passed, the breaks of the parts
 // before and of the last one, and the state that stands for the lines passed.
-#[derive(Drop)]
+#[derive(Clone, Copy)]
 pub struct Stand {
     pub more: bool,
     pub at: usize,
@@ -43,7 +43,7 @@ pub fn beginning(asking: Asking) -> Stand
 }
 
 // Where a run of lines ends: where so many breaks are put, and where this place of the file is passed.
-#[derive(Drop)]
+#[derive(Clone, Copy)]
 pub struct Bounds {
     pub room: u32,
     pub end: usize,

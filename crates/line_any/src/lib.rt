@@ -1,4 +1,6 @@
 // Judging one line by its sort, from the state that stands for the lines above.
+#![tactic(auto)]
+
 ghost use Rattle.std.specs.Prelude.{◌≡◌, ◌+◌, ◌≤◌, length};
 ghost use Rattle.text.specs.Lines.{LIMIT};
 ghost use Rattle.rules.specs.Sorts.{control_cell};
@@ -37,7 +39,7 @@ fn judge_unknown(places: &mut [u32], count: u32, tag: Tag) -> u32
 }
 
 // A line's number; and before or after it, how many breaks were put, and the state that stands for the lines above.
-#[derive(Drop)]
+#[derive(Clone, Copy)]
 pub struct Step {
     pub line: u32,
     pub count: u32,

@@ -1,4 +1,6 @@
 // Required metadata, read off the slots of the keys, which have the first lines of those that the file has: the book's demands, one after the other.
+#![tactic(auto)]
+
 ghost use Rattle.std.specs.Prelude.{◌≡◌, [], ◌+◌, ◌≤◌, ◌<◌, length, get_or};
 ghost use Rattle.book.specs.Book.{no_demand, wants_of, up_from};
 ghost use Rattle.book.specs.Text.{book_in, IsBook};
@@ -18,7 +20,7 @@ use value_references::{FAMILIES, INDICES};
 
 // The line after the last, and what was found of the file: what decides whether something is asked of it, and the sections that are present, with 0 among
 // them.
-#[derive(Drop)]
+#[derive(Clone, Copy)]
 struct End {
     pub line: u32,
     pub asking: Asking,

@@ -1,4 +1,6 @@
 // Judging a header: rules 1 and 9 to 16, put into the lent places.
+#![tactic(auto)]
+
 ghost use Rattle.std.specs.Prelude.{◌≡◌, true, ◌+◌, ◌≤◌, length, drop};
 ghost use Rattle.text.specs.Lines.{LIMIT, cells};
 ghost use Rattle.book.specs.Book.{is_section};
@@ -19,7 +21,7 @@ use value_references::{FAMILIES, INDICES};
 
 // A header, beside its bytes: its line, its section, what decides which columns are asked, the line of the first header of its section above (0 for none), and
 // whether one of a later section stands above.
-#[derive(Drop)]
+#[derive(Clone, Copy)]
 pub struct Head {
     pub tag: Tag,
     pub section: u32,

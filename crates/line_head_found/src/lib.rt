@@ -1,4 +1,6 @@
 // What the book's answer says of a column name: whether it has none like it, the kind of its cells, and the rule that the name breaks.
+#![tactic(auto)]
+
 ghost use Rattle.std.specs.Prelude.{◌≡◌};
 ghost use Rattle.book_names.specs.Names.{is_strange};
 ghost use Rattle.rules.specs.Rules.{last_index, kind_in};

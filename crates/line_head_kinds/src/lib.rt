@@ -1,4 +1,6 @@
 // The kinds of a header's columns, where nothing else is asked of their names.
+#![tactic(auto)]
+
 ghost use Rattle.std.specs.Prelude.{◌≡◌, ◌≤◌, length, drop};
 ghost use Rattle.text.specs.Lines.{cells};
 ghost use Rattle.book.specs.Text.{book_in, IsBook};

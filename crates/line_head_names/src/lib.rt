@@ -1,4 +1,6 @@
 // The column names of a header, each judged by what the book says of it.
+#![tactic(auto)]
+
 ghost use Rattle.std.specs.Prelude.{◌≡◌, ◌+◌, ◌-◌, ◌≤◌, ◌<◌, length, drop, set};
 ghost use Rattle.text.specs.Lines.{LIMIT, cells};
 ghost use Rattle.book.specs.Text.{book_in, IsBook};
@@ -20,7 +22,7 @@ use text_bytes::{both, either};
 use value_references::{FAMILIES, INDICES};
 
 // The names of a header: its line, its section, what decides which of them are asked, and where the first begins.
-#[derive(Drop)]
+#[derive(Clone, Copy)]
 pub struct Names {
     pub tag: Tag,
     pub section: u32,
@@ -29,7 +31,7 @@ pub struct Names {
 }
 
 // A name among them: its cell, the cell where it stands first if it comes again (0 for none), and whether any `opt_` name came before.
-#[derive(Drop)]
+#[derive(Clone, Copy)]
 struct Naming {
     tag: Tag,
     cell: u32,

@@ -1,4 +1,6 @@
 // The names of a header: whether a required one is absent.
+#![tactic(auto)]
+
 ghost use Rattle.std.specs.Prelude.{◌≡◌, true, not, ◌≤◌, length, take, drop};
 ghost use Rattle.text_bytes.specs.Bytes.{any, all, same};
 ghost use Rattle.text.specs.Lines.{cells};

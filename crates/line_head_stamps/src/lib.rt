@@ -2,6 +2,8 @@
 // number as a stamp, at a place that its bytes give. From the stamp's door the names of that stamp go apart by forks, each of which asks for four bits. Names
 // made to pass many forks mostly go on as the one before them did: so each fork has a guess of what the next door holds, that of the last name which passed
 // it, and the processor need not wait for the name's bits before it looks there.
+#![tactic(auto)]
+
 ghost use Rattle.std.specs.Prelude.{◌≡◌, true, false, ◌+◌, ◌*◌, ◌/◌, ◌%◌, ◌^◌, ◌≤◌, ◌<◌, length, get_or};
 ghost use Rattle.text_bytes.specs.Places.{part};
 ghost use Rattle.text.specs.Lines.{LIMIT};

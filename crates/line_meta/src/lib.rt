@@ -1,4 +1,6 @@
 // Judging a metadata line: rules 1, 3 to 8, 23 and 24, put into the lent places.
+#![tactic(auto)]
+
 ghost use Rattle.std.specs.Prelude.{◌≡◌, true, [], ◌+◌, ◌≤◌, length, get_or, drop};
 ghost use Rattle.text.specs.Lines.{cells, is_meta};
 ghost use Rattle.book.specs.Book.{key_of};

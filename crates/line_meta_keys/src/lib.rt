@@ -1,4 +1,6 @@
 // A metadata key, as the book finds it: what it and its value break, and its slot among the keys that came before.
+#![tactic(auto)]
+
 ghost use Rattle.std.specs.Prelude.{◌≡◌, cond, ◌-◌, ◌≤◌, ◌<◌, length};
 ghost use Rattle.book_ids.specs.Ids.{Flags};
 ghost use Rattle.book_names.specs.Names.{among, slot_of};
@@ -22,7 +24,7 @@ const UNKNOWN: u32 = 5;
 const AGAIN: u32 = 6;
 
 // The rule that a key breaks, the line where the key stands first if it comes again, and the rule that its value breaks; 0 for none.
-#[derive(Drop)]
+#[derive(Clone, Copy)]
 pub struct Judgement {
     pub key: u32,
     pub first: u32,

@@ -1,4 +1,6 @@
 // A metadata value, by the letters of its key: the rule that it breaks, 0 for none.
+#![tactic(auto)]
+
 ghost use Rattle.std.specs.Prelude.{◌≡◌, ◌≤◌};
 ghost use Rattle.book.specs.Letters.{REFERENCE as reference, REFERENCES as references};
 ghost use Rattle.book_ids.specs.Ids.{Flags};

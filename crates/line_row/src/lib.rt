@@ -1,4 +1,6 @@
 // Judging a row: rules 1 and 17 to 20, put into the lent places.
+#![tactic(auto)]
+
 ghost use Rattle.std.specs.Prelude.{◌+◌, ◌≤◌, length, drop};
 ghost use Rattle.text.specs.Lines.{cells};
 ghost use Rattle.scan.specs.Places.{CEILING, CELLS_MOST, LINE_MOST, lent, Puts};

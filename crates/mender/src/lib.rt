@@ -1,5 +1,7 @@
 // The mending call: a copy of a file with `null` in the empty cells where it may stand. The file is walked twice by one function: lent next to nothing, it says
 // how long the copy will be, and then it writes.
+#![tactic(auto)]
+
 ghost use Rattle.std.specs.Prelude.{◌≡◌, ◌+◌, ◌*◌, ◌≤◌, length};
 ghost use Rattle.text.specs.Lines.{LIMIT as limit, lines, cells};
 ghost use Rattle.text.specs.Joined.{tabbed};
@@ -24,7 +26,7 @@ use text::lines::line_at;
 use text_bytes::either;
 
 // Where a walk stands: the number of the line, how many bytes are laid and changes noted, and the section and the number of cells of the nearest header above.
-#[derive(Drop)]
+#[derive(Clone, Copy)]
 pub struct Walk {
     pub line: u32,
     pub to: usize,

@@ -1,12 +1,14 @@
 // The lent buffer that bytes are laid into, and the lent list that changes are noted in, two places each: line and cell. What has no place is counted all the
 // same, so that a walk that is lent next to nothing says how long the copy will be.
+#![tactic(auto)]
+
 ghost use Rattle.std.specs.Prelude.{◌≡◌, ◌+◌, ◌≤◌, ◌<◌, length};
 ghost use Rattle.rules.specs.Breaks.{break_at};
 ghost use Rattle.scan.specs.Places.{lent};
 ghost use Rattle.mender_places.specs.Places.{lay_all, noted, COPY_MOST, CHANGES_MOST};
 
 // How many bytes are laid, and how many changes are noted.
-#[derive(Drop)]
+#[derive(Clone, Copy)]
 pub struct Copied {
     pub to: usize,
     pub count: u32,

@@ -1,4 +1,6 @@
 // A row copied, with `null` in its empty cells where that may stand.
+#![tactic(auto)]
+
 ghost use Rattle.std.specs.Prelude.{◌≡◌, cond, ◌&&◌, [], ◌+◌, ◌-◌, ◌*◌, ◌≤◌, length, drop};
 ghost use Rattle.text.specs.Lines.{cells};
 ghost use Rattle.text.specs.Joined.{tabbed};
@@ -92,7 +94,7 @@ fn fill_cells(
 }
 
 // The nearest header above: its section, 0 for none, and how many cells it has.
-#[derive(Drop)]
+#[derive(Clone, Copy)]
 pub struct Above {
     pub section: u32,
     pub width: usize,

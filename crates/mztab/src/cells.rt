@@ -14,7 +14,7 @@ use text_bytes::same_bytes;
 use value_readings::{Value, read};
 
 // A number, the numbers of a line and a cell, and a part of the file: of a refusal line 0, cell 0 and the first zero bytes.
-#[derive(Drop)]
+#[derive(Clone, Copy)]
 pub struct Place {
     pub number: u32,
     pub line: u32,

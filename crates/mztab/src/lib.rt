@@ -1,3 +1,5 @@
 // The public cell calls: the library over lent bytes.
+#![tactic(auto)]
+
 pub mod cells;
 pub mod records;

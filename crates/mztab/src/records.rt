@@ -2,7 +2,7 @@
 use value_readings::Value;
 
 // A cell's line and number, and what it says.
-#[derive(Drop)]
+#[derive(Clone, Copy)]
 pub struct Reading {
     pub line: u32,
     pub cell: u32,

@@ -1,4 +1,5 @@
 // The numbers by which calls are refused, one table for all of them, tried in this order; 0 says that there is an answer.
+#![tactic(auto)]
 
 // The file is longer than the limit.
 pub const TOO_LONG: u32 = 1;

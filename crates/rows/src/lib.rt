@@ -1,4 +1,6 @@
 // The rows of a section, in the file's order, whatever breaks the file has, and the columns of a line.
+#![tactic(auto)]
+
 ghost use Rattle.std.specs.Prelude.{◌≡◌, true, ◌≤◌, length};
 ghost use Rattle.std.proofs.Math.ListN.{get_elem?};
 ghost use Rattle.text_bytes.specs.Bytes.{count};
@@ -13,7 +15,7 @@ use numbers::{NO_SECTION, TOO_LONG};
 use text::{LIMIT, Part, cells, lines};
 
 // A line's number and its part of the file, or none.
-#[derive(Drop)]
+#[derive(Clone, Copy)]
 pub enum Row {
     On(u32, usize, usize),
     Absent,

@@ -1,2 +1,4 @@
 // What a line is: its sort.
+#![tactic(auto)]
+
 pub mod sorts;

@@ -8,7 +8,7 @@ use text::cells::cell_end;
 use text_bytes::same_bytes;
 
 // The sort of a line: a header and a row have their section. No rule judges a silent one.
-#[derive(Drop)]
+#[derive(Clone, Copy)]
 pub enum Sort {
     Silent,
     Unknown,

@@ -5,7 +5,7 @@ ghost use Rattle.scan.specs.Places.{CEILING, lent, Puts};
 ghost use Rattle.scan.specs.Machine.{again_at, rule_at};
 
 // What a judging function is told of a line beside its bytes: its number, and the cell of its first control byte, 0 for none.
-#[derive(Drop)]
+#[derive(Clone, Copy)]
 pub struct Tag {
     pub line: u32,
     pub control: u32,

@@ -19,7 +19,7 @@ pub const FIRSTS: usize = 43284;
 // and the nearest header's section and number of cells (0 and 1 where there is none); and of the whole file what decides whether something is asked. A state is
 // copied for each line, so what few lines change stands in lent lists; and the order of its fields matters: with more padding, or some at the end, it is copied in
 // halves that overlap, and the next copy waits for both.
-#[derive(Drop)]
+#[derive(Clone, Copy)]
 pub struct State {
     pub present: [bool; SECTIONS],
     pub asking: Asking,

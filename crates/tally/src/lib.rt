@@ -1,4 +1,6 @@
 // A tally: counts of PSMs, of distinct and of unique peptides, the rows of each section, and missing cells; and the sum of two.
+#![tactic(auto)]
+
 ghost use Rattle.std.specs.Prelude.{◌≡◌, ◌||◌, ◌+◌};
 ghost use Rattle.tally.specs.Tally.{totals, tally_of, is_past, sum_of, zero, outcome, added};
 
@@ -6,22 +8,22 @@ use numbers::PAST_64_BITS;
 use text_bytes::either;
 
 // How many PSMs.
-#[derive(Drop)]
+#[derive(Clone, Copy)]
 pub struct Psms(pub u64);
 
 // How many peptides, each counted once in a run.
-#[derive(Drop)]
+#[derive(Clone, Copy)]
 pub struct Distinct(pub u64);
 
 // How many peptides that no other protein has.
-#[derive(Drop)]
+#[derive(Clone, Copy)]
 pub struct Unique(pub u64);
 
 // How many totals there are.
 pub const TOTALS: usize = 8;
 
 // The eight totals, in the order of the record.
-#[derive(Drop)]
+#[derive(Clone, Copy)]
 pub struct Tally {
     pub psms: Psms,
     pub distinct: Distinct,

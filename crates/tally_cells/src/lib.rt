@@ -1,4 +1,6 @@
 // What a cell under a counted column says, read where it stands in its line.
+#![tactic(auto)]
+
 ghost use Rattle.std.specs.Prelude.{◌≡◌, not, ◌&&◌, ◌||◌, ◌⊎◌, ◌+◌, ◌≤◌, eqb, ltb, length, get_or};
 ghost use Rattle.text.specs.Lines.{TAB as tab};
 ghost use Rattle.fee_shares.specs.Sums.{bit};
@@ -10,14 +12,14 @@ use value_references::index::is_digit;
 use values::{MINUS, WHOLE_DIGITS, is_null, is_whole, without_minus};
 
 // A number in digits, and where they end.
-#[derive(Drop)]
+#[derive(Clone, Copy)]
 struct Digits {
     number: u64,
     end: usize,
 }
 
 // What a cell counts, whether it is missing and whether it is below zero, 1 for yes; and where it ends.
-#[derive(Drop)]
+#[derive(Clone, Copy)]
 pub struct Counted {
     pub end: usize,
     pub count: u64,

@@ -1,4 +1,6 @@
 // The tally of a file: its three counts over protein rows and runs, the rows of each section, and the missing cells in the columns that are counted.
+#![tactic(auto)]
+
 ghost use Rattle.std.specs.Prelude.{◌≡◌};
 ghost use Rattle.tally.specs.Tally.{outcome};
 ghost use Rattle.tally_files.specs.Tallied.{tallied};

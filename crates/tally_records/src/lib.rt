@@ -1,4 +1,6 @@
 // Tallies as records: 70 bytes, four of them the length of the rest, two the kind, then the eight totals of eight bytes each, the lowest byte first.
+#![tactic(auto)]
+
 ghost use Rattle.std.specs.Prelude.{◌≡◌, ◌++◌, ◌+◌, ◌*◌, ◌%◌, ◌≤◌, length, get_or, take, drop};
 ghost use Rattle.text_bytes.specs.Places.{part};
 ghost use Rattle.tally.specs.Tally.{totals, outcome as told};

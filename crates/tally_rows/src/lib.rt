@@ -1,4 +1,6 @@
 // What the lines of a file add to its tally, found in one walk: the rows of each section, and the counts in the cells of protein rows.
+#![tactic(auto)]
+
 ghost use Rattle.std.specs.Prelude.{◌≡◌, ℕ, ◌≤◌, length};
 ghost use Rattle.text.specs.Lines.{LIMIT as limit};
 ghost use Rattle.column_marks.specs.Marks.{IsMarks};
@@ -22,7 +24,7 @@ const PSM: u8 = 3;
 const SMALL_MOLECULE: u8 = 4;
 
 // What a walk has found so far: the tally, and how many counts are below zero.
-#[derive(Drop)]
+#[derive(Clone, Copy)]
 pub struct Found {
     pub tally: Tally,
     pub below: u64,

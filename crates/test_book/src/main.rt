@@ -1,5 +1,7 @@
 // Shows what the book says of names: standard input has a name on each line that LF ends. For each it prints six fields: what the name is as a key and as
 // a column of the four sections (the letters of its kind and family, and its two indices), and the id that it declares as a key; `-` where it is none.
+#![tactic(auto)]
+
 ghost use Rattle.std.specs.Prelude.{◌≤◌, length};
 ghost use Rattle.book.specs.Text.{IsBook};
 

@@ -1,6 +1,8 @@
 // Asks the cell calls the questions of a table on standard input, and prints what they give back. A case ends with the byte 30: lines
 // 'SECTION ROW COLUMN', a line '.', and then the bytes of the file. For each question: the number, the view, the view with
 // the stand-in '-', and the reading with its line and cell.
+#![tactic(auto)]
+
 ghost use Rattle.std.specs.Prelude.{◌≤◌, length};
 
 use mztab::cells::{cell, cell_or, reading};

@@ -1,5 +1,7 @@
 // Judges each of the files of a table on standard input over lent records, and prints it as judges_run prints what the plain places give: both have the same
 // table, and the same stored output. A file ends with the byte 30.
+#![tactic(auto)]
+
 ghost use Rattle.std.specs.Prelude.{◌≡◌, replicate};
 ghost use Rattle.faults.specs.Records.{judged};
 ghost use Rattle.fault_steps.specs.Steps.{fault};

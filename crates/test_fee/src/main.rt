@@ -1,6 +1,8 @@
 // Adds and splits amounts as the lines of a table on standard input ask, and prints what is given back. `add A B`: the number and the sum. `split FEE PLACES W1
 // W2 ..`: the number, and each of the lent places afterwards, which held 7 before. At most 70 weights and 70 places. A split into 64 places is run over
 // `Cents` too, and its line ends with ` DIFFERENT` where the two do not agree.
+#![tactic(auto)]
+
 ghost use Rattle.std.specs.Prelude.{◌≡◌, ◌≤◌, length, replicate};
 ghost use Rattle.fee.specs.Places.{cents};
 ghost use Rattle.fee.specs.Split.{split_of};

@@ -1,4 +1,6 @@
 // The fields of a line, with a space between them, and the numbers that they write: for the run tests.
+#![tactic(auto)]
+
 ghost use Rattle.std.specs.Prelude.{◌≤◌, length};
 
 use text_bytes::{SPACE, seek};

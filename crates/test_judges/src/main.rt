@@ -1,5 +1,7 @@
 // Judges each of the files of a table on standard input, and prints what the program `judge` would, with a line '.' after each. A file ends with the
 // byte 30.
+#![tactic(auto)]
+
 use judge_report::print_judged;
 use text_bytes::seek;
 

@@ -1,5 +1,7 @@
 // Answers of the kinds for each line of standard input, for comparison with another implementation.
 // A line is what LF ends, its CR with it; a last one without LF counts if it is not empty.
+#![tactic(auto)]
+
 use test_telling::tell;
 use text_bytes::seek;
 use value_parameters::{is_parameter, is_parameters};

@@ -1,4 +1,6 @@
 // The kinds for hosts in C: bytes and a number in, a number out.
+#![tactic(auto)]
+
 ghost use Rattle.std.specs.Prelude.{◌≡◌};
 ghost use Rattle.test_kinds_c.specs.Kinds.{is_kind, said};
 

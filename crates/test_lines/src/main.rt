@@ -1,6 +1,8 @@
 // Judges the lines of each of the files of a table on standard input, one by one. A file ends with the byte 30. For line 0, 1, 2 and so on it prints `line`, the
 // line, the number and the count, and the places of a list of 10 afterwards, which held 9 before: room for two breaks and half of a third. It ends with the first
 // line after 0 that is refused, or with line 23, and prints a line '.'.
+#![tactic(auto)]
+
 use judged_line::judge_line_places;
 use test_places::{print_next, print_places};
 use text_bytes::seek;

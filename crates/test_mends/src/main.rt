@@ -1,6 +1,8 @@
 // Mends each of the files of a table on standard input, twice: into a buffer of 4,096 bytes, and into one of 60. A file ends with the byte 30. For each it prints
 // `mend`, the room, the number, the length and the count, and the places of a list of 5 afterwards, which held 9 before: room for two changes and half of a third.
 // Then the copy and one byte behind it, of the small buffer all bytes: each was `#` before. A line '.' ends the file.
+#![tactic(auto)]
+
 use mender::mend;
 use test_places::{print_next, print_places};
 use text_bytes::seek;

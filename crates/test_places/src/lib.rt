@@ -1,4 +1,5 @@
 // Numbers as run tests print them, each with a space before it.
+#![tactic(auto)]
 
 pub fn print_next(n: u32) {
     io::write_all(1, b" ");

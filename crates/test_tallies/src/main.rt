@@ -1,5 +1,7 @@
 // Tallies each of the files of a table on standard input. A file ends with the byte 30. Of each it prints three lines: the number and the totals of its tally;
 // the number and the totals of the sum of that tally and the one that its record is read as; and the record in hexadecimal digits.
+#![tactic(auto)]
+
 use tally::{Tally, add};
 use tally_files::tally;
 use tally_records::{RECORD, read, write};

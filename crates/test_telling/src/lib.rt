@@ -1,4 +1,6 @@
 // What a reading says, printed in words: for the run tests.
+#![tactic(auto)]
+
 use value_readings::Value;
 
 const OUT: i32 = 1;

@@ -1,6 +1,8 @@
 // Asks the rows and the weights of each of the files of a table on standard input. A file ends with the byte 30. Of each it prints `rows` with number and count
 // for the sections 0 to 5, three lines `weights` for lists of 64, 63 and 65 places, each with the number and the places afterwards, which held 9 before, and a
 // line '.'.
+#![tactic(auto)]
+
 ghost use Rattle.std.specs.Prelude.{◌≤◌};
 
 use rows::rows;

@@ -1,4 +1,6 @@
 // What each case of a reading is to a host: its number, and the values that it carries.
+#![tactic(auto)]
+
 ghost use Rattle.std.specs.Prelude.{◌≡◌};
 ghost use Rattle.value_readings.specs.Reading.{number_of, whole_of, power_of, double_of};
 

@@ -1,4 +1,6 @@
 // Parameters and lists of them, in one pass: the two scans call each other at each quotation mark.
+#![tactic(auto)]
+
 ghost use Rattle.std.specs.Prelude.{◌≡◌, true, false, cond, ◌&&◌, ◌||◌, ◌+◌, ◌-◌, ◌≤◌, ◌<◌, length, drop, get_or, eqb, ltb};
 ghost use Rattle.text_bytes.specs.Places.{part};
 ghost use Rattle.text_bytes.specs.Bytes.{BAR as bar, COMMA as comma, SPACE as space};
@@ -18,7 +20,7 @@ pub const BLOCK: usize = 1024;
 
 // What a scan carries: its place, the commas outside marks, at most 4, whether a quotation is open,
 // and whether the third field holds something besides spaces.
-#[derive(Drop)]
+#[derive(Clone, Copy)]
 pub struct Scan {
     pub at: usize,
     pub commas: u32,
@@ -28,7 +30,7 @@ pub struct Scan {
 
 // A walk over a part: its state, and the byte that it read last, which closes the part or does not; 0 before the first and within a quotation. The byte is as
 // wide as a place: with padding behind it a copy of this would take two halves that overlap, and quotation marks three times as long.
-#[derive(Drop)]
+#[derive(Clone, Copy)]
 pub struct Walk {
     pub last: usize,
     pub scan: Scan,

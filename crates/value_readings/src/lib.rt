@@ -1,4 +1,6 @@
 // The reading of a cell: what its bytes say.
+#![tactic(auto)]
+
 ghost use Rattle.std.specs.Prelude.{◌≡◌, true, cond, ◌+◌, ◌≤◌, ◌<◌, ◌^◌, length, leb, pos, nat_abs, ◌-ℤ◌};
 ghost use Rattle.std.specs.Float.{binary64};
 ghost use Rattle.std.specs.Float.Ieee.{of_int};
@@ -20,7 +22,7 @@ const HIGHEST: i32 = 22;
 // Ten to so much is held by a cast.
 const CAST: u32 = 15;
 
-#[derive(Drop)]
+#[derive(Clone, Copy)]
 pub enum Value {
     Missing,
     Whole(i64),

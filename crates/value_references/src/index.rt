@@ -11,7 +11,7 @@ const MOST: usize = 64;
 const LATEST: usize = 3;
 
 // Why a name is not known: no form is like it; an index is zero or begins with zero; an index is over 64.
-#[derive(Drop)]
+#[derive(Clone, Copy)]
 pub enum Flaw {
     Form,
     Zero,
@@ -19,7 +19,7 @@ pub enum Flaw {
 }
 
 // What stands at the front of a text: no index, a bad one with its flaw and the number of its bytes, or an index with the number of its bytes.
-#[derive(Drop)]
+#[derive(Clone, Copy)]
 pub enum Index {
     Not,
     Bad(Flaw, usize),

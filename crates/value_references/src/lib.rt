@@ -1,4 +1,6 @@
 // References to the ids of a family, and lists of them.
+#![tactic(auto)]
+
 pub mod index;
 pub mod words;
 
@@ -16,7 +18,7 @@ pub const INDICES: usize = 64;
 
 // What a list of references says: whether it is one; the flaw for which it is none, `Form` where another index in each place would not make it one; and at
 // place i - 1 whether it names the index i.
-#[derive(Drop)]
+#[derive(Clone, Copy)]
 pub struct Named {
     pub good: bool,
     pub flaw: Flaw,

@@ -1,4 +1,6 @@
 // Text, whole, decimal, decimal list, window and null. Each answers for any bytes, the empty ones too.
+#![tactic(auto)]
+
 ghost use Rattle.std.specs.Prelude.{◌≡◌};
 ghost use Rattle.values.specs.Values.{are_digits, unsigned, unmarked, is_e, is_exponent, CutAt, is_text, is_whole, is_decimal, is_decimals, is_window, is_null};
 
@@ -21,7 +23,7 @@ pub const EXPONENT_DIGITS: usize = 3;
 
 // Where a numeral without its minus is cut: its digits before a dot end at `whole`, those after it stand from `from` to `to`, and from there on its exponent.
 // And whether it is a numeral.
-#[derive(Drop)]
+#[derive(Clone, Copy)]
 pub struct Cuts {
     pub good: bool,
     pub whole: usize,

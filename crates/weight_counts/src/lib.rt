@@ -1,4 +1,6 @@
 // What the rows of a file add to the weights of its study variables, by the study variable of each column.
+#![tactic(auto)]
+
 ghost use Rattle.std.specs.Prelude.{◌≡◌, ℕ, ◌-◌, ◌≤◌, length, get_or};
 ghost use Rattle.text.specs.Lines.{LIMIT as limit, lines, cells};
 ghost use Rattle.weight_counts.specs.Counts.{IsMarks, with_cell, adds, marks as marked, line_adds, lines_add, Room, Raises};

@@ -1,4 +1,6 @@
 // The study variable of each column of a file's first protein header.
+#![tactic(auto)]
+
 ghost use Rattle.std.specs.Prelude.{◌≡◌, cond, ◌+◌, ◌≤◌, ◌<◌, eqb, length};
 ghost use Rattle.text.specs.Lines.{LIMIT as limit};
 ghost use Rattle.rows.specs.Rows.{header_of};
@@ -14,7 +16,7 @@ use value_references::reference;
 const PROTEIN: u32 = 1;
 
 // The study variable of each cell of a header, 0 for none, and after which cell there is none more.
-#[derive(Drop)]
+#[derive(Clone, Copy)]
 pub struct Marks {
     pub of: [u8; MOST_CELLS],
     pub width: usize,

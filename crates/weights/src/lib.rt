@@ -1,4 +1,6 @@
 // The weights of a file's study variables: for each the protein rows whose abundance for it is not `null`, counted in one pass over the lines.
+#![tactic(auto)]
+
 ghost use Rattle.std.specs.Prelude.{◌≡◌};
 ghost use Rattle.weights.specs.Weights.{refusal, outcome, weighed};
 
