@@ -1,6 +1,6 @@
 -- When something is asked, letter by letter. Assumes nothing.
 use mathlib.Core.Path.{◌≡◌, sym, ap, ◌∙◌}
-use mathlib.Core.Bool.{Bool, true, false, cond, ◌&&◌, ◌||◌, or_true}
+use mathlib.Core.Bool.{Bool, true, false, cond, ◌&&◌, ◌||◌, or-true}
 use Prim.Native.Nat.{ℕ}
 use lib.Dec.{eqb}
 use borrow.Author.Tests.{eq-eqb, ne_eqb}
@@ -18,7 +18,7 @@ module _ (a m t : ℕ) (y : Bool) where
 
     pub ask_no_type : t ≡ 0 → false ≡ asks a m t y
     unfolding asks
-    ask_no_type e = rw (ne_eqb a 42 other, eq-eqb t 0 e, or_true (eqb m 0))
+    ask_no_type e = rw (ne_eqb a 42 other, eq-eqb t 0 e, or-true (eqb m 0))
 
     -- by mode and type
     module _ (mode : m ≡ 0 → ⊥) (type : t ≡ 0 → ⊥) where

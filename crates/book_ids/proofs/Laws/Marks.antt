@@ -1,7 +1,7 @@
 -- What a line declares, and the flags with one line more. Assumes nothing.
 use Prim.Native.Nat.{ℕ, ◌+◌, ◌-◌, ◌≤◌, ◌<◌}
 use mathlib.Core.Path.{◌≡◌, refl, ap, sym, ◌∙◌, subst⁻¹}
-use mathlib.Core.Bool.{Bool, true, false, cond, ◌&&◌, ◌||◌, and-false, or_true, or_false, or_assoc}
+use mathlib.Core.Bool.{Bool, true, false, cond, ◌&&◌, ◌||◌, and-false, or-true, or-false, or_assoc}
 use mathlib.Core.List.{List, [], ◌∷◌, ◌++◌}
 use mathlib.Core.Option.{none, some}
 use native.Mathlib.Omega.{arith}
@@ -127,11 +127,11 @@ module _ (t : List (List Bool)) (is : Flags t) (g j : ℕ) (hg : g < 4) (hj : j 
   set_flag f i true true ef ei =
       let e : f ≡ g = sym (eqb-true g f ef) in
       let d : i ≡ j = sym (eqb-true j i ei) in
-      subst⁻¹ (λ (x : ℕ). flag new x i ≡ true) e (subst⁻¹ (λ (y : ℕ). flag new g y ≡ true) d set_same) ∙ sym (or_true (flag t f i))
+      subst⁻¹ (λ (x : ℕ). flag new x i ≡ true) e (subst⁻¹ (λ (y : ℕ). flag new g y ≡ true) d set_same) ∙ sym (or-true (flag t f i))
   set_flag f i true false ef ei =
       let e : f ≡ g = sym (eqb-true g f ef) in
-      subst⁻¹ (λ (x : ℕ). flag new x i ≡ flag t x i) e (other_i i (λ (x : i ≡ j). eqb-false j i ei (sym x))) ∙ sym (or_false (flag t f i))
-  set_flag f i false q ef ei = other_f f i (λ (x : f ≡ g). eqb-false g f ef (sym x)) ∙ sym (or_false (flag t f i))
+      subst⁻¹ (λ (x : ℕ). flag new x i ≡ flag t x i) e (other_i i (λ (x : i ≡ j). eqb-false j i ei (sym x))) ∙ sym (or-false (flag t f i))
+  set_flag f i false q ef ei = other_f f i (λ (x : f ≡ g). eqb-false g f ef (sym x)) ∙ sym (or-false (flag t f i))
 
 module _ (t : List (List Bool)) (is : Flags t) (d : Id) (range : (f i : ℕ) → d ≡ Of f i → (f < 4) × (1 ≤ i) × (i ≤ 64)) where
   pub marked_flags : Flags (marked t d)
@@ -154,7 +154,7 @@ module _ (t : List (List Bool)) (is : Flags t) (d : Id) (range : (f i : ℕ) →
           by false e = ne_eqb (j - 1) i (λ (x : j - 1 ≡ i). eqb-false j (i + 1) e (omega arith))
 
       go : (x : Id) → d ≡ x → flag (marked t x) f i ≡ (flag t f i || is_id x f (i + 1))
-      go Nothing e = sym (or_false (flag t f i))
+      go Nothing e = sym (or-false (flag t f i))
       go (Of g j) e =
           let r = range g j e in
           set_flag t is g (j - 1) r.0 (omega (arith, r.1, r.2)) f i (eqb g f) (eqb (j - 1) i) refl refl
@@ -185,5 +185,5 @@ unfolding any
 left_done book t file at h is left =
     record {
       shape = is;
-      flags = λ f i hf hi. sym (left f i hf hi ∙ ap (λ (ls : List (List ℕ)). flag t f i || any (declares book f (i + 1)) ls) (lines_done file at h) ∙ or_false (flag t f i));
+      flags = λ f i hf hi. sym (left f i hf hi ∙ ap (λ (ls : List (List ℕ)). flag t f i || any (declares book f (i + 1)) ls) (lines_done file at h) ∙ or-false (flag t f i));
     }

@@ -1,7 +1,7 @@
 -- How long a name is that is like a pattern: at least as long as its text, and its form's text is just as long. Assumes nothing.
 use Prim.Native.Nat.{ℕ, zero, suc, ◌+◌, ◌*◌, ◌-◌, ◌≤◌, ◌<◌}
 use mathlib.Core.Path.{◌≡◌, refl, ap, sym, ◌∙◌}
-use mathlib.Core.Bool.{Bool, true, false, cond, or_true}
+use mathlib.Core.Bool.{Bool, true, false, cond, or-true}
 use mathlib.Core.List.{List, [], ◌∷◌}
 use native.Mathlib.Omega.{arith}
 use lib.Dec.{eqb, leb}
@@ -89,7 +89,7 @@ extent_digits (x ∷ t) = go (is_digit x) refl (extent_digits t)
   where
     go : (b : Bool) → is_digit x ≡ b → extent true t ≡ extent true (drop (length (digits t)) t)
         → extent true (x ∷ t) ≡ extent true (drop (length (cond b (x ∷ digits t) [])) (x ∷ t))
-    go true e h = rw (e, or_true (eqb x 91)) (omega (arith, h))
+    go true e h = rw (e, or-true (eqb x 91)) (omega (arith, h))
     go false e h = refl
 
 -- and `]` behind them two

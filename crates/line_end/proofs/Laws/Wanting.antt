@@ -1,6 +1,6 @@
 -- What a demand wants, as it is read from the book: one thing, or one for each id of a family. Assumes nothing.
 use mathlib.Core.Path.{◌≡◌, refl, sym, ap, ◌∙◌}
-use mathlib.Core.Bool.{Bool, true, false, not, ◌&&◌, and-true, or_false}
+use mathlib.Core.Bool.{Bool, true, false, not, ◌&&◌, and-true, or-false}
 use mathlib.Core.List.{List, [], ◌∷◌, ◌++◌, map}
 use mathlib.Core.Logic.{inl, inr}
 use Prim.Native.Nat.{ℕ, zero, suc, ◌+◌, ◌-◌, ◌≤◌, ◌<◌}
@@ -159,7 +159,7 @@ module _ (b : Book) (sized : Sized b) (k : ℕ) (l : k < length b.demands) where
             let z : i ≡ 0 → ⊥ = λ (e : i ≡ 0). omega arith in
             let begin : start_of (key_entries b) (entry_for b.keys D.form) + (i - 1) ≡ from + (i - 1) = omega (arith, f, ap (start_of (key_entries b)) d.entry) in
             let one : from + (i - 1) + 1 - (from + (i - 1)) ≡ 1 = omega arith in
-            rw (ne_eqb i 0 z, begin, one, or_false (get_or (marks slots) (from + (i - 1)) false), p, d.each)
+            rw (ne_eqb i 0 z, begin, one, or-false (get_or (marks slots) (from + (i - 1)) false), p, d.each)
 
         ids_same : {a : Bool} {from : ℕ} (n m i : ℕ) → 1 ≤ i → a ≡ is_asked_in x D → from ≡ start_of (key_entries b) r.entry → (rest : List Break)
             → id_breaks r a (marks slots) (get_or flags r.each []) from n (up_from m i) rest ≡ want_breaks b x n (map (want D) (up_from m i)) rest

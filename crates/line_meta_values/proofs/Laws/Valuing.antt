@@ -1,7 +1,7 @@
 -- What is found of a value: by its kind, and for a list of references by the indices that it names, one after the other. Assumes nothing.
 use Prim.Native.Nat.{ℕ, ◌+◌, ◌<◌}
 use mathlib.Core.Path.{◌≡◌, refl, sym, ap, ◌∙◌}
-use mathlib.Core.Bool.{Bool, true, false, cond, not, ◌&&◌, ◌||◌, and-false, or_false, or_true}
+use mathlib.Core.Bool.{Bool, true, false, cond, not, ◌&&◌, ◌||◌, and-false, or-false, or-true}
 use mathlib.Core.List.{List, [], ◌∷◌}
 use native.Mathlib.Omega.{arith}
 use lib.Dec.{eqb, leb}
@@ -36,7 +36,7 @@ module _ (ids : Ids) (k f : ℕ) (v : Bytes) where
   -- one that names one
   pub one_any : (p : ℕ → Bool) → k ≡ REFERENCE → any p (named_in k f v) ≡ p (ref_to (word_of f) v)
   unfolding any
-  one_any p e = rw (one_named k f v e) (or_false (p (ref_to (word_of f) v)))
+  one_any p e = rw (one_named k f v e) (or-false (p (ref_to (word_of f) v)))
 
 -- A LIST, index by index
 
@@ -78,7 +78,7 @@ module _ (p : ℕ → Bool) where
         go : (u : Bool) → eqb i j ≡ u → (u || any (eqb i) js) ≡ true → (any (eqb i) js ≡ true → any (λ m. leb i m && p m) js ≡ true)
             → ((leb i j && p j) || any (λ m. leb i m && p m) js) ≡ true
         go true e q ih = let z : i ≡ j = eqb-true i j e in rw (le-leb i j (omega arith), ap p (sym z) ∙ t)
-        go false e q ih = rw (ih q) (or_true (leb i j && p j))
+        go false e q ih = rw (ih q) (or-true (leb i j && p j))
 
     each_end : (is : List ℕ) → 64 < i → all is_high is ≡ true → any (λ j. leb i j && p j) is ≡ false
     unfolding any all

@@ -1,7 +1,7 @@
 -- The promises of the mending call, from what it ensures: what is refused, what stands in the buffer and the list, and that the copy, mended again, stays the
 -- same. Assumes nothing.
 use mathlib.Core.Path.{◌≡◌, refl, sym, ap, subst, ◌∙◌}
-use mathlib.Core.Bool.{true, ◌||◌, or_true}
+use mathlib.Core.Bool.{true, ◌||◌, or-true}
 use mathlib.Core.List.{List, [], ◌∷◌, ◌++◌}
 use mathlib.Core.Logic.{◌⊎◌, inl, inr, ⊎_elim}
 use Prim.Native.Nat.{ℕ, zero, suc, ◌+◌, ◌-◌, ◌*◌, ◌≤◌, ◌<◌}
@@ -112,7 +112,7 @@ module _ (file ys : Bytes) (zs : List ℕ) where
       long q = rw (lt-ltb LIMIT (length (copy_of file)) q)
 
       short : length ys < length (copy_of file) → (ltb LIMIT (length (copy_of file)) || ltb (length ys) (length (copy_of file))) ≡ true
-      short q = rw (lt-ltb (length ys) (length (copy_of file)) q) (or_true (ltb LIMIT (length (copy_of file))))
+      short q = rw (lt-ltb (length ys) (length (copy_of file)) q) (or-true (ltb LIMIT (length (copy_of file))))
 
   written : length file ≤ LIMIT → length (copy_of file) ≤ LIMIT → length (copy_of file) ≤ length ys
       → mended file ys zs ≡ outcome 0 (length (copy_of file)) (length (changes_of file)) (with_bytes (copy_of file) ys) (with_changes (changes_of file) zs)

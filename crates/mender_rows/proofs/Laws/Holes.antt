@@ -1,6 +1,6 @@
 -- A cell after the first is empty where a tab has another after it, or stands at the end. Assumes nothing.
 use mathlib.Core.Path.{◌≡◌, refl, sym, ◌∙◌}
-use mathlib.Core.Bool.{Bool, true, false, cond, ◌&&◌, ◌||◌, or_false}
+use mathlib.Core.Bool.{Bool, true, false, cond, ◌&&◌, ◌||◌, or-false}
 use mathlib.Core.List.{List, [], ◌∷◌}
 use Prim.Native.Nat.{ℕ, suc, ◌+◌, ◌-◌, ◌≤◌, ◌<◌}
 use native.Mathlib.Omega.{arith}
@@ -51,7 +51,7 @@ or_swap false b c = refl
 
 holes_from : (x : ℕ) (xs : Bytes) → has_hole (cells (x ∷ xs)) ≡ (eqb (get_or (x ∷ xs) (length xs) 0) TAB || pairs (x ∷ xs))
 unfolding pairs
-holes_from x [] = hole_one x ∙ sym (or_false (eqb x TAB))
+holes_from x [] = hole_one x ∙ sym (or-false (eqb x TAB))
 holes_from x (y ∷ ys) = hole_next x y ys ∙ rw (holes_from y ys) (or_swap (eqb x TAB && eqb y TAB) (eqb (get_or (y ∷ ys) (length ys) 0) TAB) (pairs (y ∷ ys)))
 
 -- by the last byte, and the pairs
@@ -78,4 +78,4 @@ module _ (l : Bytes) (i : ℕ) (hit : Bool) where
 
   pub pairs_end : i < length l → length l ≤ i + 1 → (hit || pairs (drop i l)) ≡ hit
   unfolding pairs
-  pairs_end h k = rw (drop_step l i h, drop_of_length-le l k) (or_false hit)
+  pairs_end h k = rw (drop_step l i h, drop_of_length-le l k) (or-false hit)

@@ -1,7 +1,7 @@
 -- The copy with `null` in the empty cells where it may stand: its lines, their ends and cells, its breaks, its length; mended again it stays the same, and a file
 -- with nothing to mend is its own copy. Assumes nothing.
 use mathlib.Core.Path.{◌≡◌, refl, sym, ap, subst, ◌∙◌}
-use mathlib.Core.Bool.{Bool, true, false, cond, ◌&&◌, and-false, or_false}
+use mathlib.Core.Bool.{Bool, true, false, cond, ◌&&◌, and-false, or-false}
 use mathlib.Core.List.{List, [], ◌∷◌, ◌++◌}
 use mathlib.Core.Logic.{⊎_elim}
 use Prim.Native.Nat.{ℕ, zero, suc, ◌+◌, ◌-◌, ◌*◌, ◌≤◌, ◌<◌}
@@ -40,7 +40,7 @@ module _ (t : Break → Bool) (f : ℕ → List Break) where
   any_each i (suc left) m low high h =
       any_append t (f m) (each left (suc m) f)
       ∙ ⊎_elim
-      (λ (e : m ≡ i). rw (any_nowhere left (suc m) (λ j l. h j (λ z. omega arith)), or_false (any t (f m)), e))
+      (λ (e : m ≡ i). rw (any_nowhere left (suc m) (λ j l. h j (λ z. omega arith)), or-false (any t (f m)), e))
       (λ (lt : m < i). rw (h m (λ z. omega arith), any_each i left (suc m) lt (omega arith) h))
       (eq-or-lt_of_le low)
 

@@ -1,6 +1,6 @@
 -- The cells of a line, by positions, in loops that judge them one by one. Assumes nothing.
 use mathlib.Core.Path.{◌≡◌, refl, sym, ap, ◌∙◌}
-use mathlib.Core.Bool.{Bool, true, false, cond, ◌||◌, or_false}
+use mathlib.Core.Bool.{Bool, true, false, cond, ◌||◌, or-false}
 use mathlib.Core.List.{List, [], ◌∷◌, ◌++◌}
 use mathlib.Core.Logic.{⊎_elim}
 use Prim.Native.Nat.{ℕ, suc, ◌+◌, ◌-◌, ◌≤◌, ◌<◌}
@@ -69,7 +69,7 @@ module _ (xs : List Bytes) {x : Bytes} {tail : List Bytes} (c : ℕ) (low : 2 �
 -- with one more
 pub any_one_more : {A : Type 0} (f : A → Bool) (xs : List A) (x : A) → any f (xs ++ (x ∷ [])) ≡ (any f xs || f x)
 unfolding any
-any_one_more f xs x = any_append f xs (x ∷ []) ∙ ap (λ (t : Bool). any f xs || t) (or_false (f x))
+any_one_more f xs x = any_append f xs (x ∷ []) ∙ ap (λ (t : Bool). any f xs || t) (or-false (f x))
 
 -- one name more
 pub any_more : (f : Bytes → Bool) (xs : List Bytes) {x : Bytes} {tail : List Bytes} (c : ℕ) → 2 ≤ c → drop (c - 2) xs ≡ x ∷ tail

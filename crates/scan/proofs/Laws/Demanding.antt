@@ -1,6 +1,6 @@
 -- Things wanted at rising cells: what is put one by one is what stands cell by cell, demand by demand. Assumes nothing.
 use mathlib.Core.Path.{◌≡◌, refl, sym, ap, subst, ◌∙◌}
-use mathlib.Core.Bool.{Bool, true, false, cond, ◌&&◌, ◌||◌, or_false, and-false}
+use mathlib.Core.Bool.{Bool, true, false, cond, ◌&&◌, ◌||◌, or-false, and-false}
 use mathlib.Core.List.{List, [], ◌∷◌, ◌++◌, map}
 use mathlib.Core.Logic.{⊎_elim}
 use Prim.Native.Nat.{ℕ, zero, suc, ◌+◌, ◌-◌, ◌≤◌, ◌<◌}
@@ -107,7 +107,7 @@ module _ (f : Want → Bool) (n : ℕ) where
         let m : last_cell (suc k) ws ≤ suc k + left = rw (← s) (omega (arith, most, s)) in
         let rest : each left (suc (suc k)) (by_cell (w ∷ ws)) ≡ listed ws =
         each_same left (suc (suc k)) (by_cell (w ∷ ws)) (by_cell ws) (λ i l. rw (ne_eqb (cell_of w) i (λ z. omega arith))) ∙ ih (rw s at up) m in
-        rw (eq-eqb (cell_of w) (suc k) s, before_none (of 21) ws (cell_of w) (suc k) up (omega arith), before_none (of 22) ws (cell_of w) (suc k) up (omega arith), or_false (of 21 w), or_false (of 22 w), rest)
+        rw (eq-eqb (cell_of w) (suc k) s, before_none (of 21) ws (cell_of w) (suc k) up (omega arith), before_none (of 22) ws (cell_of w) (suc k) up (omega arith), or-false (of 21 w), or-false (of 22 w), rest)
         (both_rules w.demand.rule (suc k) (f w) (listed ws) late ∙ ap (λ (c : ℕ). when (f w) (break_at n c w.demand.rule) (listed ws)) (sym s))
 
     later : (cell_of w ≡ suc k → ⊥) → (rising (suc k) (w ∷ ws) ≡ true → last_cell (cell_of w) ws ≤ suc k + left → each left (suc (suc k)) (by_cell (w ∷ ws)) ≡ listed (w ∷ ws))
@@ -148,7 +148,7 @@ module _ (f : Want → Bool) (n : ℕ) where
     unfolding wants_of any
     once_cell d e =
         let z : d.cell + 0 ≡ d.cell = omega arith in
-        rw (eq-eqb d.each ONCE e, z, or_false (eqb d.cell c && (eqb d.rule k && f (want d 0)))) (go (eqb d.cell c) refl)
+        rw (eq-eqb d.each ONCE e, z, or-false (eqb d.cell c && (eqb d.rule k && f (want d 0)))) (go (eqb d.cell c) refl)
       where
         go : (t : Bool) → eqb d.cell c ≡ t → (t && (eqb d.rule k && f (want d 0))) ≡ (eqb d.rule k && (eqb c d.cell && f (want d (c - d.cell))))
         go true q =

@@ -1,6 +1,6 @@
 -- Required metadata, by the slots of all lines, the ids, the facts and the sections present: rules 21 and 22. Assumes nothing.
 use mathlib.Core.Path.{◌≡◌, refl, sym, ap, ◌∙◌}
-use mathlib.Core.Bool.{Bool, true, false, cond, ◌&&◌, ◌||◌, and-true, or_false}
+use mathlib.Core.Bool.{Bool, true, false, cond, ◌&&◌, ◌||◌, and-true, or-false}
 use mathlib.Core.List.{List, [], ◌∷◌, ◌++◌, map}
 use mathlib.Core.Logic.{◌⊎◌, inl, inr, ⊎_elim}
 use Prim.Native.String.{String}
@@ -247,7 +247,7 @@ module _ (b : Book) (sized : Sized b) (w : Want) (sound : is_sound b.keys w.dema
     id_slot e k f i j o =
         let n : w.index ≡ 0 → ⊥ = λ (q : w.index ≡ 0). omega arith in
         let m : begin + 1 - begin ≡ 1 = omega arith in
-        rw (ne_eqb w.index 0 n, m, or_false (eqb (slot_of es e i j) begin), one_entry w.demand.form b.keys e one (omega (arith, o.inside, keys_many)))
+        rw (ne_eqb w.index 0 n, m, or-false (eqb (slot_of es e i j) begin), one_entry w.demand.form b.keys e one (omega (arith, o.inside, keys_many)))
         (test_eq (eqb (slot_of es e i j) begin) (eqb e E && eqb w.index i) there back)
       where
         there : eqb (slot_of es e i j) begin ≡ true → (eqb e E && eqb w.index i) ≡ true

@@ -1,6 +1,6 @@
 -- The state follows the lines: what is carried stands for the lines above, before the first line and after each. Assumes nothing.
 use mathlib.Core.Path.{◌≡◌, refl, sym, ap, ◌∙◌}
-use mathlib.Core.Bool.{Bool, true, false, cond, ◌||◌, or_false, or_true, or_assoc}
+use mathlib.Core.Bool.{Bool, true, false, cond, ◌||◌, or-false, or-true, or_assoc}
 use mathlib.Core.List.{List, [], ◌∷◌, ◌++◌}
 use Prim.Native.Nat.{ℕ, zero, suc, ◌+◌, ◌<◌}
 use native.Mathlib.Nat.{not-suc-le-zero}
@@ -71,7 +71,7 @@ present_same book above l i z w = present_append book above l i ∙ go (eqb i 0)
   where
     go : (t : Bool) → eqb i 0 ≡ t → (is_present book above i || in_section book i l) ≡ is_present book above i
     go true e = let q = zero_present book above i (eqb-true i 0 e) in rw q
-    go false e = rw (z, w, ne_eqb 0 i (λ q. eqb-false i 0 e (sym q))) (or_false (is_present book above i))
+    go false e = rw (z, w, ne_eqb 0 i (λ q. eqb-false i 0 e (sym q))) (or-false (is_present book above i))
 
 -- one of section r makes it present
 module _ (book : Book) (above : List Bytes) (l : Bytes) (present : List Bool) (r : ℕ) (low : 0 < r) (room : r < length present)
@@ -81,12 +81,12 @@ module _ (book : Book) (above : List Bytes) (l : Bytes) (present : List Bool) (r
     where
       other : (t : Bool) → eqb i 0 ≡ t → eqb r i ≡ false → is_present book above i ≡ (is_present book above i || in_section book i l)
       other true e q = let p = zero_present book above i (eqb-true i 0 e) in rw p
-      other false e q = let n = eqb-false i 0 e in rw (its i (omega arith), q) (sym (or_false (is_present book above i)))
+      other false e q = let n = eqb-false i 0 e in rw (its i (omega arith), q) (sym (or-false (is_present book above i)))
 
       go : (t : Bool) → eqb r i ≡ t → get_or (set present r true) i false ≡ (is_present book above i || in_section book i l)
       go true e =
           let q : i ≡ r = sym (eqb-true r i e) in
-          ap (λ (k : ℕ). get_or (set present r true) k false) q ∙ get_or-set_same present r true false room ∙ sym (rw (its i (omega arith), e) (or_true (is_present book above i)))
+          ap (λ (k : ℕ). get_or (set present r true) k false) q ∙ get_or-set_same present r true false room ∙ sym (rw (its i (omega arith), e) (or-true (is_present book above i)))
       go false e = get_or-set_other present r i true false (λ g. eqb-false r i e (sym g)) ∙ stands i h ∙ other (eqb i 0) refl e
 
   -- and where it was, it stays
@@ -105,7 +105,7 @@ section_table book r low l h = go (eqb (header book l) r) refl h
   where
     go : (t : Bool) → eqb (header book l) r ≡ t → (t || eqb (row book l) r) ≡ true → is_table book l ≡ true
     go true e m = let q = eqb-true (header book l) r e in rw (lt-ltb 0 (header book l) (omega arith))
-    go false e m = let q = eqb-true (row book l) r m in rw (lt-ltb 0 (row book l) (omega arith)) (or_true (is_header book l))
+    go false e m = let q = eqb-true (row book l) r m in rw (lt-ltb 0 (row book l) (omega arith)) (or-true (is_header book l))
 
 present_table : (book : Book) (r : ℕ) → 0 < r → (above : List Bytes) → any (in_section book r) above ≡ true → any (is_table book) above ≡ true
 unfolding any
@@ -115,7 +115,7 @@ present_table book r low (l ∷ ls) h = go (in_section book r l) refl h (present
     go : (t : Bool) → in_section book r l ≡ t → (t || any (in_section book r) ls) ≡ true → (any (in_section book r) ls ≡ true → any (is_table book) ls ≡ true)
         → (is_table book l || any (is_table book) ls) ≡ true
     go true e m later = rw (section_table book r low l e)
-    go false e m later = rw (later m) (or_true (is_table book l))
+    go false e m later = rw (later m) (or-true (is_table book l))
 
 was_table : (book : Book) (r : ℕ) → 0 < r → (above : List Bytes) → is_present book above r ≡ true → any (is_table book) above ≡ true
 unfolding is_present
@@ -141,7 +141,7 @@ module _ {book : Book} (sized : Sized book) {above : List Bytes} {s : State} {ki
     present = p;
     presents = q;
     headers = headers_next;
-    highest = λ h. rw m (st.highest h ∙ sym (any_one_more (of_later book h) above l ∙ rw (z, le-ltb h 0 (omega arith)) (or_false (any (of_later book h) above))));
+    highest = λ h. rw m (st.highest h ∙ sym (any_one_more (of_later book h) above l ∙ rw (z, le-ltb h 0 (omega arith)) (or-false (any (of_later book h) above))));
     section = f ∙ rw (nearest_append book above l [], z) st.section;
     width = c ∙ rw (nearest_append book above l [], z) st.width;
     table = d ∙ rw st.table (sym (any_one_more (is_table book) above l));
@@ -156,12 +156,12 @@ module _ {book : Book} (sized : Sized book) {above : List Bytes} {s : State} {ki
       let q : next ≡ after_header h (width l) s = af.state ∙ rw e in
       rw q (record {
         headers = headers_next;
-        present = present_set book above l s.present h pos (omega (arith, bound, st.presents)) st.present (λ i p. rw (e, ne_eqb 0 i (λ z. omega arith)) (or_false (eqb h i)));
+        present = present_set book above l s.present h pos (omega (arith, bound, st.presents)) st.present (λ i p. rw (e, ne_eqb 0 i (λ z. omega arith)) (or-false (eqb h i)));
         presents = length-set s.present h true ∙ st.presents;
         highest = λ k. rw (any_one_more (of_later book k) above l, ← st.highest k, e) (highest_set k (ltb s.highest h) refl);
         section = rw (nearest_append book above l [], e, lt-ltb 0 h pos, e);
         width = rw (nearest_append book above l [], e, lt-ltb 0 h pos);
-        table = rw (any_one_more (is_table book) above l, e, lt-ltb 0 h pos) (sym (or_true (any (is_table book) above)));
+        table = rw (any_one_more (is_table book) above l, e, lt-ltb 0 h pos) (sym (or-true (any (is_table book) above)));
         columns = rw (nearest_append book above l []) (af.columns (nearest book above) st.columns);
         keys = keys_next;
       })
@@ -175,12 +175,12 @@ module _ {book : Book} (sized : Sized book) {above : List Bytes} {s : State} {ki
       highest_set k false u = go (ltb k h) refl
         where
           go : (v : Bool) → ltb k h ≡ v → ltb k s.highest ≡ (ltb k s.highest || v)
-          go true w = lt-ltb k s.highest (omega (arith, ltb-true k h w, ltb-false s.highest h u)) ∙ sym (or_true (ltb k s.highest))
-          go false w = sym (or_false (ltb k s.highest))
+          go true w = lt-ltb k s.highest (omega (arith, ltb-true k h w, ltb-false s.highest h u)) ∙ sym (or-true (ltb k s.highest))
+          go false w = sym (or-false (ltb k s.highest))
 
   same_state : {σ : Sort} → sort_of book l ≡ σ → next ≡ s → (header_in σ ≡ 0) → (row_in σ ≡ 0) → Stands book (above ++ (l ∷ [])) next kinds' slots'
   same_state e q z w = kept (rw e z) (ap (λ (x : State). x.highest) q) (ap (λ (x : State). x.section) q) (ap (λ (x : State). x.width) q)
-      (ap (λ (x : State). x.table) q ∙ rw (e, z, w) (sym (or_false s.table)))
+      (ap (λ (x : State). x.table) q ∙ rw (e, z, w) (sym (or-false s.table)))
       (λ i h. ap (λ (x : State). get_or x.present i false) q ∙ st.present i h ∙ sym (present_same book above l i (rw e z) (rw e w)))
       (ap (λ (x : State). length x.present) q ∙ st.presents)
 
@@ -198,7 +198,7 @@ module _ {book : Book} (sized : Sized book) {above : List Bytes} {s : State} {ki
       its i p = rw (e, ne_eqb 0 i (λ z. omega arith))
 
       more : (x : Bool) → (x || is_table book l) ≡ true
-      more x = rw (e, lt-ltb 0 r low) (or_true x)
+      more x = rw (e, lt-ltb 0 r low) (or-true x)
 
       go : (t : Bool) → get_or s.present r false ≡ t
           → next ≡ cond t s (record { present = set s.present r true; highest = s.highest; section = s.section; asking = s.asking; width = s.width; table = true })

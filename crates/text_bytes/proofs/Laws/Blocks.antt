@@ -1,6 +1,6 @@
 -- Bytes passed without an early end: a byte that stands in none of them, and some byte that passes a test. Assumes nothing.
 use mathlib.Core.Path.{◌≡◌, refl}
-use mathlib.Core.Bool.{Bool, true, false, ◌||◌, or_false}
+use mathlib.Core.Bool.{Bool, true, false, ◌||◌, or-false}
 use mathlib.Core.List.{List}
 use Prim.Native.Nat.{ℕ, ◌+◌, ◌≤◌, ◌<◌}
 use native.Mathlib.Omega.{arith}
@@ -41,4 +41,4 @@ module _ (p : ℕ → Bool) (l : List ℕ) (i : ℕ) where
 
   pub met_end : (a : Bool) → length l ≤ i → (a || any p (drop i l)) ≡ a
   unfolding any
-  met_end a h = rw (drop_of_length-le l h) (or_false a)
+  met_end a h = rw (drop_of_length-le l h) (or-false a)

@@ -1,6 +1,6 @@
 -- What the machine's state says of a text: its fields, and so whether it is a parameter. Assumes nothing.
 use mathlib.Core.Path.{◌≡◌, refl, sym, ap, ◌∙◌}
-use mathlib.Core.Bool.{Bool, true, false, cond, ◌&&◌, ◌||◌, not, and-false, or_false}
+use mathlib.Core.Bool.{Bool, true, false, cond, ◌&&◌, ◌||◌, not, and-false, or-false}
 use mathlib.Core.List.{List, [], ◌∷◌, ◌++◌}
 use Prim.Native.Nat.{ℕ, zero, suc, ◌+◌, ◌-◌, ◌≤◌, ◌<◌}
 use native.Mathlib.Numerals.{add-one}
@@ -42,7 +42,7 @@ cut_some sep q (b ∷ x) h = go (separates sep q b) (cut_outside sep (turn q b) 
 -- a byte that separates nothing goes into the first field
 module _ (b : ℕ) (f : Bool) where
   or_more : (s a : Bool) → (f || not (s && a)) ≡ ((f || not s) || not a)
-  or_more true a = rw (or_false f)
+  or_more true a = rw (or-false f)
   or_more false a = go f
     where
       go : (g : Bool) → (g || true) ≡ ((g || true) || not a)
@@ -50,12 +50,12 @@ module _ (b : ℕ) (f : Bool) where
       go false = refl
 
   inner_past : (n : ℕ) (p : List ℕ) (ps : List (List ℕ)) → 2 < n → (f || third n ((b ∷ p) ∷ ps)) ≡ (held n f b || third n (p ∷ ps))
-  inner_past n p ps h = rw (third_past n ((b ∷ p) ∷ ps) h, third_past n (p ∷ ps) h, ne_eqb n 2 (λ z. omega arith), or_false f, or_false f)
+  inner_past n p ps h = rw (third_past n ((b ∷ p) ∷ ps) h, third_past n (p ∷ ps) h, ne_eqb n 2 (λ z. omega arith), or-false f, or-false f)
 
   inner_third : (n : ℕ) (p : List ℕ) (ps : List (List ℕ)) → (f || third n ((b ∷ p) ∷ ps)) ≡ (held n f b || third n (p ∷ ps))
   unfolding third all is_space
-  inner_third zero p ps = rw (or_false f)
-  inner_third (suc zero) p ps = rw (or_false f)
+  inner_third zero p ps = rw (or-false f)
+  inner_third (suc zero) p ps = rw (or-false f)
   inner_third (suc (suc zero)) p ps = or_more (eqb b 32) (all is_space p)
   inner_third (suc (suc (suc n))) p ps = inner_past (suc (suc (suc n))) p ps (omega arith)
 
@@ -100,7 +100,7 @@ third_none n = rw (nothing (2 - n)) (and-false (leb n 2))
 
 verdict : (i n : ℕ) (q f : Bool) (x : List ℕ) → good (run false (state i n q f) x) ≡ fields n q f x
 unfolding run fields cut_outside quoted_after
-verdict i n q f [] = rw (third_none n, or_false f, add-one n, eqb-suc-suc n 3)
+verdict i n q f [] = rw (third_none n, or-false f, add-one n, eqb-suc-suc n 3)
 verdict i n q f (b ∷ x) = go (separates 44 q b) (λ m g. verdict (i + 1) m (turn q b) g x)
   where
     ps : List (List ℕ)
@@ -121,7 +121,7 @@ closing st = go st.quoted (eqb st.commas 3) refl
   where
     go : (q t : Bool) → eqb st.commas 3 ≡ t → good (step (state st.at st.commas q st.filled) 93) ≡ good (state st.at st.commas q st.filled)
     go true t e = rw (and-false (eqb st.commas 3))
-    go false true e = rw (ne_eqb st.commas 2 (λ z. omega (arith, eqb-true st.commas 3 e)), or_false st.filled)
+    go false true e = rw (ne_eqb st.commas 2 (λ z. omega (arith, eqb-true st.commas 3 e)), or-false st.filled)
     go false false e = rw e
 
 -- a text by its last byte

@@ -1,6 +1,6 @@
 -- What a walk carries beside the scans' state: the byte that it read last, and how far a field holds spaces alone. Assumes nothing.
 use mathlib.Core.Path.{◌≡◌, refl, sym, ap, ◌∙◌}
-use mathlib.Core.Bool.{Bool, true, false, cond, ◌&&◌, ◌||◌, and-false, or_false, true≢false}
+use mathlib.Core.Bool.{Bool, true, false, cond, ◌&&◌, ◌||◌, and-false, or-false, true≢false}
 use mathlib.Core.List.{List}
 use Prim.Native.Nat.{ℕ, ◌+◌, ◌-◌, ◌≤◌, ◌<◌}
 use mathlib.Core.Logic.{⊎_elim}
@@ -58,7 +58,7 @@ abbrev pub filled_at : ℕ → Bool → ℕ → ℕ → Bool
 filled_at n f gap i = f || (eqb n 2 && ltb gap i)
 
 pub filled_start : (n : ℕ) (f : Bool) (i : ℕ) → filled_at n f i i ≡ f
-filled_start n f i = rw (le-ltb i i (omega arith), and-false (eqb n 2)) (or_false f)
+filled_start n f i = rw (le-ltb i i (omega arith), and-false (eqb n 2)) (or-false f)
 
 or_once : (f a b : Bool) → ((f || (a && b)) || (a && true)) ≡ (f || (a && true))
 or_once true a b = refl
@@ -71,12 +71,12 @@ pub filled_more : (n : ℕ) (f : Bool) (gap i b : ℕ) → gap ≤ i → (b ≡ 
 filled_more n f gap i b h k = rw (lt-ltb gap (i + 1) (omega arith), ne_eqb b 32 k) (sym (or_once f (eqb n 2) (ltb gap i)))
 
 pub filled_blank : (n : ℕ) (f : Bool) (i b : ℕ) → b ≡ 32 → filled_at n f (i + 1) (i + 1) ≡ held n (filled_at n f i i) b
-filled_blank n f i b k = rw (filled_start n f (i + 1), filled_start n f i, eq-eqb b 32 k, and-false (eqb n 2)) (sym (or_false f))
+filled_blank n f i b k = rw (filled_start n f (i + 1), filled_start n f i, eq-eqb b 32 k, and-false (eqb n 2)) (sym (or-false f))
 
 -- a space behind something else changes nothing
 pub filled_space : (n : ℕ) (f : Bool) (gap i b : ℕ) → gap < i → b ≡ 32 → filled_at n f gap (i + 1) ≡ held n (filled_at n f gap i) b
 filled_space n f gap i b h k =
-    rw (lt-ltb gap (i + 1) (omega arith), lt-ltb gap i h, eq-eqb b 32 k, and-false (eqb n 2)) (sym (or_false (f || (eqb n 2 && true))))
+    rw (lt-ltb gap (i + 1) (omega arith), lt-ltb gap i h, eq-eqb b 32 k, and-false (eqb n 2)) (sym (or-false (f || (eqb n 2 && true))))
 
 -- a mark is no space
 pub filled_mark : (n : ℕ) (f : Bool) (gap i b : ℕ) → b ≡ 34 → held n f b ≡ held n (filled_at n f gap i) b

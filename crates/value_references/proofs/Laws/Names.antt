@@ -1,7 +1,7 @@
 -- References, and the indices that a list of them names. Assumes nothing.
 use Prim.Native.Nat.{ℕ, ◌+◌, ◌-◌, ◌≤◌, ◌<◌}
 use mathlib.Core.Path.{◌≡◌, refl, ap, sym, ◌∙◌}
-use mathlib.Core.Bool.{Bool, true, false, cond, not, ◌&&◌, ◌||◌, and_assoc, and-false, and-true, or_false, or_true, or_assoc}
+use mathlib.Core.Bool.{Bool, true, false, cond, not, ◌&&◌, ◌||◌, and_assoc, and-false, and-true, or-false, or-true, or_assoc}
 use mathlib.Core.List.{List, [], ◌∷◌, ◌++◌, map, append-nil}
 use native.Mathlib.Omega.{arith}
 use borrow.Author.Tests.{eq-eqb, ne_eqb, eqb-true, eqb-false}
@@ -236,14 +236,14 @@ marked_at t i j h k = go (eqb i 0) refl (eqb j i) refl
   where
     go : (z : Bool) → eqb i 0 ≡ z → (y : Bool) → eqb j i ≡ y → get_or (cond z t (set t (i - 1) true)) (j - 1) false ≡ (get_or t (j - 1) false || y)
     go true e true d = absurd (omega (arith, eqb-true i 0 e, eqb-true j i d))
-    go true e false d = sym (or_false (get_or t (j - 1) false))
+    go true e false d = sym (or-false (get_or t (j - 1) false))
     go false e true d =
         let p = eqb-false i 0 e in
         let z : j - 1 ≡ i - 1 = omega (arith, eqb-true j i d) in
-        rw z (get_or-set_same t (i - 1) true false (omega arith) ∙ sym (or_true (get_or t (i - 1) false)))
+        rw z (get_or-set_same t (i - 1) true false (omega arith) ∙ sym (or-true (get_or t (i - 1) false)))
     go false e false d =
         let p = eqb-false i 0 e in
-        get_or-set_other t (i - 1) (j - 1) true false (λ z. eqb-false j i d (omega arith)) ∙ sym (or_false (get_or t (j - 1) false))
+        get_or-set_other t (i - 1) (j - 1) true false (λ z. eqb-false j i d (omega arith)) ∙ sym (or-false (get_or t (j - 1) false))
 
 pub record SoFar (w s : List ℕ) (at : ℕ) (y : Bool) (z : Flaw) (t : List Bool) : Type 0 where
   pub width : length t ≡ 64
@@ -291,5 +291,5 @@ module _ {w s : List ℕ} {at : ℕ} {y : Bool} {z : Flaw} {t : List Bool} (f : 
           width = ap length et ∙ marked_length t i ∙ f.width;
           good = eg ∙ sym (refs_good w s ∙ rw (like, flaw));
           flaw = e'' ∙ rw (← like, ← flaw);
-          named = λ j a b. sym (f.named j a b ∙ rw (n, et, marked_at t i j fits a, index, or_false (eqb j (ref_to w (part at e s)))));
+          named = λ j a b. sym (f.named j a b ∙ rw (n, et, marked_at t i j fits a, index, or-false (eqb j (ref_to w (part at e s)))));
         }
