@@ -1,0 +1,8 @@
+-- `book_facts::note_field` meets its contract: each fact is its own. Assumes nothing.
+use borrow.Author.Rules.{rules}
+use Rattle.text_bytes.specs.Bytes.{bytes}
+use Rattle.book_facts.proofs.note_field.Goals as goal
+
+pub returns : goal.returns
+unfolding bytes
+returns c = rw (c.earlier_line.ensures, c.earlier_letter-2.ensures, c.earlier_letter.ensures, c.line_with-version.ensures, c.letter_in-typed.ensures, c.letter_in-mode.ensures)

@@ -1,0 +1,15 @@
+-- `book_ids::any_marked` meets its contract: the slots that are left decide. Assumes nothing.
+use mathlib.Core.Path.{◌≡◌, refl, sym, ◌∙◌}
+use Prim.Native.Nat.{◌-◌, ◌≤◌}
+use native.Mathlib.Omega.{arith}
+use borrow.Author.Rules.{rules}
+use lib.ListN.{length}
+use Rattle.book_ids.specs.Ids.{is_marked}
+use Rattle.book_ids.proofs.Laws.Flagging.{left, mark_here, mark_next, mark_none}
+use Rattle.book_ids.proofs.any_marked.Given as goal
+
+abbrev pub invariant-loop-i : goal.invariant-loop-i
+invariant-loop-i l = (l.i ≤ l.to) × (is_marked l.slots l.from l.to ≡ left l.slots l.i l.to)
+
+abbrev pub decreases-loop-i : goal.decreases-loop-i
+decreases-loop-i l = l.to - l.i

@@ -1,0 +1,18 @@
+-- `book_ids::id_of` meets its contract. The loop's invariant: the id that the name begins with is the one that the words left find. Assumes nothing.
+use mathlib.Core.Path.{◌≡◌, refl, sym, ap, ◌∙◌}
+use mathlib.Core.List.{List, ◌∷◌, map}
+use Prim.Native.Nat.{ℕ, ◌+◌, ◌-◌, ◌≤◌}
+use native.Mathlib.Omega.{arith}
+use borrow.Author.Rules.{rules}
+use lib.ListN.{drop}
+use Rattle.text_bytes.specs.Bytes.{bytes}
+use Rattle.value_references.specs.References.{families, family}
+use Rattle.book_ids.specs.Ids.{index_after, id_in, id_of}
+use Rattle.book_ids.proofs.Laws.Words.{id_here, id_later, id_nowhere, words_from}
+use Rattle.book_ids.proofs.id_of.Given as goal
+
+abbrev pub invariant-loop-f : goal.invariant-loop-f
+invariant-loop-f l = (l.f ≤ 4) × (id_of l.name ≡ id_in l.f (drop l.f (map bytes families)) l.name)
+
+abbrev pub decreases-loop-f : goal.decreases-loop-f
+decreases-loop-f l = 4 - l.f

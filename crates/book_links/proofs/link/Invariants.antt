@@ -1,0 +1,17 @@
+-- `book_links::link`. The invariant: the rows from `row` on are linked, and what stands before `at` is as it was. Assumes nothing.
+use borrow.Author.Rules.{rules}
+use native.Mathlib.Omega.{arith}
+use mathlib.Core.Path.{◌≡◌, refl, sym, ◌∙◌, subst}
+use Prim.Native.Nat.{ℕ, ◌+◌, ◌*◌, ◌-◌, ◌/◌, ◌≤◌, ◌<◌}
+use lib.ListN.{length, get_or, set, take, drop, length-drop, length-set}
+use lib.Seq.{lt-length-set, take-set-le}
+use Rattle.book_names.specs.Table.{entries}
+use Rattle.book_names.specs.Links.{Linked}
+use Rattle.book_names.proofs.Laws.Linking.{entry_count, entry_at, row_head, linked_none, linked_turn}
+use Rattle.book_links.proofs.link.Given as goal
+
+abbrev pub invariant-loop-row : goal.invariant-loop-row
+invariant-loop-row l = (l.row ≤ length l.table / 54) × (length l.book ≡ length l.initial.book) × (take l.at l.book ≡ take l.at l.initial.book) × Linked l.row (entries l.table) (drop l.at l.book)
+
+abbrev pub decreases-loop-row : goal.decreases-loop-row
+decreases-loop-row l = l.row

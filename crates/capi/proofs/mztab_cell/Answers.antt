@@ -1,0 +1,7 @@
+-- `capi::mztab_cell` meets its contract: `locate` gives the place. Assumes nothing.
+use borrow.Author.Rules.{rules}
+use Rattle.capi.proofs.Laws.{placed_at}
+use Rattle.capi.proofs.mztab_cell.Goals as goal
+
+pub returns : goal.returns
+returns c = placed_at c.locate-place.ensures

@@ -1,0 +1,15 @@
+-- `fee_shares::shares::divide` meets its contract. The invariant: the remainders and the cents given out, of the weights passed. Assumes nothing.
+use mathlib.Core.Path.{ap, ◌≡◌, refl, ◌∙◌}
+use Prim.Native.Nat.{ℕ, ◌≤◌, ◌<◌, ◌-◌}
+use native.Mathlib.Omega.{arith}
+use lib.ListN.{length-set, length}
+use Rattle.fee_shares.specs.Shares.{floor, rest}
+use Rattle.fee_shares.specs.Sums.{sum_to, at}
+use Rattle.fee_shares.proofs.Laws.Rounds.{places_next, rest_at, floors_next, floors_fit}
+use Rattle.fee_shares.proofs.shares.divide.Given as goal
+
+abbrev pub invariant-loop-i : goal.invariant-loop-i
+invariant-loop-i l = (l.i ≤ length l.weights) × (length l.rests ≡ 64) × ((k : ℕ) → k < l.i → at l.rests k ≡ rest (l.fee) l.weights k) × (l.given ≡ sum_to l.i (floor (l.fee) l.weights))
+
+abbrev pub decreases-loop-i : goal.decreases-loop-i
+decreases-loop-i l = length l.weights - l.i

@@ -1,0 +1,123 @@
+-- `judged_line::pass_line` meets its contract: a row and a header change what is carried by their section, a metadata line by its key, and any other line changes
+-- nothing. Assumes nothing.
+use mathlib.Core.Path.{◌≡◌, refl, sym, ap, ◌∙◌}
+use Prim.Native.Nat.{◌<◌}
+use native.Mathlib.Omega.{arith}
+use borrow.Author.Rules.{rules}
+use borrow.Author.Tests.{lt-ltb}
+use lib.ListN.{length}
+use Rattle.book.specs.Book.{Book}
+use Rattle.book.specs.Text.{book_in}
+use Rattle.book.proofs.Laws.Sized.{book_sized}
+use Rattle.rules.specs.Sorts.{sort_of}
+use Rattle.rules.specs.declared.sorts.Sort.{Sort}
+use Rattle.rules.proofs.Laws.Sorting.{meta_in, meta_sort, header_section, row_section_lem}
+use Rattle.scan.specs.Machine.{FIRSTS}
+use Rattle.judged_line.proofs.Laws.Passing.{passes_kept, passes_meta, passes_header}
+use Rattle.judged_line.proofs.pass_line.Goals as goal
+
+pub judge_meta-requires : goal.judge_meta-requires
+judge_meta-requires c =
+    let book : Book = book_in c.args.book.now in
+    let of_sort : {σ : Sort} → c.sort_of-sort.result ≡ σ → sort_of book c.args.line.now ≡ σ = λ e. sym c.sort_of-sort.ensures ∙ e in
+    record {
+      book = c.requires.book;
+      flags = c.requires.flags;
+      slots_len = c.requires.slots_len;
+      line_value = meta_sort book _ ∙ ap meta_in (of_sort c.in-Meta.is);
+      count_bound = omega arith;
+    }
+
+pub offset_bounds-slots-slot : goal.offset_bounds-slots-slot
+offset_bounds-slots-slot c =
+    let book : Book = book_in c.args.book.now in
+    let of_sort : {σ : Sort} → c.sort_of-sort.result ≡ σ → sort_of book c.args.line.now ≡ σ = λ e. sym c.sort_of-sort.ensures ∙ e in
+    let section_low : (0 < c.in-Header.h) × (c.in-Header.h < 5) = header_section book (book_sized _) c.args.line.now c.in-Header.h (of_sort c.in-Header.is) in
+    let slot_low : c.header_slot-slot.result < FIRSTS = omega (arith, c.header_slot-slot.ensures, section_low.1) in
+    omega (arith, slot_low)
+
+pub bounds-slots-slot : goal.bounds-slots-slot
+bounds-slots-slot c =
+    let book : Book = book_in c.args.book.now in
+    let of_sort : {σ : Sort} → c.sort_of-sort.result ≡ σ → sort_of book c.args.line.now ≡ σ = λ e. sym c.sort_of-sort.ensures ∙ e in
+    let section_low : (0 < c.in-Header.h) × (c.in-Header.h < 5) = header_section book (book_sized _) c.args.line.now c.in-Header.h (of_sort c.in-Header.is) in
+    let slot_low : c.header_slot-slot.result < FIRSTS = omega (arith, c.header_slot-slot.ensures, section_low.1) in
+    let slot_in : c.header_slot-slot.result < length c.args.slots.now = omega (arith, slot_low, c.requires.slots_len) in
+    slot_in
+
+pub offset_bounds-slots-slot-in-Header : goal.offset_bounds-slots-slot-in-Header
+offset_bounds-slots-slot-in-Header c =
+    let book : Book = book_in c.args.book.now in
+    let of_sort : {σ : Sort} → c.sort_of-sort.result ≡ σ → sort_of book c.args.line.now ≡ σ = λ e. sym c.sort_of-sort.ensures ∙ e in
+    let section_low : (0 < c.in-Header.h) × (c.in-Header.h < 5) = header_section book (book_sized _) c.args.line.now c.in-Header.h (of_sort c.in-Header.is) in
+    let slot_low : c.header_slot-slot.result < FIRSTS = omega (arith, c.header_slot-slot.ensures, section_low.1) in
+    omega (arith, slot_low)
+
+pub bounds-slots-slot-in-Header : goal.bounds-slots-slot-in-Header
+bounds-slots-slot-in-Header c =
+    let book : Book = book_in c.args.book.now in
+    let of_sort : {σ : Sort} → c.sort_of-sort.result ≡ σ → sort_of book c.args.line.now ≡ σ = λ e. sym c.sort_of-sort.ensures ∙ e in
+    let section_low : (0 < c.in-Header.h) × (c.in-Header.h < 5) = header_section book (book_sized _) c.args.line.now c.in-Header.h (of_sort c.in-Header.is) in
+    let slot_low : c.header_slot-slot.result < FIRSTS = omega (arith, c.header_slot-slot.ensures, section_low.1) in
+    let slot_in : c.header_slot-slot.result < length c.args.slots.now = omega (arith, slot_low, c.requires.slots_len) in
+    slot_in
+
+pub after_header-next-requires : goal.after_header-next-requires
+after_header-next-requires c =
+    let book : Book = book_in c.args.book.now in
+    let of_sort : {σ : Sort} → c.sort_of-sort.result ≡ σ → sort_of book c.args.line.now ≡ σ = λ e. sym c.sort_of-sort.ensures ∙ e in
+    let section_low : (0 < c.in-Header.h) × (c.in-Header.h < 5) = header_section book (book_sized _) c.args.line.now c.in-Header.h (of_sort c.in-Header.is) in
+    section_low.1
+
+pub after_row-next-requires : goal.after_row-next-requires
+after_row-next-requires c =
+    let book : Book = book_in c.args.book.now in
+    let of_sort : {σ : Sort} → c.sort_of-sort.result ≡ σ → sort_of book c.args.line.now ≡ σ = λ e. sym c.sort_of-sort.ensures ∙ e in
+    (row_section_lem book (book_sized _) c.args.line.now c.in-Row.r (of_sort c.in-Row.is)).1
+
+-- a silent line
+pub returns-in-Silent : goal.returns-in-Silent
+returns-in-Silent c =
+    let book : Book = book_in c.args.book.now in
+    let of_sort : {σ : Sort} → c.sort_of-sort.result ≡ σ → sort_of book c.args.line.now ≡ σ = λ e. sym c.sort_of-sort.ensures ∙ e in
+    let e = of_sort c.in-Silent.is in
+    record { passes = passes_kept e c.requires.slots_len refl refl; header_value = rw e }
+
+-- one with an unknown code
+pub returns-in-Unknown : goal.returns-in-Unknown
+returns-in-Unknown c =
+    let book : Book = book_in c.args.book.now in
+    let of_sort : {σ : Sort} → c.sort_of-sort.result ≡ σ → sort_of book c.args.line.now ≡ σ = λ e. sym c.sort_of-sort.ensures ∙ e in
+    let e = of_sort c.in-Unknown.is in
+    record { passes = passes_kept e c.requires.slots_len refl refl; header_value = rw e }
+
+-- a metadata line
+pub returns-in-Meta : goal.returns-in-Meta
+returns-in-Meta c =
+    let book : Book = book_in c.args.book.now in
+    let of_sort : {σ : Sort} → c.sort_of-sort.result ≡ σ → sort_of book c.args.line.now ≡ σ = λ e. sym c.sort_of-sort.ensures ∙ e in
+    let e = of_sort c.in-Meta.is in
+    record {
+      passes = passes_meta e c.judge_meta.ensures.keeps_keys.keys c.judge_meta.ensures.keeps_keys.headers c.judge_meta.ensures.keeps_keys.places;
+      header_value = rw e;
+    }
+
+-- a header
+pub returns-in-Header : goal.returns-in-Header
+returns-in-Header c =
+    let book : Book = book_in c.args.book.now in
+    let of_sort : {σ : Sort} → c.sort_of-sort.result ≡ σ → sort_of book c.args.line.now ≡ σ = λ e. sym c.sort_of-sort.ensures ∙ e in
+    let section_low : (0 < c.in-Header.h) × (c.in-Header.h < 5) = header_section book (book_sized _) c.args.line.now c.in-Header.h (of_sort c.in-Header.is) in
+    let e = of_sort c.in-Header.is in
+    record {
+      passes = passes_header (book_sized _) c.in-Header.h e c.header_slot-slot.ensures c.after_header-next.ensures c.count_cells-width.ensures c.first_kept.ensures c.requires.slots_len;
+      header_value = rw e (sym (lt-ltb 0 c.in-Header.h section_low.0));
+    }
+
+-- a row
+pub returns-in-Row : goal.returns-in-Row
+returns-in-Row c =
+    let book : Book = book_in c.args.book.now in
+    let of_sort : {σ : Sort} → c.sort_of-sort.result ≡ σ → sort_of book c.args.line.now ≡ σ = λ e. sym c.sort_of-sort.ensures ∙ e in
+    let e = of_sort c.in-Row.is in
+    record { passes = rw c.after_row-next.ensures (passes_kept e c.requires.slots_len refl refl); header_value = rw e }

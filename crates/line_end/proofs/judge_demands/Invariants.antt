@@ -1,0 +1,26 @@
+-- `line_end::judge_demands` meets its contract. The loop's invariant: what was put, and what the demands left will put, is what all demands put. Assumes nothing.
+use mathlib.Core.Path.{◌≡◌, refl, sym, ap, ◌∙◌}
+use mathlib.Core.List.{List, ◌∷◌}
+use Prim.Native.Nat.{suc, ◌+◌, ◌-◌, ◌≤◌}
+use native.Mathlib.Numerals.{add-one}
+use native.Mathlib.Omega.{arith}
+use borrow.Author.Rules.{rules}
+use lib.ListN.{length, get_or, drop, drop_of_length-le, length-append}
+use lib.Seq.{drop-cons}
+use Rattle.book.specs.Book.{Demand, no_demand, wants_of, wants_in, wants}
+use Rattle.book.specs.Text.{book_in}
+use Rattle.book.proofs.Laws.Sized.{book_sized}
+use Rattle.rules.specs.Breaks.{Break}
+use Rattle.scan.specs.Places.{lent, put_all}
+use Rattle.scan.specs.Machine.{want_breaks, end_breaks}
+use Rattle.line_end.specs.Ends.{seen}
+use Rattle.line_end.proofs.Laws.Wanting.{wants_append}
+use Rattle.line_end.proofs.judge_demands.Given as goal
+
+abbrev pub invariant-loop-k : goal.invariant-loop-k
+invariant-loop-k l = (l.k ≤ l.n) × (l.c + length (wants_in (drop l.k (book_in l.book).demands)) ≤ l.count + length (wants (book_in l.book))) × (length l.places ≡ length l.initial.places)
+    × ((rest : List Break) → put_all (lent l.places l.c) (want_breaks (book_in l.book) (seen l.slots l.flags l.end) l.end.line (wants_in (drop l.k (book_in l.book).demands)) rest)
+    ≡ put_all (lent l.initial.places l.count) (end_breaks (book_in l.book) (seen l.slots l.flags l.end) l.end.line rest))
+
+abbrev pub decreases-loop-k : goal.decreases-loop-k
+decreases-loop-k l = l.n - l.k

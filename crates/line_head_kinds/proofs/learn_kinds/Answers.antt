@@ -1,0 +1,70 @@
+-- `line_head_kinds::learn_kinds` meets its contract. The invariant: the kinds of the names so far are kept, and the cells after the current one are those that
+-- are left. Assumes nothing.
+use mathlib.Core.Path.{◌≡◌, sym, ap, subst, ◌∙◌}
+use mathlib.Core.List.{[], ◌∷◌}
+use Prim.Native.Nat.{ℕ, ◌+◌, ◌-◌, ◌≤◌, ◌<◌}
+use native.Mathlib.Omega.{arith}
+use borrow.Author.Rules.{rules}
+use lib.ListN.{length, take, drop, set, length-set, length-drop}
+use lib.Seq.{drop-drop}
+use Rattle.text.specs.Lines.{cells}
+use Rattle.book.specs.Book.{column_of}
+use Rattle.book.specs.Text.{book_in}
+use Rattle.rules.specs.Rules.{kind_in}
+use Rattle.scan.proofs.Laws.Celling.{cell_here, cells_next, cells_last}
+use Rattle.line_head_kinds.proofs.Laws.Kinds.{KindsTo, kinds_step}
+use Rattle.line_head_kinds.proofs.learn_kinds.Goals as goal
+
+pub returns-then-width-gt-MOST_CELLS : goal.returns-then-width-gt-MOST_CELLS
+returns-then-width-gt-MOST_CELLS c =
+    record {
+      kinds_of = (λ few. absurd (omega (arith, c.if-width-gt-MOST_CELLS.true, few, c.requires.width_value)));
+      kinds_len_2 = c.requires.kinds_len;
+    }
+
+pub loop-end-init : goal.loop-end-init
+loop-end-init c = (c.cell_end-end.ensures.within, omega arith, c.if-width-gt-MOST_CELLS.false, c.requires.kinds_len, cells_next c.cell_end-end.ensures, cells_last c.cell_end-end.ensures, (λ i lt. absurd (omega arith)))
+
+pub column-found-requires : goal.column-found-requires
+column-found-requires c = c.requires.book
+
+pub bounds-kinds-c : goal.bounds-kinds-c
+bounds-kinds-c c =
+    let ahead : drop c.loop-end.c (cells c.args.line.now) ≡ take (c.cell_end-end-in-loop-end.result - (c.loop-end.end + 1)) (drop (c.loop-end.end + 1) c.args.line.now) ∷ drop 1 (cells (drop (c.loop-end.end + 1) c.args.line.now)) = c.loop-end.invariant.4 c.loop-end-test.true ∙ cell_here c.cell_end-end-in-loop-end.ensures in
+    let below : c.loop-end.c < 256 = omega (arith, ap length ahead, length-drop c.loop-end.c (cells c.args.line.now), c.requires.width_value, c.loop-end.invariant.2) in
+    below
+
+pub overflow_add-c : goal.overflow_add-c
+overflow_add-c c =
+    let ahead : drop c.loop-end.c (cells c.args.line.now) ≡ take (c.cell_end-end-in-loop-end.result - (c.loop-end.end + 1)) (drop (c.loop-end.end + 1) c.args.line.now) ∷ drop 1 (cells (drop (c.loop-end.end + 1) c.args.line.now)) = c.loop-end.invariant.4 c.loop-end-test.true ∙ cell_here c.cell_end-end-in-loop-end.ensures in
+    let below : c.loop-end.c < 256 = omega (arith, ap length ahead, length-drop c.loop-end.c (cells c.args.line.now), c.requires.width_value, c.loop-end.invariant.2) in
+    omega (arith, below)
+
+pub loop-end-preserved : goal.loop-end-preserved
+loop-end-preserved c =
+    let ahead : drop c.loop-end.c (cells c.args.line.now) ≡ take (c.cell_end-end-in-loop-end.result - (c.loop-end.end + 1)) (drop (c.loop-end.end + 1) c.args.line.now) ∷ drop 1 (cells (drop (c.loop-end.end + 1) c.args.line.now)) = c.loop-end.invariant.4 c.loop-end-test.true ∙ cell_here c.cell_end-end-in-loop-end.ensures in
+    let below : c.loop-end.c < 256 = omega (arith, ap length ahead, length-drop c.loop-end.c (cells c.args.line.now), c.requires.width_value, c.loop-end.invariant.2) in
+    let z : c.loop-end.c + 1 - 1 ≡ n = omega arith in
+    let y : 1 + (c.loop-end.c + 1 - 2) ≡ n = omega (arith, c.loop-end.invariant.1) in
+    let x = take (c.cell_end-end-in-loop-end.result - (c.loop-end.end + 1)) (drop (c.loop-end.end + 1) c.args.line.now) in
+    let here : drop (c.loop-end.c + 1 - 2) (drop 1 (cells c.args.line.now)) ≡ x ∷ drop 1 (cells (drop (c.loop-end.end + 1) c.args.line.now)) = drop-drop (c.loop-end.c + 1 - 2) 1 (cells c.args.line.now) ∙ ap (λ (i : ℕ). drop i (cells c.args.line.now)) y ∙ ahead in
+    let tail : drop (c.loop-end.c + 1) (cells c.args.line.now) ≡ drop 1 (cells (drop (c.loop-end.end + 1) c.args.line.now)) = sym (drop-drop 1 c.loop-end.c (cells c.args.line.now)) ∙ ap (drop 1) (c.loop-end.invariant.4 c.loop-end-test.true) in
+    let kind : c.kind_in.result ≡ kind_in (column_of (book_in c.args.book.now) c.args.section x) = c.kind_in.ensures ∙ ap kind_in c.column-found.ensures in
+    let set-as : set c.loop-end.kinds (c.loop-end.c + 1 - 1) (kind_in (column_of (book_in c.args.book.now) c.args.section x)) ≡ set c.loop-end.kinds c.loop-end.c c.kind_in.result = rw (z, kind) in (
+      c.cell_end-end-in-loop-end.ensures.within,
+      omega (arith, c.loop-end.invariant.1),
+      c.loop-end.invariant.2,
+      length-set c.loop-end.kinds c.loop-end.c c.kind_in.result ∙ c.loop-end.invariant.3,
+      (λ lt. tail ∙ cells_next c.cell_end-end-in-loop-end.ensures lt),
+      (λ e. tail ∙ cells_last c.cell_end-end-in-loop-end.ensures e),
+      subst (KindsTo (book_in c.args.book.now) c.args.section (c.loop-end.c + 1 + 1) (drop 1 (cells c.args.line.now))) set-as
+          (kinds_step (book_in c.args.book.now) (drop 1 (cells c.args.line.now)) (c.loop-end.c + 1) (omega (arith, c.loop-end.invariant.1)) here c.args.section c.loop-end.kinds (omega (arith, below, c.loop-end.invariant.3)) c.loop-end.invariant.6),
+    )
+
+pub returns : goal.returns
+returns c =
+    let none : drop c.loop-end.c (cells c.args.line.now) ≡ [] = c.loop-end.invariant.5 (omega (arith, c.loop-end-test.false, c.loop-end.invariant.0)) in
+    record {
+      kinds_of = (λ few i lt. c.loop-end.invariant.6 i (omega (arith, ap length none, length-drop c.loop-end.c (cells c.args.line.now), length-drop 1 (cells c.args.line.now), lt)));
+      kinds_len_2 = c.loop-end.invariant.3;
+    }

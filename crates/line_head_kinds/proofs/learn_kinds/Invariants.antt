@@ -1,0 +1,23 @@
+-- `line_head_kinds::learn_kinds` meets its contract. The invariant: the kinds of the names so far are kept, and the cells after the current one are those that
+-- are left. Assumes nothing.
+use mathlib.Core.Path.{◌≡◌, sym, ap, subst, ◌∙◌}
+use mathlib.Core.List.{[], ◌∷◌}
+use Prim.Native.Nat.{ℕ, ◌+◌, ◌-◌, ◌≤◌, ◌<◌}
+use native.Mathlib.Omega.{arith}
+use borrow.Author.Rules.{rules}
+use lib.ListN.{length, take, drop, set, length-set, length-drop}
+use lib.Seq.{drop-drop}
+use Rattle.text.specs.Lines.{cells}
+use Rattle.book.specs.Book.{column_of}
+use Rattle.book.specs.Text.{book_in}
+use Rattle.rules.specs.Rules.{kind_in}
+use Rattle.scan.proofs.Laws.Celling.{cell_here, cells_next, cells_last}
+use Rattle.line_head_kinds.proofs.Laws.Kinds.{KindsTo, kinds_step}
+use Rattle.line_head_kinds.proofs.learn_kinds.Given as goal
+
+abbrev pub invariant-loop-end : goal.invariant-loop-end
+invariant-loop-end l = (l.end ≤ length l.line) × (1 ≤ l.c) × (l.width ≤ 256) × (length l.kinds ≡ 256) × (l.end < length l.line → drop l.c (cells l.line) ≡ cells (drop (l.end + 1) l.line)) × (l.end ≡ length l.line → drop l.c (cells l.line) ≡ [])
+    × KindsTo (book_in l.book) l.section (l.c + 1) (drop 1 (cells l.line)) l.kinds
+
+abbrev pub decreases-loop-end : goal.decreases-loop-end
+decreases-loop-end l = length l.line - l.end

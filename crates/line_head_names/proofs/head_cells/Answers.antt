@@ -1,0 +1,106 @@
+-- `line_head_names::head_cells` meets its contract. The loop's invariant: the breaks put so far and those of the names that are left are those of all
+-- names; the kinds of the names so far are kept, and they are noted. Assumes nothing.
+use mathlib.Core.Path.{◌≡◌, refl, ap, ◌∙◌}
+use mathlib.Core.List.{List}
+use Prim.Native.Nat.{ℕ, ◌+◌, ◌-◌, ◌*◌, ◌≤◌, ◌<◌}
+use native.Mathlib.Omega.{arith}
+use borrow.Author.Rules.{rules}
+use lib.ListN.{length, take, drop, length-set}
+use Rattle.text_bytes.specs.Bytes.{Bytes, any, same, first_from, first_kept}
+use Rattle.text.specs.Lines.{cells}
+use Rattle.book.specs.Book.{is_opt, column_of}
+use Rattle.rules.specs.Breaks.{Break}
+use Rattle.scan.specs.Places.{lent, put_all}
+use Rattle.rules.specs.Rules.{kind_in}
+use Rattle.scan.specs.Machine.{ids_of, each_cell, head_cell}
+use Rattle.scan.proofs.Laws.Celling.{cell_here, cells_next, cells_last, turn_next, turn_last, column_next, column_count, any_more, first_more_name}
+use Rattle.line_head_stamps.specs.Ways.{first_named, Noted}
+use Rattle.line_head_stamps.proofs.Laws.Noting.{noted_none}
+use Rattle.line_head_kinds.proofs.Laws.Kinds.{KindsTo, kinds_step}
+use Rattle.book.specs.Text.{book_in}
+use Rattle.line_head_names.proofs.head_cells.Goals as goal
+
+pub loop-names-init : goal.loop-names-init
+unfolding any first_from first_named
+loop-names-init c = (search rules, search rules, search rules, search rules, search rules, (λ rest. refl), refl, (λ i l. absurd (omega arith)), search rules, refl, noted_none c.args.stamps.now c.args.names.tag.line c.args.line.now c.requires.stamps_len, (λ z. refl))
+
+pub came_before-first-requires : goal.came_before-first-requires
+came_before-first-requires c =
+    record {
+      noted = c.loop-names.invariant.10;
+      line_len_bound = c.requires.from_in_bounds.1;
+      count_bound = (omega (arith, c.loop-names.invariant.2, ap length (cell_here c.cell_end-e.ensures)), c.cell_end-e.ensures.starts, c.cell_end-e.ensures.within);
+    }
+
+pub head_cell-k-requires : goal.head_cell-k-requires
+head_cell-k-requires c =
+    let some = ap length (cell_here c.cell_end-e.ensures) in
+    record {
+      count_bound = omega (arith, c.requires.count_bound, c.loop-names.invariant.2, c.loop-names.invariant.3);
+      book = c.requires.book;
+      cell_nonzero = (omega (arith, c.loop-names.invariant.1), omega (arith, c.loop-names.invariant.2, some));
+      kinds_len = c.loop-names.invariant.8;
+    }
+
+pub shape_of-stamps-then-e-line : goal.shape_of-stamps-then-e-line
+shape_of-stamps-then-e-line c = omega (arith, c.came_before-first.ensures.noted.places, c.requires.stamps_len)
+
+pub returns-then-e-line : goal.returns-then-e-line
+returns-then-e-line c =
+    let xs = cells (drop c.args.names.from c.args.line.now) in
+    let here = c.loop-names.invariant.6 ∙ cell_here c.cell_end-e.ensures in
+    let name = take (c.cell_end-e.result - c.loop-names.at) (drop c.loop-names.at c.args.line.now) in
+    let judged = rw (c.came_before-first.ensures.answer ∙ c.loop-names.invariant.11 name, c.loop-names.invariant.9) at c.head_cell-k.ensures.puts in
+    let F = head_cell (book_in c.args.book.now) c.args.names.section xs (ids_of c.args.flags.now) c.args.names.tag.control c.args.names.tag.line in
+    let in-kinds : c.loop-names.c - 1 < length loop.kinds = omega (arith, c.loop-names.invariant.2, c.loop-names.invariant.8, ap length (cell_here c.cell_end-e.ensures)) in
+    let kinds = kinds_step _ xs c.loop-names.c c.loop-names.invariant.1 here c.args.names.section c.loop-names.kinds in-kinds c.loop-names.invariant.7 in
+    let kept = length-set c.loop-names.kinds (c.loop-names.c - 1) (kind_in (column_of (book_in c.args.book.now) c.args.names.section name)) ∙ c.loop-names.invariant.8 in
+    let all : length xs ≡ c.loop-names.c - 1 = column_count xs c.loop-names.c c.loop-names.invariant.1 here ∙ rw (cells_last c.cell_end-e.ensures c.if-e-line.true) (omega arith) in
+    record {
+      puts = record {
+        does = λ rest. turn_last c.cell_end-e.ensures F c.loop-names.c judged rest c.if-e-line.true ∙ c.loop-names.invariant.5 rest;
+        most = omega (arith, c.loop-names.invariant.2, c.loop-names.invariant.3, c.head_cell-k.ensures.puts.most, ap length (cell_here c.cell_end-e.ensures));
+      };
+      kinds_of = rw c.head_cell-k.ensures.kinds_after (λ i l. kinds i (omega (arith, l, all)));
+      kinds_len_2 = rw c.head_cell-k.ensures.kinds_after kept;
+      stamps_len_2 = c.came_before-first.ensures.noted.places;
+    }
+
+pub overflow_add-at : goal.overflow_add-at
+overflow_add-at c = omega (arith, c.if-e-line.false, c.cell_end-e.ensures.within, c.well-formed.1.1.1.0.0)
+
+pub overflow_add-c : goal.overflow_add-c
+overflow_add-c c = omega (arith, c.loop-names.invariant.2)
+
+pub loop-names-smaller : goal.loop-names-smaller
+loop-names-smaller c = omega (arith, c.if-e-line.false, c.cell_end-e.ensures.within, c.cell_end-e.ensures.starts)
+
+pub loop-names-preserved : goal.loop-names-preserved
+loop-names-preserved c =
+    let xs = cells (drop c.args.names.from c.args.line.now) in
+    let here = c.loop-names.invariant.6 ∙ cell_here c.cell_end-e.ensures in
+    let name = take (c.cell_end-e.result - c.loop-names.at) (drop c.loop-names.at c.args.line.now) in
+    let judged = rw (c.came_before-first.ensures.answer ∙ c.loop-names.invariant.11 name, c.loop-names.invariant.9) at c.head_cell-k.ensures.puts in
+    let F = head_cell (book_in c.args.book.now) c.args.names.section xs (ids_of c.args.flags.now) c.args.names.tag.control c.args.names.tag.line in
+    let in-kinds : c.loop-names.c - 1 < length loop.kinds = omega (arith, c.loop-names.invariant.2, c.loop-names.invariant.8, ap length (cell_here c.cell_end-e.ensures)) in
+    let kinds = kinds_step _ xs c.loop-names.c c.loop-names.invariant.1 here c.args.names.section c.loop-names.kinds in-kinds c.loop-names.invariant.7 in
+    let kept = length-set c.loop-names.kinds (c.loop-names.c - 1) (kind_in (column_of (book_in c.args.book.now) c.args.names.section name)) ∙ c.loop-names.invariant.8 in
+    let one : c.loop-names.c + 1 - 2 ≡ c.loop-names.c - 2 + 1 = omega (arith, c.loop-names.invariant.1) in
+    let two : c.loop-names.c - 2 + 2 ≡ loop.c = omega (arith, c.loop-names.invariant.1) in
+    let lt : c.cell_end-e.result < length args.line.now = omega (arith, c.if-e-line.false, c.cell_end-e.ensures.within) in (
+      omega (arith, lt),
+      omega (arith, c.loop-names.invariant.1),
+      omega (arith, c.loop-names.invariant.2, ap length (cell_here c.cell_end-e.ensures), ap length (cells_next c.cell_end-e.ensures lt)),
+      omega (arith, c.loop-names.invariant.3, c.head_cell-k.ensures.puts.most),
+      omega (arith, c.places-1.given, c.loop-names.invariant.4),
+      (λ rest. turn_next c.cell_end-e.ensures F c.loop-names.c judged rest lt ∙ c.loop-names.invariant.5 rest),
+      column_next xs c.loop-names.c c.loop-names.invariant.1 here ∙ cells_next c.cell_end-e.ensures lt,
+      rw c.head_cell-k.ensures.kinds_after kinds,
+      rw c.head_cell-k.ensures.kinds_after kept,
+      c.either-opt.ensures ∙ rw (c.is_opt.ensures, c.loop-names.invariant.9) (any_more is_opt xs c.loop-names.c c.loop-names.invariant.1 here),
+      rw one c.came_before-first.ensures.noted,
+      (λ z.
+          ap (λ (j : ℕ). first_named c.came_before-first.new.0 c.args.line.now z j) one ∙ c.came_before-first.ensures.names z
+          ∙ ap (λ (f : ℕ). first_kept f (same z name) (c.loop-names.c - 2 + 2)) (c.loop-names.invariant.11 z) ∙ ap (first_kept (first_from 2 (same z) (take (c.loop-names.c - 2) xs)) (same z name)) two
+          ∙ first_more_name (same z) xs c.loop-names.c c.loop-names.invariant.1 here),
+    )

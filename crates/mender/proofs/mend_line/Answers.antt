@@ -1,0 +1,61 @@
+-- `mender::mend_line` meets its contract: a row is filled, a header is laid and learnt, and any other line is laid as it is. Assumes nothing.
+use mathlib.Core.Path.{◌≡◌, refl, sym, ◌∙◌}
+use Prim.Native.Nat.{◌+◌}
+use borrow.Author.Rules.{rules}
+use Rattle.book.specs.Book.{Book}
+use Rattle.book.specs.Text.{book_in}
+use Rattle.book.proofs.Laws.Sized.{book_sized}
+use Rattle.rules.specs.Sorts.{sort_of}
+use Rattle.rules.specs.declared.sorts.Sort.{Sort}
+use Rattle.rules.proofs.Laws.Sorting.{header_section}
+use Rattle.mender.proofs.Laws.Passing.{kept_mends, kept_passes, kept_line, head_passes}
+use Rattle.mender.proofs.mend_line.Goals as goal
+
+-- a silent line
+pub returns-in-Silent : goal.returns-in-Silent
+returns-in-Silent c =
+    let book : Book = book_in c.args.book.now in
+    let of_sort : {σ : Sort} → c.sort_of-sort.result ≡ σ → sort_of book c.args.line.now ≡ σ = λ e. sym c.sort_of-sort.ensures ∙ e in
+    let whole = kept_line book c.args.line.now (of_sort c.in-Silent.is) c.args.walk c.args.kinds.now refl refl refl refl refl c.requires.kinds_len c.keep_line.ensures.to_after c.keep_line.ensures.line_value in
+    record { mends = whole.0; passes = whole.1.0; line_value = whole.1.1 }
+
+-- one with an unknown code
+pub returns-in-Unknown : goal.returns-in-Unknown
+returns-in-Unknown c =
+    let book : Book = book_in c.args.book.now in
+    let of_sort : {σ : Sort} → c.sort_of-sort.result ≡ σ → sort_of book c.args.line.now ≡ σ = λ e. sym c.sort_of-sort.ensures ∙ e in
+    let whole = kept_line book c.args.line.now (of_sort c.in-Unknown.is) c.args.walk c.args.kinds.now refl refl refl refl refl c.requires.kinds_len c.keep_line-in-Unknown.ensures.to_after c.keep_line-in-Unknown.ensures.line_value in
+    record { mends = whole.0; passes = whole.1.0; line_value = whole.1.1 }
+
+-- a metadata line
+pub returns-in-Meta : goal.returns-in-Meta
+returns-in-Meta c =
+    let book : Book = book_in c.args.book.now in
+    let of_sort : {σ : Sort} → c.sort_of-sort.result ≡ σ → sort_of book c.args.line.now ≡ σ = λ e. sym c.sort_of-sort.ensures ∙ e in
+    let whole = kept_line book c.args.line.now (of_sort c.in-Meta.is) c.args.walk c.args.kinds.now refl refl refl refl refl c.requires.kinds_len c.keep_line-in-Meta.ensures.to_after c.keep_line-in-Meta.ensures.line_value in
+    record { mends = whole.0; passes = whole.1.0; line_value = whole.1.1 }
+
+-- a header
+pub returns-in-Header : goal.returns-in-Header
+returns-in-Header c =
+    let book : Book = book_in c.args.book.now in
+    let of_sort : {σ : Sort} → c.sort_of-sort.result ≡ σ → sort_of book c.args.line.now ≡ σ = λ e. sym c.sort_of-sort.ensures ∙ e in
+    let e = of_sort c.in-Header.is in
+    let z = (header_section book (book_sized _) c.args.line.now c.in-Header.h e).0 in
+    record {
+      mends = kept_mends book c.args.line.now e c.args.walk.section c.args.walk.width c.args.kinds.now (c.args.walk.line + 1) refl refl c.lay-to.ensures refl;
+      passes = head_passes book c.args.line.now c.in-Header.h e z c.args.walk.section c.args.walk.width c.args.kinds.now c.count_cells-width.ensures c.learn_kinds.ensures.kinds_of c.learn_kinds.ensures.kinds_len_2;
+      line_value = refl;
+    }
+
+-- a row
+pub returns-in-Row : goal.returns-in-Row
+returns-in-Row c =
+    let book : Book = book_in c.args.book.now in
+    let of_sort : {σ : Sort} → c.sort_of-sort.result ≡ σ → sort_of book c.args.line.now ≡ σ = λ e. sym c.sort_of-sort.ensures ∙ e in
+    let e = of_sort c.in-Row.is in
+    record {
+      mends = rw e c.fill_row-done.ensures;
+      passes = kept_passes book c.args.line.now e c.args.walk.section c.args.walk.width c.args.kinds.now refl refl refl refl refl c.requires.kinds_len;
+      line_value = refl;
+    }

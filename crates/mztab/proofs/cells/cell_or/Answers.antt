@@ -1,0 +1,24 @@
+-- `mztab::cells::cell_or` meets its contract: what `cell` shows decides. Assumes nothing.
+use mathlib.Core.Path.{refl, sym, ◌∙◌}
+use borrow.Author.Rules.{rules}
+use Rattle.text_bytes.specs.Bytes.{bytes}
+use Rattle.mztab.proofs.Laws.Locating.{or_null, or_kept, points_other, points_kept}
+use Rattle.mztab.proofs.cells.cell_or.Goals as goal
+
+pub returns-then-same_bytes : goal.returns-then-same_bytes
+unfolding bytes
+returns-then-same_bytes c =
+    let t = sym c.same_bytes.ensures ∙ c.if-same_bytes.true in
+    record {
+      result_after = or_null _ _ _ _ c.cell-view.ensures.result_after t;
+      points_or = points_other _ _ _ _ c.cell-view.ensures.result_after t refl;
+    }
+
+pub returns : goal.returns
+unfolding bytes
+returns c =
+    let t = sym c.same_bytes.ensures ∙ c.if-same_bytes.false in
+    record {
+      result_after = or_kept _ _ _ _ c.cell-view.ensures.result_after t;
+      points_or = points_kept _ _ _ _ c.cell-view.ensures.result_after t c.cell-view.ensures.points;
+    }

@@ -1,0 +1,24 @@
+-- `tally::add` meets its contract: a flag goes from sum to sum, so one of two is true in the end where one of the eight passed 64 bits. Assumes nothing.
+use mathlib.Core.Path.{◌≡◌}
+use borrow.Author.Rules.{rules}
+use Rattle.text_bytes.specs.Bytes.{any}
+use Rattle.tally.specs.Tally.{totals, is_past, sums}
+use Rattle.tally.specs.declared.Tally.{Tally}
+use Rattle.tally.proofs.Laws.Adding.{carries, add_past, add_within}
+use Rattle.tally.proofs.add.Goals as goal
+
+pub returns-then-either : goal.returns-then-either
+returns-then-either c = rw c.nothing.ensures (add_past (a c) (b c) (flag c) c.if-either.true)
+
+pub returns : goal.returns
+returns c =
+    add_within (a c) (b c) (flag c) c.if-either.false _ (record {
+      psms = c.add-psms.ensures.sum;
+      distinct = c.add-distinct.ensures.sum;
+      unique = c.add-unique.ensures.sum;
+      proteins = c.sum-protein_rows.ensures.sum;
+      peptides = c.sum-peptide_rows.ensures.sum;
+      matches = c.sum-psm_rows.ensures.sum;
+      molecules = c.sum-small_molecule_rows.ensures.sum;
+      missing = c.sum-missing.ensures.sum;
+    })

@@ -1,0 +1,18 @@
+-- `text::cells::tabs_in` meets its contract. The invariant: the cells from the first place on are the tabs met and the cells of what is left. Assumes nothing.
+use mathlib.Core.Path.{◌≡◌}
+use mathlib.Core.Logic.{⊎_elim}
+use Prim.Native.Nat.{◌+◌, ◌-◌, ◌≤◌}
+use native.Mathlib.Omega.{arith}
+use borrow.Author.Rules.{rules}
+use lib.ListN.{length, drop}
+use Rattle.text.specs.Lines.{cells}
+use Rattle.text.proofs.Laws.Runs.{tab_here, tab_else}
+use Rattle.text.proofs.cells.tabs_in.Goals as goal
+
+pub loop-i-preserved : goal.loop-i-preserved
+loop-i-preserved c = ⊎_elim (λ w. omega (arith, w.1, tab_here c.args.line.now c.loop-i.i (omega arith) w.0.taken)) (λ w. omega (arith, w.1, tab_else c.args.line.now c.loop-i.i (omega arith) w.0.left)) c.if-line-i-eq-TAB.branch
+
+pub returns : goal.returns
+returns c =
+    let z : c.loop-i.i ≡ at-loop.before.args.to = omega arith in
+    (omega arith, rw z at c.loop-i.invariant.2)

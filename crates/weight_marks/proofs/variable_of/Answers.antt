@@ -1,0 +1,16 @@
+-- `weight_marks::variable_of` meets its contract: a column's name is the word and an index, as a reference is. Assumes nothing.
+use native.Mathlib.Omega.{arith}
+use borrow.Author.Rules.{rules}
+use Rattle.text_bytes.specs.Bytes.{bytes}
+use Rattle.value_references.proofs.Laws.Names.{ref_le}
+use Rattle.weight_counts.specs.Variables.{WORD}
+use Rattle.weight_marks.specs.Marks.{variable_of}
+use Rattle.weight_marks.proofs.variable_of.Goals as goal
+
+pub overflow_cast-result : goal.overflow_cast-result
+unfolding bytes
+overflow_cast-result c = omega (arith, c.reference-i.ensures, ref_le WORD c.args.name.now)
+
+pub returns : goal.returns
+unfolding variable_of bytes
+returns c = c.reference-i.ensures
