@@ -24,7 +24,7 @@ overflow_add-n c = omega (arith, c.loop-at.invariant.0.1.1.counted, c.loop-at.in
 
 pub returns-then-n-line : goal.returns-then-n-line
 returns-then-n-line c =
-    let z : c.args.line - 1 ≡ l.loop.n = omega arith in
+    let z : c.args.line - 1 ≡ c.loop-at.n = omega arith in
     let reached = subst⁻¹ (λ (k : ℕ). Reaches (book_in c.args.book.now) c.args.file.now c.loop-at.at k c.loop-at.state c.loop-at.slots) z c.loop-at.invariant.0 in
     let headed = subst⁻¹ (λ (k : ℕ). Headed (book_in c.args.book.now) c.args.file.now k c.loop-at.head c.loop-at.state) z c.loop-at.invariant.1 in
     record {

@@ -29,7 +29,7 @@ judge_ids-requires c =
     let m = ids_many _ (book_sized c.args.book.now) _ c.requires.k_in_bounds _ c.nth_demand-d.ensures c.args.slots.now c.args.flags.now c.args.end c.requires.whole c.if-d-ne-ONCE.true in
     record {
       each_bound = f;
-      from_in_bounds = omega (arith, c.start_of_lem.ensures, n, c.requires.whole.long);
+      from_in_bounds = omega (arith, c.start_of-from.ensures, n, c.requires.whole.long);
       flags = c.requires.whole.shape;
       cell_bound = c.nth_demand-d.ensures.fits;
       count_bound = omega (arith, m, c.requires.no_demand_bound);
@@ -39,7 +39,7 @@ pub returns-then-d-ne-ONCE : goal.returns-then-d-ne-ONCE
 returns-then-d-ne-ONCE c =
     let asked : c.both-asked.result ≡ is_asked_in (seen c.args.slots.now c.args.flags.now c.args.end) (get_or (book_in c.args.book.now).demands c.args.k no_demand) = asked_is _ (book_sized c.args.book.now) _ c.requires.k_in_bounds _ c.nth_demand-d.ensures c.args.slots.now c.args.flags.now c.args.end c.requires.whole c.both-asked.ensures c.is_asked.ensures refl in
     ids_puts _ (book_sized c.args.book.now) _ c.requires.k_in_bounds _ c.nth_demand-d.ensures c.args.slots.now c.args.flags.now c.args.end c.requires.whole c.if-d-ne-ONCE.true c.args.end.line asked
-    c.start_of_lem.ensures c.judge_ids.ensures
+    c.start_of-from.ensures c.judge_ids.ensures
 
 pub overflow_add-entry : goal.overflow_add-entry
 overflow_add-entry c =
@@ -54,7 +54,7 @@ start_of-to-requires c =
 pub any_came-requires : goal.any_came-requires
 any_came-requires c =
     let m = once_slots _ (book_sized c.args.book.now) _ c.requires.k_in_bounds _ c.nth_demand-d.ensures c.args.slots.now c.args.flags.now c.args.end c.requires.whole c.if-d-ne-ONCE.false in
-    (omega (arith, c.start_of_lem.ensures, c.start_of-to.ensures, m), omega (arith, c.start_of-to.ensures, m, c.requires.whole.long))
+    (omega (arith, c.start_of-from.ensures, c.start_of-to.ensures, m), omega (arith, c.start_of-to.ensures, m, c.requires.whole.long))
 
 pub put_if-requires : goal.put_if-requires
 put_if-requires c =
@@ -65,4 +65,4 @@ pub returns : goal.returns
 returns c =
     let asked : c.both-asked.result ≡ is_asked_in (seen c.args.slots.now c.args.flags.now c.args.end) (get_or (book_in c.args.book.now).demands c.args.k no_demand) = asked_is _ (book_sized c.args.book.now) _ c.requires.k_in_bounds _ c.nth_demand-d.ensures c.args.slots.now c.args.flags.now c.args.end c.requires.whole c.both-asked.ensures c.is_asked.ensures refl in
     once_puts _ (book_sized c.args.book.now) _ c.requires.k_in_bounds _ c.nth_demand-d.ensures c.args.slots.now c.args.flags.now c.args.end c.requires.whole c.if-d-ne-ONCE.false c.args.end.line asked
-    c.any_came.ensures c.start_of_lem.ensures c.start_of-to.ensures c.both-lacking.ensures c.put_if.ensures
+    c.any_came.ensures c.start_of-from.ensures c.start_of-to.ensures c.both-lacking.ensures c.put_if.ensures

@@ -52,7 +52,7 @@ returns-then-e-line c =
     let name = take (c.cell_end-e.result - c.loop-names.at) (drop c.loop-names.at c.args.line.now) in
     let judged = rw (c.came_before-first.ensures.answer ∙ c.loop-names.invariant.11 name, c.loop-names.invariant.9) at c.head_cell-k.ensures.puts in
     let F = head_cell (book_in c.args.book.now) c.args.names.section xs (ids_of c.args.flags.now) c.args.names.tag.control c.args.names.tag.line in
-    let in-kinds : c.loop-names.c - 1 < length loop.kinds = omega (arith, c.loop-names.invariant.2, c.loop-names.invariant.8, ap length (cell_here c.cell_end-e.ensures)) in
+    let in-kinds : c.loop-names.c - 1 < length c.loop-names.kinds = omega (arith, c.loop-names.invariant.2, c.loop-names.invariant.8, ap length (cell_here c.cell_end-e.ensures)) in
     let kinds = kinds_step _ xs c.loop-names.c c.loop-names.invariant.1 here c.args.names.section c.loop-names.kinds in-kinds c.loop-names.invariant.7 in
     let kept = length-set c.loop-names.kinds (c.loop-names.c - 1) (kind_in (column_of (book_in c.args.book.now) c.args.names.section name)) ∙ c.loop-names.invariant.8 in
     let all : length xs ≡ c.loop-names.c - 1 = column_count xs c.loop-names.c c.loop-names.invariant.1 here ∙ rw (cells_last c.cell_end-e.ensures c.if-e-line.true) (omega arith) in
@@ -82,12 +82,12 @@ loop-names-preserved c =
     let name = take (c.cell_end-e.result - c.loop-names.at) (drop c.loop-names.at c.args.line.now) in
     let judged = rw (c.came_before-first.ensures.answer ∙ c.loop-names.invariant.11 name, c.loop-names.invariant.9) at c.head_cell-k.ensures.puts in
     let F = head_cell (book_in c.args.book.now) c.args.names.section xs (ids_of c.args.flags.now) c.args.names.tag.control c.args.names.tag.line in
-    let in-kinds : c.loop-names.c - 1 < length loop.kinds = omega (arith, c.loop-names.invariant.2, c.loop-names.invariant.8, ap length (cell_here c.cell_end-e.ensures)) in
+    let in-kinds : c.loop-names.c - 1 < length c.loop-names.kinds = omega (arith, c.loop-names.invariant.2, c.loop-names.invariant.8, ap length (cell_here c.cell_end-e.ensures)) in
     let kinds = kinds_step _ xs c.loop-names.c c.loop-names.invariant.1 here c.args.names.section c.loop-names.kinds in-kinds c.loop-names.invariant.7 in
     let kept = length-set c.loop-names.kinds (c.loop-names.c - 1) (kind_in (column_of (book_in c.args.book.now) c.args.names.section name)) ∙ c.loop-names.invariant.8 in
     let one : c.loop-names.c + 1 - 2 ≡ c.loop-names.c - 2 + 1 = omega (arith, c.loop-names.invariant.1) in
-    let two : c.loop-names.c - 2 + 2 ≡ loop.c = omega (arith, c.loop-names.invariant.1) in
-    let lt : c.cell_end-e.result < length args.line.now = omega (arith, c.if-e-line.false, c.cell_end-e.ensures.within) in (
+    let two : c.loop-names.c - 2 + 2 ≡ c.loop-names.c = omega (arith, c.loop-names.invariant.1) in
+    let lt : c.cell_end-e.result < length c.args.line.now = omega (arith, c.if-e-line.false, c.cell_end-e.ensures.within) in (
       omega (arith, lt),
       omega (arith, c.loop-names.invariant.1),
       omega (arith, c.loop-names.invariant.2, ap length (cell_here c.cell_end-e.ensures), ap length (cells_next c.cell_end-e.ensures lt)),

@@ -32,7 +32,7 @@ returns-then-e-line c =
 
 pub loop-tag-preserved : goal.loop-tag-preserved
 loop-tag-preserved c =
-    let lt : c.cell_end-e.result < length args.line.now = omega arith in (
+    let lt : c.cell_end-e.result < length c.args.line.now = omega arith in (
       omega arith,
       omega arith,
       omega (arith, ap length (cell_here c.cell_end-e.ensures), ap length (cells_next c.cell_end-e.ensures lt)),

@@ -11,7 +11,7 @@ use Rattle.mender_places.proofs.lay.Goals as goal
 
 pub loop-i-init : goal.loop-i-init
 loop-i-init c =
-    let e : c.args.to + 0 ≡ a.to = omega arith in
+    let e : c.args.to + 0 ≡ c.args.to = omega arith in
     (omega arith, refl, ap (λ (k : ℕ). lay_all (lent c.args.copy.now k) c.args.bytes.now) e)
 
 -- a byte that fits has a place
@@ -20,7 +20,7 @@ bounds-copy-to c = omega (arith, c.fitting-n.ensures.1 (omega arith), c.loop-i.i
 
 pub loop-i-preserved : goal.loop-i-preserved
 loop-i-preserved c =
-    let lt : c.loop-i.i < length a.bytes.now = omega arith in
+    let lt : c.loop-i.i < length c.args.bytes.now = omega arith in
     (omega arith, length-set c.loop-i.copy (c.args.to + c.loop-i.i) (get_or c.args.bytes.now c.loop-i.i 0) ∙ c.loop-i.invariant.1, sym (lay_step c.args.bytes.now c.loop-i.copy c.args.to c.loop-i.i lt) ∙ c.loop-i.invariant.2)
 
 pub returns : goal.returns

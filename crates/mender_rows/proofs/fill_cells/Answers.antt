@@ -37,7 +37,7 @@ lay-to-requires c = omega (arith, cell_length c.cell_end-e.ensures, c.fill_cell-
 
 pub loop-s-preserved : goal.loop-s-preserved
 loop-s-preserved c =
-    let lt : c.cell_end-e.result < length args.line.now = omega arith in (
+    let lt : c.cell_end-e.result < length c.args.line.now = omega arith in (
       omega arith,
       omega arith,
       omega (arith, ap length (cell_here c.cell_end-e.ensures), ap length (cells_next c.cell_end-e.ensures lt)),

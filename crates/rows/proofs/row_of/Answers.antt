@@ -16,8 +16,8 @@ pub returns-then-row-eq0 : goal.returns-then-row-eq0
 unfolding row_of book_in book_of
 returns-then-row-eq0 c =
     let z : c.args.row - 1 ≡ 0 = omega arith in
-    rw (← c.code_of_lem.ensures, z) c.nth_coded.ensures
+    rw (← c.code_of-code.ensures, z) c.nth_coded.ensures
 
 pub returns : goal.returns
 unfolding row_of book_in book_of
-returns c = rw (← c.code_of_lem.ensures) c.nth_coded-2.ensures
+returns c = rw (← c.code_of-code.ensures) c.nth_coded-2.ensures

@@ -26,4 +26,4 @@ pub returns : goal.returns
 unfolding book_in book_of
 returns c =
     let of_section : is_section (book_of (lines c.args.file.now)) c.args.section ≡ true = sym c.is_section.ensures ∙ not-false c.is_section.result c.if-not-is_section.false-raw in
-    rows_there c.args.file.now c.args.section c.if-file-gt-LIMIT.false of_section c.code_of_lem.ensures c.count_coded.ensures
+    rows_there c.args.file.now c.args.section c.if-file-gt-LIMIT.false of_section c.code_of-code.ensures c.count_coded.ensures

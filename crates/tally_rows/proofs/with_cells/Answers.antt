@@ -33,7 +33,7 @@ overflow_add-k c = omega (arith, c.requires.marks.inside)
 
 pub loop-k-preserved : goal.loop-k-preserved
 loop-k-preserved c =
-    let lt : c.read_cell-c.result.end < length start.args.line.now = omega (arith, c.read_cell-c.ensures.ends.within) in (
+    let lt : c.read_cell-c.result.end < length c.args.line.now = omega (arith, c.read_cell-c.ensures.ends.within) in (
       omega arith,
       omega arith,
       turn_next c.args.marks.now c.loop-k.k c.read_cell-c.ensures (nine c.loop-k.found) (λ (i : ℕ). nine c.args.f i + row_adds c.args.marks.now c.args.line.now i) c.loop-k.invariant.2

@@ -67,5 +67,5 @@ loop-bars-preserved c =
     let walked : (c.loop-bars.at < c.scan_part-w.result.scan.at) × (c.scan_part-w.result.scan.at ≤ length c.args.s.now) × (c.scan_part-w.result.scan ≡ run c.args.bars (start c.loop-bars.at) (drop c.loop-bars.at c.args.s.now)) = let v = part_within c.args.bars c.args.s.now c.loop-bars.at opened c.scan_part-w.result.scan c.scan_part-w.ensures.0 in
     (v.0, v.1, part_from c.args.bars c.args.s.now c.loop-bars.at opened c.scan_part-w.result.scan c.scan_part-w.ensures.0) in
     let judged : is_parameter (part c.loop-bars.at c.scan_part-w.result.scan.at c.args.s.now) ≡ c.is_whole_part.result = part_judged c.args.bars c.args.s.now c.loop-bars.at opened c.scan_part-w.result.scan c.scan_part-w.ensures.0 (eqb c.scan_part-w.result.last 93) c.scan_part-w.ensures.1 ∙ sym c.is_whole_part.ensures in
-    let lt : c.scan_part-w.result.scan.at < length a.s.now = omega (arith, walked.1) in
+    let lt : c.scan_part-w.result.scan.at < length c.args.s.now = omega (arith, walked.1) in
     (omega arith, c.loop-bars.invariant.1 ∙ parts_good is_parameter c.args.bars c.args.s.now c.loop-bars.at c.scan_part-w.result.scan c.loop-bars.invariant.0 walked.2 lt (judged ∙ not-false _ c.if-not-is_whole_part.false-raw))

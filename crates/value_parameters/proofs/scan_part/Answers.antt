@@ -14,7 +14,7 @@ use Rattle.value_parameters.proofs.scan_part.Goals as goal
 
 pub loop-i-init : goal.loop-i-init
 loop-i-init c =
-    let at : c.stands-w.result.scan.at ≡ a.at = ap (λ (x : Scan). x.at) c.stands-w.ensures.0 in
+    let at : c.stands-w.result.scan.at ≡ c.args.at = ap (λ (x : Scan). x.at) c.stands-w.ensures.0 in
     (at, omega arith, omega arith, ap (λ (x : Scan). run c.args.bars x (drop x.at c.args.s.now)) (sym c.stands-w.ensures.0), λ q. stays c.args.s.now c.args.at c.args.at 0 c.stands-w.result.last c.stands-w.result.scan at c.stands-w.ensures.1 (sym (shut_none c.args.s.now c.args.at)))
 
 pub returns-then-w-e : goal.returns-then-w-e

@@ -31,7 +31,7 @@ returns-then-not-is_near c =
 
 pub number_on-n-requires : goal.number_on-n-requires
 number_on-n-requires c =
-    let z : 0 + length c.args.a.now ≡ length start.args.a.now = omega arith in
+    let z : 0 + length c.args.a.now ≡ length c.args.a.now = omega arith in
     (omega arith, rw z at c.number_on-k.ensures.1, c.requires.1)
 
 pub with_sign-numerals-requires : goal.with_sign-numerals-requires

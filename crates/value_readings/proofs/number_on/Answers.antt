@@ -11,7 +11,7 @@ use Rattle.value_readings.proofs.number_on.Goals as goal
 
 pub loop-i-init : goal.loop-i-init
 loop-i-init c =
-    let z : c.args.k + 0 ≡ a.k = omega arith in
+    let z : c.args.k + 0 ≡ c.args.k = omega arith in
     (omega arith, rw z c.requires.1, c.requires.2, refl)
 
 pub overflow_mul-m : goal.overflow_mul-m
@@ -38,5 +38,5 @@ loop-i-preserved c =
 
 pub returns : goal.returns
 returns c =
-    let e : c.loop-i.i ≡ length a.s.now = omega arith in
+    let e : c.loop-i.i ≡ length c.args.s.now = omega arith in
     (sym (c.loop-i.invariant.3 ∙ number_end c.loop-i.m c.args.s.now c.loop-i.i (omega arith)), rw (← e) c.loop-i.invariant.1)

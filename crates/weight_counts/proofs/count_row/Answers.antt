@@ -36,7 +36,7 @@ overflow_add-k c = omega (arith, c.requires.marks.inside)
 
 pub loop-k-preserved : goal.loop-k-preserved
 loop-k-preserved c =
-    let lt : c.cell_end-e.result < length start.args.line.now = omega arith in (
+    let lt : c.cell_end-e.result < length c.args.line.now = omega arith in (
       omega arith,
       omega arith,
       search rules,

@@ -21,5 +21,5 @@ loop-i-preserved c =
 
 pub returns : goal.returns
 returns c =
-    let e : c.loop-i.i ≡ length a.weights.now = omega arith in
+    let e : c.loop-i.i ≡ length c.args.weights.now = omega arith in
     c.loop-i.invariant.1 ∙ ap (λ (i : ℕ). sum_to i (at c.args.weights.now)) e

@@ -23,5 +23,5 @@ loop-j-preserved c = (
 
 pub returns : goal.returns
 returns c =
-    let e : c.loop-j.j ≡ a.n = omega arith in
+    let e : c.loop-j.j ≡ c.args.n = omega arith in
     c.loop-j.invariant.1 ∙ ap (λ (j : ℕ). ahead j (at c.args.rests.now) c.args.i) e

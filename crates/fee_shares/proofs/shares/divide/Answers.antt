@@ -29,7 +29,7 @@ loop-i-preserved c = (
 
 pub returns : goal.returns
 returns c =
-    let e : c.loop-i.i ≡ length s.args.weights.now = omega arith in
+    let e : c.loop-i.i ≡ length c.args.weights.now = omega arith in
     record {
       rests = record { long = c.loop-i.invariant.1; rests = λ k h. c.loop-i.invariant.2 k (omega arith) };
       given = c.loop-i.invariant.3 ∙ ap (λ (i : ℕ). sum_to i (floor c.args.fee c.args.weights.now)) e;

@@ -29,7 +29,7 @@ loop-i-preserved c =
       length-set c.loop-i.shares c.loop-i.i v ∙ c.loop-i.invariant.1,
       list_next c.loop-i.i (share c.args.fee c.args.weights.now) c.loop-i.shares v (omega arith) c.loop-i.invariant.2
           (share_at_lem c.requires.rests c.loop-i.i (omega arith) (floor_at c.requires.granted c.requires.all_value c.loop-i.i c.part_of-part.ensures.0)
-          c.ahead_of_lem.ensures c.requires.over_value c.one_if.ensures.value),
+          c.ahead_of-count.ensures c.requires.over_value c.one_if.ensures.value),
     )
 
 pub shape_of-shares : goal.shape_of-shares
@@ -37,5 +37,5 @@ shape_of-shares c = c.loop-i.invariant.1 ∙ sym c.requires.shares_len
 
 pub returns : goal.returns
 returns c =
-    let e : c.loop-i.i ≡ length s.args.weights.now = omega arith in
+    let e : c.loop-i.i ≡ length c.args.weights.now = omega arith in
     sym (take_all c.loop-i.i c.loop-i.shares (omega arith)) ∙ c.loop-i.invariant.2 ∙ ap (λ (i : ℕ). list_to i (share c.args.fee c.args.weights.now)) e

@@ -21,18 +21,18 @@ unfolding bytes
 returns-then-row-gt0 c =
     let loud : is c.args.code.now "COM" ≡ false = sym c.same_bytes.ensures ∙ c.if-same_bytes.false in
     let other : is c.args.code.now "MTD" ≡ false = sym c.same_bytes-2.ensures ∙ c.if-same_bytes-2.false in
-    sort_row _ _ loud other _ c.section_of_lem.ensures c.if-row-gt0.true
+    sort_row _ _ loud other _ c.section_of-row.ensures c.if-row-gt0.true
 
 pub returns-then-header-gt0 : goal.returns-then-header-gt0
 unfolding bytes
 returns-then-header-gt0 c =
     let loud : is c.args.code.now "COM" ≡ false = sym c.same_bytes.ensures ∙ c.if-same_bytes.false in
     let other : is c.args.code.now "MTD" ≡ false = sym c.same_bytes-2.ensures ∙ c.if-same_bytes-2.false in
-    sort_header _ _ loud other _ c.section_of_lem.ensures c.if-row-gt0.false _ c.section_of-header.ensures c.if-header-gt0.true
+    sort_header _ _ loud other _ c.section_of-row.ensures c.if-row-gt0.false _ c.section_of-header.ensures c.if-header-gt0.true
 
 pub returns : goal.returns
 unfolding bytes
 returns c =
     let loud : is c.args.code.now "COM" ≡ false = sym c.same_bytes.ensures ∙ c.if-same_bytes.false in
     let other : is c.args.code.now "MTD" ≡ false = sym c.same_bytes-2.ensures ∙ c.if-same_bytes-2.false in
-    sort_unknown _ _ loud other _ c.section_of_lem.ensures c.if-row-gt0.false _ c.section_of-header.ensures c.if-header-gt0.false
+    sort_unknown _ _ loud other _ c.section_of-row.ensures c.if-row-gt0.false _ c.section_of-header.ensures c.if-header-gt0.false

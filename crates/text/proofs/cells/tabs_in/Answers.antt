@@ -14,5 +14,5 @@ loop-i-preserved c = ⊎_elim (λ w. omega (arith, w.1, tab_here c.args.line.now
 
 pub returns : goal.returns
 returns c =
-    let z : c.loop-i.i ≡ at-loop.before.args.to = omega arith in
+    let z : c.loop-i.i ≡ c.args.to = omega arith in
     (omega arith, rw z at c.loop-i.invariant.2)
