@@ -1,7 +1,6 @@
 -- `text::bytes::in_block` meets its contract. The invariant: unless one was met, b stands in none of the k bytes passed. Assumes nothing.
 use mathlib.Core.Path.{◌≡◌, refl, sym, ◌∙◌}
 use mathlib.Core.Bool.{false}
-use mathlib.Core.Logic.{⊎_elim}
 use Prim.Native.Nat.{◌+◌, ◌-◌, ◌≤◌}
 use native.Mathlib.Omega.{arith}
 use borrow.Author.Rules.{rules}
@@ -10,15 +9,14 @@ use Rattle.text_bytes.specs.Places.{up_to}
 use Rattle.text_bytes.proofs.Laws.Blocks.{Clear, clear_none, clear_more}
 use Rattle.text_bytes.proofs.Laws.Tests.{absurd_bool}
 use Rattle.text_bytes.proofs.in_block.Goals as goal
+use Rattle.text_bytes.proofs.in_block.Goals.{then-s-at, else-s-at}
 
 pub loop-k-init : goal.loop-k-init
 loop-k-init c = (omega arith, λ _. clear_none c.args.b c.args.s.now c.args.at 0 refl)
 
 pub loop-k-preserved : goal.loop-k-preserved
 loop-k-preserved c =
-    ⊎_elim (λ w. (omega arith, λ h. absurd_bool (sym h ∙ w.1)))
-    (λ w. (omega arith, λ h. clear_more c.args.b c.args.s.now c.args.at c.loop-k.k (omega arith) w.0.left (c.loop-k.invariant.1 (sym w.1 ∙ h))))
-    c.if-s-at.branch
+    elim c.if-s-at.branch [ then-s-at w ↦ (omega arith, λ h. absurd_bool (sym h ∙ w.hit-is)) | else-s-at w ↦ (omega arith, λ h. clear_more c.args.b c.args.s.now c.args.at c.loop-k.k (omega arith) w.if-s-at.false (c.loop-k.invariant.1 (sym w.hit-is ∙ h))) ]
 
 pub returns : goal.returns
 returns c =

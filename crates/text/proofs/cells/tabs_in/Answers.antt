@@ -1,6 +1,5 @@
 -- `text::cells::tabs_in` meets its contract. The invariant: the cells from the first place on are the tabs met and the cells of what is left. Assumes nothing.
 use mathlib.Core.Path.{◌≡◌}
-use mathlib.Core.Logic.{⊎_elim}
 use Prim.Native.Nat.{◌+◌, ◌-◌, ◌≤◌}
 use native.Mathlib.Omega.{arith}
 use borrow.Author.Rules.{rules}
@@ -8,9 +7,10 @@ use lib.ListN.{length, drop}
 use Rattle.text.specs.Lines.{cells}
 use Rattle.text.proofs.Laws.Runs.{tab_here, tab_else}
 use Rattle.text.proofs.cells.tabs_in.Goals as goal
+use Rattle.text.proofs.cells.tabs_in.Goals.{then-line-i-eq-TAB, else-line-i-eq-TAB}
 
 pub loop-i-preserved : goal.loop-i-preserved
-loop-i-preserved c = ⊎_elim (λ w. omega (arith, w.1, tab_here c.args.line.now c.loop-i.i (omega arith) w.0.taken)) (λ w. omega (arith, w.1, tab_else c.args.line.now c.loop-i.i (omega arith) w.0.left)) c.if-line-i-eq-TAB.branch
+loop-i-preserved c = elim c.if-line-i-eq-TAB.branch [ then-line-i-eq-TAB w ↦ omega (arith, w.n-is, tab_here c.args.line.now c.loop-i.i (omega arith) w.if-line-i-eq-TAB.true) | else-line-i-eq-TAB w ↦ omega (arith, w.n-is, tab_else c.args.line.now c.loop-i.i (omega arith) w.if-line-i-eq-TAB.false) ]
 
 pub returns : goal.returns
 returns c =

@@ -1,20 +1,18 @@
 -- `text::lines::ends_in` meets its contract. The invariant: the LF met are the lines passed with the k bytes passed. Assumes nothing.
 use mathlib.Core.Path.{◌≡◌, subst⁻¹}
-use mathlib.Core.Logic.{⊎_elim}
 use Prim.Native.Nat.{ℕ, ◌+◌, ◌-◌, ◌≤◌}
 use native.Mathlib.Omega.{arith}
 use borrow.Author.Rules.{rules}
 use Rattle.text.proofs.Laws.Openings.{Counted, counted_none, counted_end, counted_other}
 use Rattle.text.proofs.lines.ends_in.Goals as goal
+use Rattle.text.proofs.lines.ends_in.Goals.{then-file-at-eq-LF, else-file-at-eq-LF}
 
 pub loop-k-init : goal.loop-k-init
 loop-k-init c = (omega arith, counted_none c.args.file.now c.args.at)
 
 pub loop-k-preserved : goal.loop-k-preserved
 loop-k-preserved c =
-    ⊎_elim (λ w. (omega arith, subst⁻¹ (λ (m : ℕ). Counted c.args.file.now c.args.at m (c.loop-k.k + 1)) w.1 (counted_end c.args.file.now c.args.at c.loop-k.n c.loop-k.k (omega arith) (omega arith) c.loop-k.invariant.1 w.0.taken)))
-    (λ w. (omega arith, subst⁻¹ (λ (m : ℕ). Counted c.args.file.now c.args.at m (c.loop-k.k + 1)) w.1 (counted_other c.args.file.now c.args.at c.loop-k.n c.loop-k.k (omega arith) (omega arith) c.loop-k.invariant.1 w.0.left)))
-    c.if-file-at-eq-LF.branch
+    elim c.if-file-at-eq-LF.branch [ then-file-at-eq-LF w ↦ (omega arith, subst⁻¹ (λ (m : ℕ). Counted c.args.file.now c.args.at m (c.loop-k.k + 1)) w.n-is (counted_end c.args.file.now c.args.at c.loop-k.n c.loop-k.k (omega arith) (omega arith) c.loop-k.invariant.1 w.if-file-at-eq-LF.true)) | else-file-at-eq-LF w ↦ (omega arith, subst⁻¹ (λ (m : ℕ). Counted c.args.file.now c.args.at m (c.loop-k.k + 1)) w.n-is (counted_other c.args.file.now c.args.at c.loop-k.n c.loop-k.k (omega arith) (omega arith) c.loop-k.invariant.1 w.if-file-at-eq-LF.false)) ]
 
 pub returns : goal.returns
 returns c =

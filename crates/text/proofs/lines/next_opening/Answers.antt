@@ -1,6 +1,5 @@
 -- `text::lines::next_opening` meets its contract: blocks are passed over, then byte by byte up to the first LF before b. Assumes nothing.
 use mathlib.Core.Path.{subst⁻¹}
-use mathlib.Core.Logic.{⊎_elim}
 use Prim.Native.Nat.{ℕ, ◌+◌, ◌-◌, ◌<◌}
 use native.Mathlib.Omega.{arith}
 use borrow.Author.Rules.{rules}
@@ -8,6 +7,7 @@ use lib.ListN.{length}
 use Rattle.text.specs.Openings.{Passes}
 use Rattle.text.proofs.Laws.Openings.{passes_end, passes_other, reaches_opening, reaches_end}
 use Rattle.text.proofs.lines.next_opening.Goals as goal
+use Rattle.text.proofs.lines.next_opening.Goals.{then-file-at-eq-LF, else-file-at-eq-LF}
 
 pub loop-at-init : goal.loop-at-init
 loop-at-init c = c.pass_lines-passed.ensures
@@ -61,9 +61,7 @@ loop-at-smaller c =
 pub loop-at-preserved : goal.loop-at-preserved
 loop-at-preserved c =
     let follows : c.loop-at.at + 1 < length c.args.file.now = omega (arith, c.loop-at.invariant.within, c.loop-at-test.true) in
-    ⊎_elim (λ w. subst⁻¹ (λ (m : ℕ). Passes c.args.b c.args.file.now c.args.from (c.loop-at.at + 1) m) w.3 (passes_end c.loop-at.invariant follows w.0.taken w.2.left))
-    (λ w. subst⁻¹ (λ (m : ℕ). Passes c.args.b c.args.file.now c.args.from (c.loop-at.at + 1) m) w.1 (passes_other c.loop-at.invariant follows w.0.left))
-    c.if-file-at-eq-LF.branch
+    elim c.if-file-at-eq-LF.branch [ then-file-at-eq-LF w ↦ subst⁻¹ (λ (m : ℕ). Passes c.args.b c.args.file.now c.args.from (c.loop-at.at + 1) m) w.n-is (passes_end c.loop-at.invariant follows w.if-file-at-eq-LF.true w.if-file-at.false) | else-file-at-eq-LF w ↦ subst⁻¹ (λ (m : ℕ). Passes c.args.b c.args.file.now c.args.from (c.loop-at.at + 1) m) w.n-is (passes_other c.loop-at.invariant follows w.if-file-at-eq-LF.false) ]
 
 pub overflow_add-result-2 : goal.overflow_add-result-2
 overflow_add-result-2 c =
