@@ -57,12 +57,12 @@ first_other b x (y ∷ ys) ne = go (eqb x 10) (eqb x 13) (eqb y 10) refl (lines 
     go false false false e ls (m ∷ ms) = rw (ne_eqb b x (λ e. ne (sym e)))
 
 -- PASSED: lines and lines again
-pub passed_both : {b n m : ℕ} {x y z : List Bytes} → Passed b x n y → Passed b y m z → Passed b x (n + m) z
-passed_both {b} {n} {m} {x} {y} {z} p none = subst (λ (k : ℕ). Passed b x k z) (let e : n ≡ n + 0 = omega arith in e) p
-passed_both {b} {n} {m} {x} {y} {z} p (more {n = k} l q o) = subst (λ (j : ℕ). Passed b x j z) (let e : n + k + 1 ≡ n + (k + 1) = omega arith in e) (more l (passed_both p q) o)
+pub passed_both : {b n : ℕ} {x y : List Bytes} {m : ℕ} {z : List Bytes} → Passed b x n y → Passed b y m z → Passed b x (n + m) z
+passed_both {b} {n} {x} {y} {m} {z} p none = subst (λ (k : ℕ). Passed b x k z) (let e : n ≡ n + 0 = omega arith in e) p
+passed_both {b} {n} {x} {y} {m} {z} p (more {n = k} l q o) = subst (λ (j : ℕ). Passed b x j z) (let e : n + k + 1 ≡ n + (k + 1) = omega arith in e) (more l (passed_both p q) o)
 
 -- a test that no line of another byte passes is passed by one of the first lines just where it is by one of the rest
-pub passed_any : {b n : ℕ} {x y : List Bytes} (p : Bytes → Bool) → ((l : Bytes) → begins (b ∷ []) l ≡ false → p l ≡ false) → Passed b x n y → any p x ≡ any p y
+pub passed_any : {b : ℕ} {x : List Bytes} {n : ℕ} {y : List Bytes} (p : Bytes → Bool) → ((l : Bytes) → begins (b ∷ []) l ≡ false → p l ≡ false) → Passed b x n y → any p x ≡ any p y
 unfolding any
 passed_any p h none = refl
 passed_any p h (more {rest = rest} l q o) = passed_any p h q ∙ ap (λ (t : Bool). t || any p rest) (h l o)

@@ -7,7 +7,7 @@ use lib.ListN.{length}
 use Rattle.text.specs.Openings.{Passes}
 use Rattle.text.proofs.Laws.Openings.{passes_end, passes_other, reaches_opening, reaches_end}
 use Rattle.text.proofs.lines.next_opening.Goals as goal
-use Rattle.text.proofs.lines.next_opening.Goals.{then-file-at-eq-LF, else-file-at-eq-LF}
+use Rattle.text.proofs.lines.next_opening.Goals.{then-file-at-eq-LF+else-file-at, else-file-at-eq-LF}
 
 pub loop-at-init : goal.loop-at-init
 loop-at-init c = c.pass_lines-passed.ensures
@@ -61,7 +61,7 @@ loop-at-smaller c =
 pub loop-at-preserved : goal.loop-at-preserved
 loop-at-preserved c =
     let follows : c.loop-at.at + 1 < length c.args.file.now = omega (arith, c.loop-at.invariant.within, c.loop-at-test.true) in
-    elim c.if-file-at-eq-LF.branch [ then-file-at-eq-LF w ↦ subst⁻¹ (λ (m : ℕ). Passes c.args.b c.args.file.now c.args.from (c.loop-at.at + 1) m) w.n-is (passes_end c.loop-at.invariant follows w.if-file-at-eq-LF.true w.if-file-at.false) | else-file-at-eq-LF w ↦ subst⁻¹ (λ (m : ℕ). Passes c.args.b c.args.file.now c.args.from (c.loop-at.at + 1) m) w.n-is (passes_other c.loop-at.invariant follows w.if-file-at-eq-LF.false) ]
+    elim c.if-file-at-eq-LF.branch [ then-file-at-eq-LF+else-file-at w ↦ subst⁻¹ (λ (m : ℕ). Passes c.args.b c.args.file.now c.args.from (c.loop-at.at + 1) m) w.n-is (passes_end c.loop-at.invariant follows w.if-file-at-eq-LF.true w.if-file-at.false) | else-file-at-eq-LF w ↦ subst⁻¹ (λ (m : ℕ). Passes c.args.b c.args.file.now c.args.from (c.loop-at.at + 1) m) w.n-is (passes_other c.loop-at.invariant follows w.if-file-at-eq-LF.false) ]
 
 pub overflow_add-result-2 : goal.overflow_add-result-2
 overflow_add-result-2 c =

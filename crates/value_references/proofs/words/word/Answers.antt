@@ -63,17 +63,21 @@ slice_bounds-result-end-in_default c =
     omega (arith, long)
 
 pub returns-in-0 : goal.returns-in-0
+unfolding bytes
 returns-in-0 c = word_at 0 6 c.requires c.in-0.is refl
 
 pub returns-in-1 : goal.returns-in-1
+unfolding bytes
 returns-in-1 c = word_at 6 5 c.requires c.in-1.is refl
 
 pub returns-in-2 : goal.returns-in-2
+unfolding bytes
 returns-in-2 c = word_at 11 14 c.requires c.in-2.is refl
 
 pub returns-in-3 : goal.returns-in-3
+unfolding bytes
 returns-in-3 c = word_at 25 6 c.requires c.in-3.is refl
 
 pub returns-in_default : goal.returns-in_default
 unfolding bytes
-returns-in_default c = rw c.requires (sym (no_word c.args.f c.in_default.0.0.0.1 c.in_default.0.0.1 c.in_default.0.1 c.in_default.1))
+returns-in_default c = rw c.requires (sym (no_word c.args.f (λ e. omega arith) (λ e. omega arith) (λ e. omega arith) (λ e. omega arith)))
