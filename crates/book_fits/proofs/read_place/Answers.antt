@@ -18,18 +18,18 @@ place s b x e = record { width = ap width_in (sym e); taken = ap taken_in (sym e
 
 pub returns-in-Not : goal.returns-in-Not
 returns-in-Not c =
-    let reading : index_at (drop c.args.b c.args.s.now) ≡ c.read_index-found.result = let e : take (length c.args.s.now - c.args.b) (drop c.args.b c.args.s.now) ≡ drop c.args.b s = take_all (length c.args.s.now - c.args.b) (drop c.args.b c.args.s.now) (omega (arith, length-drop c.args.b c.args.s.now)) in
+    let reading : index_at (drop c.args.b c.args.s.now) ≡ c.read_index-found.result = let e : take (length c.args.s.now - c.args.b) (drop c.args.b c.args.s.now) ≡ drop c.args.b c.args.s.now = take_all (length c.args.s.now - c.args.b) (drop c.args.b c.args.s.now) (omega (arith, length-drop c.args.b c.args.s.now)) in
     sym (c.read_index-found.ensures ∙ ap index_at e) in
     place c.args.s.now c.args.b Not (reading ∙ c.in-Not.is)
 
 pub returns-in-Bad : goal.returns-in-Bad
 returns-in-Bad c =
-    let reading : index_at (drop c.args.b c.args.s.now) ≡ c.read_index-found.result = let e : take (length c.args.s.now - c.args.b) (drop c.args.b c.args.s.now) ≡ drop c.args.b s = take_all (length c.args.s.now - c.args.b) (drop c.args.b c.args.s.now) (omega (arith, length-drop c.args.b c.args.s.now)) in
+    let reading : index_at (drop c.args.b c.args.s.now) ≡ c.read_index-found.result = let e : take (length c.args.s.now - c.args.b) (drop c.args.b c.args.s.now) ≡ drop c.args.b c.args.s.now = take_all (length c.args.s.now - c.args.b) (drop c.args.b c.args.s.now) (omega (arith, length-drop c.args.b c.args.s.now)) in
     sym (c.read_index-found.ensures ∙ ap index_at e) in
     place c.args.s.now c.args.b (Bad _ _) (reading ∙ c.in-Bad.is)
 
 pub returns-in-Is : goal.returns-in-Is
 returns-in-Is c =
-    let reading : index_at (drop c.args.b c.args.s.now) ≡ c.read_index-found.result = let e : take (length c.args.s.now - c.args.b) (drop c.args.b c.args.s.now) ≡ drop c.args.b s = take_all (length c.args.s.now - c.args.b) (drop c.args.b c.args.s.now) (omega (arith, length-drop c.args.b c.args.s.now)) in
+    let reading : index_at (drop c.args.b c.args.s.now) ≡ c.read_index-found.result = let e : take (length c.args.s.now - c.args.b) (drop c.args.b c.args.s.now) ≡ drop c.args.b c.args.s.now = take_all (length c.args.s.now - c.args.b) (drop c.args.b c.args.s.now) (omega (arith, length-drop c.args.b c.args.s.now)) in
     sym (c.read_index-found.ensures ∙ ap index_at e) in
     place c.args.s.now c.args.b (Is _ _) (reading ∙ c.in-Is.is)

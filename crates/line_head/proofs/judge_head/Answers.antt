@@ -31,7 +31,7 @@ returns-then-e-line c =
 
 pub head_names-requires : goal.head_names-requires
 head_names-requires c =
-    let lt : c.cell_end-e.result < length line = omega (arith, c.if-e-line.false, c.cell_end-e.ensures.within) in
+    let lt : c.cell_end-e.result < length c.args.line.now = omega (arith, c.if-e-line.false, c.cell_end-e.ensures.within) in
     let narrow = ltb-false 256 (length (cells c.args.line.now)) (rw c.count_cells-wide.ensures at c.if-wide.false-raw) in
     record {
       count_bound = omega (arith, c.requires.count_bound, c.head_code-k.ensures.most);
@@ -45,7 +45,7 @@ head_names-requires c =
 
 pub returns : goal.returns
 returns c =
-    let lt : c.cell_end-e.result < length line = omega (arith, c.if-e-line.false, c.cell_end-e.ensures.within) in
+    let lt : c.cell_end-e.result < length c.args.line.now = omega (arith, c.if-e-line.false, c.cell_end-e.ensures.within) in
     let next = cells_next c.cell_end-e.ensures lt in
     record {
       puts = head_named _ (asked_by c.args.head.asking) c.args.head.section c.args.head.first c.args.head.later (ids_of c.args.flags.now) c.args.head.tag.control c.args.head.tag.line (cells c.args.line.now) (rw c.count_cells-wide.ensures at c.head_code-k.ensures) (rw c.count_cells-wide.ensures at c.if-wide.false-raw) (rw (← next) at c.head_names.ensures.puts);

@@ -44,8 +44,8 @@ pub loop-end-preserved : goal.loop-end-preserved
 loop-end-preserved c =
     let ahead : drop c.loop-end.c (cells c.args.line.now) ≡ take (c.cell_end-end-in-loop-end.result - (c.loop-end.end + 1)) (drop (c.loop-end.end + 1) c.args.line.now) ∷ drop 1 (cells (drop (c.loop-end.end + 1) c.args.line.now)) = c.loop-end.invariant.4 c.loop-end-test.true ∙ cell_here c.cell_end-end-in-loop-end.ensures in
     let below : c.loop-end.c < 256 = omega (arith, ap length ahead, length-drop c.loop-end.c (cells c.args.line.now), c.requires.width_value, c.loop-end.invariant.2) in
-    let z : c.loop-end.c + 1 - 1 ≡ n = omega arith in
-    let y : 1 + (c.loop-end.c + 1 - 2) ≡ n = omega (arith, c.loop-end.invariant.1) in
+    let z : c.loop-end.c + 1 - 1 ≡ c.loop-end.c = omega arith in
+    let y : 1 + (c.loop-end.c + 1 - 2) ≡ c.loop-end.c = omega (arith, c.loop-end.invariant.1) in
     let x = take (c.cell_end-end-in-loop-end.result - (c.loop-end.end + 1)) (drop (c.loop-end.end + 1) c.args.line.now) in
     let here : drop (c.loop-end.c + 1 - 2) (drop 1 (cells c.args.line.now)) ≡ x ∷ drop 1 (cells (drop (c.loop-end.end + 1) c.args.line.now)) = drop-drop (c.loop-end.c + 1 - 2) 1 (cells c.args.line.now) ∙ ap (λ (i : ℕ). drop i (cells c.args.line.now)) y ∙ ahead in
     let tail : drop (c.loop-end.c + 1) (cells c.args.line.now) ≡ drop 1 (cells (drop (c.loop-end.end + 1) c.args.line.now)) = sym (drop-drop 1 c.loop-end.c (cells c.args.line.now)) ∙ ap (drop 1) (c.loop-end.invariant.4 c.loop-end-test.true) in

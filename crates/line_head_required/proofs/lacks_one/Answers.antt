@@ -30,6 +30,6 @@ returns c =
     let names : List Bytes = take 255 (cells (drop c.args.from c.args.line.now)) in
     let letter : Bool = asks (get_or c.args.wanted.now 0 0) c.args.asking.mode c.args.asking.typed c.args.asking.assay in
     let named : Bool = any (same (drop 2 c.args.wanted.now)) names in
-    let name : take (length c.args.wanted.now - 2) (drop 2 c.args.wanted.now) ≡ drop 2 w = take_all (length c.args.wanted.now - 2) (drop 2 c.args.wanted.now) (omega (arith, length-drop 2 c.args.wanted.now)) in
+    let name : take (length c.args.wanted.now - 2) (drop 2 c.args.wanted.now) ≡ drop 2 c.args.wanted.now = take_all (length c.args.wanted.now - 2) (drop 2 c.args.wanted.now) (omega (arith, length-drop 2 c.args.wanted.now)) in
     ap not (c.named_before.ensures ∙ ap (λ (n : Bytes). any (same n) names) name)
     ∙ asked letter named (rw c.is_asked.ensures at c.if-not-is_asked.false-raw)

@@ -10,16 +10,16 @@ use Rattle.scan.proofs.Laws.Celling.{any_hit, any_next, any_last}
 use Rattle.line_head_required.proofs.named_before.Goals as goal
 
 pub returns-then-same_bytes : goal.returns-then-same_bytes
-returns-then-same_bytes c = sym (c.loop-left.invariant.1 ∙ any_hit c.cell_end-e.ensures _ c.loop-left.false c.loop-left-test.true (sym c.same_bytes.ensures ∙ c.if-same_bytes.true))
+returns-then-same_bytes c = sym (c.loop-left.invariant.1 ∙ any_hit c.cell_end-e.ensures _ c.loop-left.left c.loop-left-test.true (sym c.same_bytes.ensures ∙ c.if-same_bytes.true))
 
 pub returns-then-e-line : goal.returns-then-e-line
-returns-then-e-line c = sym (c.loop-left.invariant.1 ∙ any_last c.cell_end-e.ensures _ c.loop-left.false c.loop-left-test.true (sym c.same_bytes.ensures ∙ c.if-same_bytes.false) c.if-e-line.true)
+returns-then-e-line c = sym (c.loop-left.invariant.1 ∙ any_last c.cell_end-e.ensures _ c.loop-left.left c.loop-left-test.true (sym c.same_bytes.ensures ∙ c.if-same_bytes.false) c.if-e-line.true)
 
 pub loop-left-preserved : goal.loop-left-preserved
-loop-left-preserved c = (omega arith, c.loop-left.invariant.1 ∙ any_next c.cell_end-e.ensures _ c.loop-left.false c.loop-left-test.true (sym c.same_bytes.ensures ∙ c.if-same_bytes.false) (omega arith))
+loop-left-preserved c = (omega arith, c.loop-left.invariant.1 ∙ any_next c.cell_end-e.ensures _ c.loop-left.left c.loop-left-test.true (sym c.same_bytes.ensures ∙ c.if-same_bytes.false) (omega arith))
 
 pub returns : goal.returns
 unfolding any
 returns c =
-    let z : c.loop-left.false ≡ 0 = omega arith in
+    let z : c.loop-left.left ≡ 0 = omega arith in
     sym (rw z at c.loop-left.invariant.1)

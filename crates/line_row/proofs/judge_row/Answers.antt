@@ -27,7 +27,7 @@ returns-then-e-line c =
 
 pub row_cells-requires : goal.row_cells-requires
 row_cells-requires c =
-    let lt : c.cell_end-e.result < length line = omega arith in
+    let lt : c.cell_end-e.result < length c.args.line.now = omega arith in
     let narrow = row_narrow (eqb c.args.header c.args.section) c.args.width (length (cells c.args.line.now))
     (rw (c.both-2.ensures, c.both-under.ensures, c.count_cells.ensures) at c.if-not-both.false-raw) in
     record {
@@ -38,7 +38,7 @@ row_cells-requires c =
 
 pub returns : goal.returns
 returns c =
-    let lt : c.cell_end-e.result < length line = omega (arith, c.if-e-line.false, c.cell_end-e.ensures.within) in
+    let lt : c.cell_end-e.result < length c.args.line.now = omega (arith, c.if-e-line.false, c.cell_end-e.ensures.within) in
     row_under c.args.header c.args.width c.args.kinds.now c.args.section c.args.tag.control c.args.tag.line (cells c.args.line.now)
     (rw (c.both.ensures, c.both-under.ensures, c.count_cells.ensures) at c.row_code-k.ensures)
     (rw (c.both-2.ensures, c.both-under.ensures, c.count_cells.ensures) at c.if-not-both.false-raw)

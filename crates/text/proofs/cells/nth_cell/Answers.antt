@@ -21,13 +21,13 @@ loop-left-init c = (search rules, search rules, begin c.args.n c.args.line.now, 
 
 pub returns-then-left-eq0 : goal.returns-then-left-eq0
 returns-then-left-eq0 c =
-    let whole : c.args.n - c.loop-left.false ≡ n = omega arith in
-    (omega arith, omega arith, rw (← whole) c.loop-left.invariant.2, c.loop-left.invariant.3 ∙ nth_here c.cell_end-e.ensures c.loop-left.false c.if-left-eq0.true)
+    let whole : c.args.n - c.loop-left.left ≡ c.args.n = omega arith in
+    (omega arith, omega arith, rw (← whole) c.loop-left.invariant.2, c.loop-left.invariant.3 ∙ nth_here c.cell_end-e.ensures c.loop-left.left c.if-left-eq0.true)
 
 pub returns-then-e-line : goal.returns-then-e-line
-returns-then-e-line c = c.loop-left.invariant.3 ∙ nth_none c.cell_end-e.ensures c.loop-left.false c.if-e-line.true c.if-left-eq0.false
+returns-then-e-line c = c.loop-left.invariant.3 ∙ nth_none c.cell_end-e.ensures c.loop-left.left c.if-e-line.true c.if-left-eq0.false
 
 pub loop-left-preserved : goal.loop-left-preserved
 loop-left-preserved c =
-    let k : c.args.n - c.loop-left.false + 1 ≡ c.args.n - (c.loop-left.false - 1) = omega arith in
-    (omega arith, omega arith, rw (← k) (after_next TAB (c.args.n - c.loop-left.false) c.cell_end-e.ensures (omega arith) c.loop-left.invariant.2), c.loop-left.invariant.3 ∙ nth_next c.cell_end-e.ensures c.loop-left.false (omega arith) c.if-left-eq0.false)
+    let k : c.args.n - c.loop-left.left + 1 ≡ c.args.n - (c.loop-left.left - 1) = omega arith in
+    (omega arith, omega arith, rw (← k) (after_next TAB (c.args.n - c.loop-left.left) c.cell_end-e.ensures (omega arith) c.loop-left.invariant.2), c.loop-left.invariant.3 ∙ nth_next c.cell_end-e.ensures c.loop-left.left (omega arith) c.if-left-eq0.false)
