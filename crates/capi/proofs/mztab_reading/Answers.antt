@@ -7,4 +7,4 @@ use Rattle.capi.proofs.Laws.{told_as}
 use Rattle.capi.proofs.mztab_reading.Goals as goal
 
 pub returns : goal.returns
-returns c = told_as c.reading-record.ensures c.number_of.ensures (to_z-of_z w64 c.whole_of.result (record { sfits = c.whole_of.type-inv }) ∙ c.whole_of.ensures) (to_z-of_z w32 c.power_of.result (record { sfits = c.power_of.type-inv }) ∙ c.power_of.ensures) c.double_of.ensures
+returns c = told_as c.reading-record.ensures c.number_of.ensures (to_z-of_z w64 c.whole_of.result (record { sfits = c.whole_of.type_inv }) ∙ c.whole_of.ensures) (to_z-of_z w32 c.power_of.result (record { sfits = c.power_of.type_inv }) ∙ c.power_of.ensures) c.double_of.ensures

@@ -24,7 +24,7 @@ returns-then-c-a c = long_digits c.args.minus _ _ c.args.x (omega arith)
 
 pub returns-then-not-is_near : goal.returns-then-not-is_near
 returns-then-not-is_near c =
-    let power_is : to_z w32 (of_z w32 c.less-p.result) ≡ scale_of c.args.c.now c.args.x = to_z-of_z w32 c.less-p.result (record { sfits = c.less-p.type-inv })
+    let power_is : to_z w32 (of_z w32 c.less-p.result) ≡ scale_of c.args.c.now c.args.x = to_z-of_z w32 c.less-p.result (record { sfits = c.less-p.type_inv })
     ∙ c.less-p.ensures
     ∙ ap (λ (y : ℤ). y -ℤ pos (length c.args.c.now)) (to_z-of_z w32 c.args.x c.ranges.x) in
     long_power c.args.minus c.args.a.now c.args.c.now c.args.x _ power_is (sym c.is_near.ensures ∙ not-true _ c.if-not-is_near.true-raw)
@@ -44,7 +44,7 @@ double_of-double-requires c =
 
 pub returns : goal.returns
 returns c =
-    let power_is : to_z w32 (of_z w32 c.less-p.result) ≡ scale_of c.args.c.now c.args.x = to_z-of_z w32 c.less-p.result (record { sfits = c.less-p.type-inv })
+    let power_is : to_z w32 (of_z w32 c.less-p.result) ≡ scale_of c.args.c.now c.args.x = to_z-of_z w32 c.less-p.result (record { sfits = c.less-p.type_inv })
     ∙ c.less-p.ensures
     ∙ ap (λ (y : ℤ). y -ℤ pos (length c.args.c.now)) (to_z-of_z w32 c.args.x c.ranges.x) in
     let near : leb (nat_abs (to_z w32 (of_z w32 c.less-p.result))) 22 ≡ true = sym c.is_near.ensures ∙ not-false _ c.if-not-is_near.false-raw in
@@ -53,5 +53,5 @@ returns c =
     near
     c.number_on-k.ensures.0
     c.number_on-n.ensures.0
-    (to_z-of_z w64 c.with_sign-numerals.result (record { sfits = c.with_sign-numerals.type-inv }) ∙ c.with_sign-numerals.ensures)
+    (to_z-of_z w64 c.with_sign-numerals.result (record { sfits = c.with_sign-numerals.type_inv }) ∙ c.with_sign-numerals.ensures)
     c.double_of-double.ensures

@@ -32,7 +32,7 @@ pub overflow_cast-result : goal.overflow_cast-result
 overflow_cast-result c =
     let below : c.number_on-n.result < 10 ^ 3 = let w = exponent_digits c.args.x.now _ c.if-x-eq0.false c.without_mark.ensures c.requires in
     omega (arith, three_le (0 + length c.without_mark.result.now) (omega arith)) in
-    let signed_is : to_z w64 (of_z w64 c.with_sign-z.result) ≡ signed c.has_minus-minus.result c.number_on-n.result = to_z-of_z w64 c.with_sign-z.result (record { sfits = c.with_sign-z.type-inv }) ∙ c.with_sign-z.ensures in
+    let signed_is : to_z w64 (of_z w64 c.with_sign-z.result) ≡ signed c.has_minus-minus.result c.number_on-n.result = to_z-of_z w64 c.with_sign-z.result (record { sfits = c.with_sign-z.type_inv }) ∙ c.with_sign-z.ensures in
     let small : nat_abs (to_z w64 (of_z w64 c.with_sign-z.result)) ≤ 999 = signed_small _ c.has_minus-minus.result c.number_on-n.result signed_is below in
     small_fits _ small
 
@@ -40,7 +40,7 @@ pub returns : goal.returns
 returns c =
     let below : c.number_on-n.result < 10 ^ 3 = let w = exponent_digits c.args.x.now _ c.if-x-eq0.false c.without_mark.ensures c.requires in
     omega (arith, three_le (0 + length c.without_mark.result.now) (omega arith)) in
-    let signed_is : to_z w64 (of_z w64 c.with_sign-z.result) ≡ signed c.has_minus-minus.result c.number_on-n.result = to_z-of_z w64 c.with_sign-z.result (record { sfits = c.with_sign-z.type-inv }) ∙ c.with_sign-z.ensures in
+    let signed_is : to_z w64 (of_z w64 c.with_sign-z.result) ≡ signed c.has_minus-minus.result c.number_on-n.result = to_z-of_z w64 c.with_sign-z.result (record { sfits = c.with_sign-z.type_inv }) ∙ c.with_sign-z.ensures in
     let small : nat_abs (to_z w64 (of_z w64 c.with_sign-z.result)) ≤ 999 = signed_small _ c.has_minus-minus.result c.number_on-n.result signed_is below in
     let kept = to_z-of_z w32 (to_z w64 (of_z w64 c.with_sign-z.result)) (small_fits _ small) in
     (kept ∙ signed_is ∙ exponent_some c.args.x.now _ c.if-x-eq0.false c.without_mark.ensures _ _ c.has_minus-minus.ensures c.number_on-n.ensures.0, rw kept small)

@@ -15,4 +15,4 @@ pub with_sign-requires : goal.with_sign-requires
 with_sign-requires c = omega (arith, ten_le (0 + length c.args.u.now) (omega arith))
 
 pub returns : goal.returns
-returns c = ap Whole (to_z-of_z w64 c.with_sign.result (record { sfits = c.with_sign.type-inv }) ∙ c.with_sign.ensures ∙ ap (signed c.args.minus) c.number_on-n.ensures.0)
+returns c = ap Whole (to_z-of_z w64 c.with_sign.result (record { sfits = c.with_sign.type_inv }) ∙ c.with_sign.ensures ∙ ap (signed c.args.minus) c.number_on-n.ensures.0)
