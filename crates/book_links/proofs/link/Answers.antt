@@ -12,8 +12,8 @@ use Rattle.book_links.proofs.link.Goals as goal
 
 pub loop-row-init : goal.loop-row-init
 loop-row-init c =
-    let room : 256 + length c.args.table.now / 54 ≤ length (drop c.args.at c.unlink.new.0) = omega (arith, length-drop c.args.at c.unlink.new.0, c.unlink.ensures.book_len_unchanged, c.requires.table_in_bounds) in
-    (omega arith, refl, refl, linked_none (entries c.args.table.now) (drop c.args.at c.unlink.new.0) (length c.args.table.now / 54) (sym (entry_count c.args.table.now)) room c.unlink.ensures.by_index)
+    let room : 256 + length c.args.table.now / 54 ≤ length (drop c.args.at c.unlink.new.book) = omega (arith, length-drop c.args.at c.unlink.new.book, c.unlink.ensures.book_len_unchanged, c.requires.table_in_bounds) in
+    (omega arith, refl, refl, linked_none (entries c.args.table.now) (drop c.args.at c.unlink.new.book) (length c.args.table.now / 54) (sym (entry_count c.args.table.now)) room c.unlink.ensures.by_index)
 
 pub overflow_add-head : goal.overflow_add-head
 overflow_add-head c =

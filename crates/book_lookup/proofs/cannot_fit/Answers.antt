@@ -7,10 +7,10 @@ use Rattle.book_names.proofs.Laws.Lasts.{no_end_differs}
 use Rattle.book_lookup.proofs.cannot_fit.Goals as goal
 
 pub returns-then-n-eq0 : goal.returns-then-n-eq0
-returns-then-n-eq0 c = absurd_bool h
+returns-then-n-eq0 c = λ h. absurd_bool h
 
 pub returns-then-extent : goal.returns-then-extent
-returns-then-extent c = absurd_bool h
+returns-then-extent c = λ h. absurd_bool h
 
 pub returns : goal.returns
-returns c = no_end_differs c.args.row.now c.args.name.now c.args.extent c.requires.extent_value (search rules) (search rules) (sym c.may_end.ensures ∙ not-true _ h)
+returns c = λ h. no_end_differs c.args.row.now c.args.name.now c.args.extent c.requires.extent_value (search rules) (search rules) (sym c.may_end.ensures ∙ not-true _ h)

@@ -23,12 +23,6 @@ fitting t n at m e =
     let w : at + 54 - at ≡ 54 = omega arith in
     sym (e ∙ ap (λ (k : ℕ). fitsIn (pieces (drop 3 (take k (drop at t)))) n 0 0) w)
 
--- a row whose match is one of the first two does not fit
-not-fit : (m : Match) → (tag_of the_type m ≡ 0) ⊎ (tag_of the_type m ≡ 1) → (i j : ℕ) → m ≡ Fits i j → ⊥
-not-fit Differs k i j e = never e
-not-fit (Misses z) k i j e = let o : ◌≡◌ {A = ℕ} 0 1 = cc in omega arith
-not-fit (Fits a b) k i j e = ⊎_elim (λ (h : 2 ≡ 0). omega arith) (λ (h : 2 ≡ 1). omega arith) k
-
 pub bounds-links-wide : goal.bounds-links-wide
 bounds-links-wide c = omega (arith, c.requires.size)
 
@@ -60,7 +54,7 @@ loop-entry-preserved c =
     let links : List ℕ = c.args.links.now in
     let name : List ℕ = c.args.name.now in
     let row_is : fitsIn (pieces (drop 3 (take 54 (drop (c.loop-entry.entry * 54) table)))) name 0 0 ≡ c.fits_row-row.result = fitting table name (c.loop-entry.entry * 54) _ c.fits_row-row.ensures in
-    reached_next table name links c.requires c.loop-entry.flaw c.loop-entry.entry c.loop-entry.invariant c.loop-entry-test.true c.fits_row-row.result row_is (not-fit _ c.in-Fits.keys2)
+    reached_next table name links c.requires c.loop-entry.flaw c.loop-entry.entry c.loop-entry.invariant c.loop-entry-test.true c.fits_row-row.result row_is c.in_default.not-Fits
     _ _ c.noted-flaw.ensures c.wide-entry-in-loop-entry.ensures
 
 pub returns : goal.returns

@@ -16,10 +16,10 @@ link_tables-requires c =
           c.rows-rows.result
           c.wanted-wanted.result
           c.starts-starts.result
-          c.lay.new.0
-          c.lay-2.new.0
-          c.lay-3.new.0
-          c.lay-4.new.0
+          c.lay.new.text
+          c.lay-2.new.text
+          c.lay-3.new.text
+          c.lay-4.new.text
           c.directory-head.ensures.value
           c.rows-rows.ensures
           c.wanted-wanted.ensures

@@ -29,7 +29,7 @@ unfolding book_in book_of
 returns c =
     let limit = (c.requires.between.going c.requires.more_value).limit in
     let room = placed_length (take c.next_part-carried.result.stand.held (drop (put_so_far c.args.s.carried.stand) (breaks_by (book_of (lines c.args.file.now)) (lines c.args.file.now)))) c.args.places.now 0 in
-    let kept : length c.next_part-carried.new.0 ≡ PLACES = ap (λ (o : Lent). length o.places) c.next_part-carried.ensures.parts.puts ∙ room ∙ c.requires.places_len in
+    let kept : length c.next_part-carried.new.places ≡ PLACES = ap (λ (o : Lent). length o.places) c.next_part-carried.ensures.parts.puts ∙ room ∙ c.requires.places_len in
     record {
       between_2 = record { number = c.requires.between.number; counted = refl; going = c.next_part-carried.ensures.going_2; done = λ q. c.next_part-carried.ensures.parts.all q ∙ ap length (sym (found_all c.args.file.now limit)) };
       moves = record {

@@ -100,7 +100,7 @@ loop-names-preserved c =
       c.either-opt.ensures ∙ rw (c.is_opt.ensures, c.loop-names.invariant.9) (any_more is_opt xs c.loop-names.c c.loop-names.invariant.1 here),
       rw one c.came_before-first.ensures.noted,
       (λ z.
-          ap (λ (j : ℕ). first_named c.came_before-first.new.0 c.args.line.now z j) one ∙ c.came_before-first.ensures.names z
+          ap (λ (j : ℕ). first_named c.came_before-first.new.stamps c.args.line.now z j) one ∙ c.came_before-first.ensures.names z
           ∙ ap (λ (f : ℕ). first_kept f (same z name) (c.loop-names.c - 2 + 2)) (c.loop-names.invariant.11 z) ∙ ap (first_kept (first_from 2 (same z) (take (c.loop-names.c - 2) xs)) (same z name)) two
           ∙ first_more_name (same z) xs c.loop-names.c c.loop-names.invariant.1 here),
     )

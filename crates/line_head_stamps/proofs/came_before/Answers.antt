@@ -29,7 +29,7 @@ last_door-door-requires c =
 
 pub enter-requires : goal.enter-requires
 enter-requires c =
-    let table : List ℕ = c.last_door-door.new.0 in
+    let table : List ℕ = c.last_door-door.new.stamps in
     let few : c.args.count ≤ 254 = c.requires.count_bound.0 in
     let noted : Noted table c.args.line-no c.args.line.now c.args.count = noted_kept c.last_door-door.ensures.guessed few c.args.line-no c.args.line.now c.requires.noted in
     record { stamps_len = noted.places; count_bound = search rules }
@@ -42,7 +42,7 @@ offset_bounds-stamps-h c =
 pub bounds-stamps-h : goal.bounds-stamps-h
 bounds-stamps-h c =
     let below : c.hash-h.result < 4096 = rw c.hash-h.ensures (hash_below (part c.args.at c.args.end c.args.line.now)) in
-    let table : List ℕ = c.last_door-door.new.0 in
+    let table : List ℕ = c.last_door-door.new.stamps in
     let few : c.args.count ≤ 254 = c.requires.count_bound.0 in
     let noted : Noted table c.args.line-no c.args.line.now c.args.count = noted_kept c.last_door-door.ensures.guessed few c.args.line-no c.args.line.now c.requires.noted in
     let entered_room : length (entered table c.args.count c.args.at c.args.end) ≡ ROOM = entered_length table c.args.count c.args.at c.args.end ∙ noted.places in
@@ -61,7 +61,7 @@ offset_bounds-stamps-h-then-door-eq0 c =
 pub bounds-stamps-h-then-door-eq0 : goal.bounds-stamps-h-then-door-eq0
 bounds-stamps-h-then-door-eq0 c =
     let below : c.hash-h.result < 4096 = rw c.hash-h.ensures (hash_below (part c.args.at c.args.end c.args.line.now)) in
-    let table : List ℕ = c.last_door-door.new.0 in
+    let table : List ℕ = c.last_door-door.new.stamps in
     let few : c.args.count ≤ 254 = c.requires.count_bound.0 in
     let noted : Noted table c.args.line-no c.args.line.now c.args.count = noted_kept c.last_door-door.ensures.guessed few c.args.line-no c.args.line.now c.requires.noted in
     let entered_room : length (entered table c.args.count c.args.at c.args.end) ≡ ROOM = entered_length table c.args.count c.args.at c.args.end ∙ noted.places in
@@ -73,7 +73,7 @@ shape_of-stamps-then-door-eq0 c = (returns c).noted.places ∙ sym ((c)).require
 pub returns-then-door-eq0 : goal.returns-then-door-eq0
 returns-then-door-eq0 c =
     let name : Bytes = part c.args.at c.args.end c.args.line.now in
-    let table : List ℕ = c.last_door-door.new.0 in
+    let table : List ℕ = c.last_door-door.new.stamps in
     let few : c.args.count ≤ 254 = c.requires.count_bound.0 in
     let noted : Noted table c.args.line-no c.args.line.now c.args.count = noted_kept c.last_door-door.ensures.guessed few c.args.line-no c.args.line.now c.requires.noted in
     let none = subst (λ (k : ℕ). get_or table k 0 ≡ c.args.line-no → IsDoor c.args.count (get_or table (DOORS + k) 0) → ⊥) c.hash-h.ensures (c.last_door-door.ensures.finds_door.none c.if-door-eq0.true) in
@@ -83,7 +83,7 @@ returns-then-door-eq0 c =
 pub offset_bounds-stamps-door : goal.offset_bounds-stamps-door
 offset_bounds-stamps-door c =
     let name : Bytes = part c.args.at c.args.end c.args.line.now in
-    let table : List ℕ = c.last_door-door.new.0 in
+    let table : List ℕ = c.last_door-door.new.stamps in
     let few : c.args.count ≤ 254 = c.requires.count_bound.0 in
     let door : ℕ = c.last_door-door.result in
     let way : Way table c.args.count name door (DOORS + hash_of name) = subst (λ (k : ℕ). Way table c.args.count name door (DOORS + k)) c.hash-h.ensures (c.last_door-door.ensures.finds_door.way c.if-door-eq0.false) in
@@ -93,7 +93,7 @@ offset_bounds-stamps-door c =
 pub bounds-stamps-door : goal.bounds-stamps-door
 bounds-stamps-door c =
     let name : Bytes = part c.args.at c.args.end c.args.line.now in
-    let table : List ℕ = c.last_door-door.new.0 in
+    let table : List ℕ = c.last_door-door.new.stamps in
     let few : c.args.count ≤ 254 = c.requires.count_bound.0 in
     let noted : Noted table c.args.line-no c.args.line.now c.args.count = noted_kept c.last_door-door.ensures.guessed few c.args.line-no c.args.line.now c.requires.noted in
     let door : ℕ = c.last_door-door.result in
@@ -103,7 +103,7 @@ bounds-stamps-door c =
 
 pub overflow_add-k : goal.overflow_add-k
 overflow_add-k c =
-    let table : List ℕ = c.last_door-door.new.0 in
+    let table : List ℕ = c.last_door-door.new.stamps in
     let few : c.args.count ≤ 254 = c.requires.count_bound.0 in
     let door : ℕ = c.last_door-door.result in
     let ends : get_or table door 0 < ((c)).args.count = c.last_door-door.ensures.finds_door.ends c.if-door-eq0.false in
@@ -113,7 +113,7 @@ overflow_add-k c =
 
 pub offset_bounds-stamps-k : goal.offset_bounds-stamps-k
 offset_bounds-stamps-k c =
-    let table : List ℕ = c.last_door-door.new.0 in
+    let table : List ℕ = c.last_door-door.new.stamps in
     let few : c.args.count ≤ 254 = c.requires.count_bound.0 in
     let door : ℕ = c.last_door-door.result in
     let ends : get_or table door 0 < ((c)).args.count = c.last_door-door.ensures.finds_door.ends c.if-door-eq0.false in
@@ -123,7 +123,7 @@ offset_bounds-stamps-k c =
 
 pub bounds-stamps-k : goal.bounds-stamps-k
 bounds-stamps-k c =
-    let table : List ℕ = c.last_door-door.new.0 in
+    let table : List ℕ = c.last_door-door.new.stamps in
     let few : c.args.count ≤ 254 = c.requires.count_bound.0 in
     let noted : Noted table c.args.line-no c.args.line.now c.args.count = noted_kept c.last_door-door.ensures.guessed few c.args.line-no c.args.line.now c.requires.noted in
     let door : ℕ = c.last_door-door.result in
@@ -134,7 +134,7 @@ bounds-stamps-k c =
 
 pub overflow_add-k-2 : goal.overflow_add-k-2
 overflow_add-k-2 c =
-    let table : List ℕ = c.last_door-door.new.0 in
+    let table : List ℕ = c.last_door-door.new.stamps in
     let few : c.args.count ≤ 254 = c.requires.count_bound.0 in
     let door : ℕ = c.last_door-door.result in
     let ends : get_or table door 0 < ((c)).args.count = c.last_door-door.ensures.finds_door.ends c.if-door-eq0.false in
@@ -144,7 +144,7 @@ overflow_add-k-2 c =
 
 pub offset_bounds-stamps-k-2 : goal.offset_bounds-stamps-k-2
 offset_bounds-stamps-k-2 c =
-    let table : List ℕ = c.last_door-door.new.0 in
+    let table : List ℕ = c.last_door-door.new.stamps in
     let few : c.args.count ≤ 254 = c.requires.count_bound.0 in
     let door : ℕ = c.last_door-door.result in
     let ends : get_or table door 0 < ((c)).args.count = c.last_door-door.ensures.finds_door.ends c.if-door-eq0.false in
@@ -154,7 +154,7 @@ offset_bounds-stamps-k-2 c =
 
 pub bounds-stamps-k-2 : goal.bounds-stamps-k-2
 bounds-stamps-k-2 c =
-    let table : List ℕ = c.last_door-door.new.0 in
+    let table : List ℕ = c.last_door-door.new.stamps in
     let few : c.args.count ≤ 254 = c.requires.count_bound.0 in
     let noted : Noted table c.args.line-no c.args.line.now c.args.count = noted_kept c.last_door-door.ensures.guessed few c.args.line-no c.args.line.now c.requires.noted in
     let door : ℕ = c.last_door-door.result in
@@ -165,7 +165,7 @@ bounds-stamps-k-2 c =
 
 pub slice_bounds-other-count : goal.slice_bounds-other-count
 slice_bounds-other-count c =
-    let table : List ℕ = c.last_door-door.new.0 in
+    let table : List ℕ = c.last_door-door.new.stamps in
     let few : c.args.count ≤ 254 = c.requires.count_bound.0 in
     let noted : Noted table c.args.line-no c.args.line.now c.args.count = noted_kept c.last_door-door.ensures.guessed few c.args.line-no c.args.line.now c.requires.noted in
     let door : ℕ = c.last_door-door.result in
@@ -178,7 +178,7 @@ slice_bounds-other-count c =
 
 pub slice_bounds-other-start : goal.slice_bounds-other-start
 slice_bounds-other-start c =
-    let table : List ℕ = c.last_door-door.new.0 in
+    let table : List ℕ = c.last_door-door.new.stamps in
     let few : c.args.count ≤ 254 = c.requires.count_bound.0 in
     let noted : Noted table c.args.line-no c.args.line.now c.args.count = noted_kept c.last_door-door.ensures.guessed few c.args.line-no c.args.line.now c.requires.noted in
     let door : ℕ = c.last_door-door.result in
@@ -191,7 +191,7 @@ slice_bounds-other-start c =
 
 pub slice_bounds-other-end : goal.slice_bounds-other-end
 slice_bounds-other-end c =
-    let table : List ℕ = c.last_door-door.new.0 in
+    let table : List ℕ = c.last_door-door.new.stamps in
     let few : c.args.count ≤ 254 = c.requires.count_bound.0 in
     let noted : Noted table c.args.line-no c.args.line.now c.args.count = noted_kept c.last_door-door.ensures.guessed few c.args.line-no c.args.line.now c.requires.noted in
     let door : ℕ = c.last_door-door.result in
@@ -205,7 +205,7 @@ slice_bounds-other-end c =
 pub is_astray-astray-requires : goal.is_astray-astray-requires
 is_astray-astray-requires c =
     let name : Bytes = part c.args.at c.args.end c.args.line.now in
-    let table : List ℕ = c.last_door-door.new.0 in
+    let table : List ℕ = c.last_door-door.new.stamps in
     let few : c.args.count ≤ 254 = c.requires.count_bound.0 in
     let noted : Noted table c.args.line-no c.args.line.now c.args.count = noted_kept c.last_door-door.ensures.guessed few c.args.line-no c.args.line.now c.requires.noted in
     let door : ℕ = c.last_door-door.result in
@@ -215,14 +215,14 @@ is_astray-astray-requires c =
 
 pub enter-requires-2 : goal.enter-requires-2
 enter-requires-2 c =
-    let table : List ℕ = c.last_door-door.new.0 in
+    let table : List ℕ = c.last_door-door.new.stamps in
     let few : c.args.count ≤ 254 = c.requires.count_bound.0 in
     let noted : Noted table c.args.line-no c.args.line.now c.args.count = noted_kept c.last_door-door.ensures.guessed few c.args.line-no c.args.line.now c.requires.noted in
     record { stamps_len = noted.places; count_bound = search rules }
 
 pub overflow_add-result : goal.overflow_add-result
 overflow_add-result c =
-    let table : List ℕ = c.last_door-door.new.0 in
+    let table : List ℕ = c.last_door-door.new.stamps in
     let few : c.args.count ≤ 254 = c.requires.count_bound.0 in
     let door : ℕ = c.last_door-door.result in
     let ends : get_or table door 0 < ((c)).args.count = c.last_door-door.ensures.finds_door.ends c.if-door-eq0.false in
@@ -234,7 +234,7 @@ shape_of-stamps-then-ask c = (returns-2 c).noted.places ∙ sym ((((c)))).requir
 pub returns-then-ask : goal.returns-then-ask
 returns-then-ask c =
     let name : Bytes = part c.args.at c.args.end c.args.line.now in
-    let table : List ℕ = c.last_door-door.new.0 in
+    let table : List ℕ = c.last_door-door.new.stamps in
     let few : c.args.count ≤ 254 = c.requires.count_bound.0 in
     let noted : Noted table c.args.line-no c.args.line.now c.args.count = noted_kept c.last_door-door.ensures.guessed few c.args.line-no c.args.line.now c.requires.noted in
     let door : ℕ = c.last_door-door.result in
@@ -252,7 +252,7 @@ returns-then-ask c =
 pub offset_bounds-stamps-door-then-astray : goal.offset_bounds-stamps-door-then-astray
 offset_bounds-stamps-door-then-astray c =
     let name : Bytes = part c.args.at c.args.end c.args.line.now in
-    let table : List ℕ = c.last_door-door.new.0 in
+    let table : List ℕ = c.last_door-door.new.stamps in
     let few : c.args.count ≤ 254 = c.requires.count_bound.0 in
     let door : ℕ = c.last_door-door.result in
     let way : Way table c.args.count name door (DOORS + hash_of name) = subst (λ (k : ℕ). Way table c.args.count name door (DOORS + k)) c.hash-h.ensures (c.last_door-door.ensures.finds_door.way c.if-door-eq0.false) in
@@ -263,7 +263,7 @@ offset_bounds-stamps-door-then-astray c =
 pub bounds-stamps-door-then-astray : goal.bounds-stamps-door-then-astray
 bounds-stamps-door-then-astray c =
     let name : Bytes = part c.args.at c.args.end c.args.line.now in
-    let table : List ℕ = c.last_door-door.new.0 in
+    let table : List ℕ = c.last_door-door.new.stamps in
     let few : c.args.count ≤ 254 = c.requires.count_bound.0 in
     let noted : Noted table c.args.line-no c.args.line.now c.args.count = noted_kept c.last_door-door.ensures.guessed few c.args.line-no c.args.line.now c.requires.noted in
     let entered_room : length (entered table c.args.count c.args.at c.args.end) ≡ ROOM = entered_length table c.args.count c.args.at c.args.end ∙ noted.places in
@@ -279,7 +279,7 @@ shape_of-stamps-then-astray c = (returns-3 c).noted.places ∙ sym (((((c))))).r
 pub returns-then-astray : goal.returns-then-astray
 returns-then-astray c =
     let name : Bytes = part c.args.at c.args.end c.args.line.now in
-    let table : List ℕ = c.last_door-door.new.0 in
+    let table : List ℕ = c.last_door-door.new.stamps in
     let few : c.args.count ≤ 254 = c.requires.count_bound.0 in
     let noted : Noted table c.args.line-no c.args.line.now c.args.count = noted_kept c.last_door-door.ensures.guessed few c.args.line-no c.args.line.now c.requires.noted in
     let door : ℕ = c.last_door-door.result in
@@ -298,7 +298,7 @@ returns-then-astray c =
 pub put_fork-requires : goal.put_fork-requires
 put_fork-requires c =
     let name : Bytes = part c.args.at c.args.end c.args.line.now in
-    let table : List ℕ = c.last_door-door.new.0 in
+    let table : List ℕ = c.last_door-door.new.stamps in
     let few : c.args.count ≤ 254 = c.requires.count_bound.0 in
     let noted : Noted table c.args.line-no c.args.line.now c.args.count = noted_kept c.last_door-door.ensures.guessed few c.args.line-no c.args.line.now c.requires.noted in
     let entered_room : length (entered table c.args.count c.args.at c.args.end) ≡ ROOM = entered_length table c.args.count c.args.at c.args.end ∙ noted.places in
@@ -321,7 +321,7 @@ shape_of-stamps c = (returns-4 c).noted.places ∙ sym ((((c)))).requires.0.plac
 pub returns : goal.returns
 returns c =
     let name : Bytes = part c.args.at c.args.end c.args.line.now in
-    let table : List ℕ = c.last_door-door.new.0 in
+    let table : List ℕ = c.last_door-door.new.stamps in
     let few : c.args.count ≤ 254 = c.requires.count_bound.0 in
     let noted : Noted table c.args.line-no c.args.line.now c.args.count = noted_kept c.last_door-door.ensures.guessed few c.args.line-no c.args.line.now c.requires.noted in
     let door : ℕ = c.last_door-door.result in

@@ -7,12 +7,38 @@ use Rattle.tally.specs.declared.Tally.{Tally}
 use Rattle.tally.proofs.Laws.Adding.{carries, add_past, add_within}
 use Rattle.tally.proofs.add.Goals as goal
 
+-- what either flag says, after the eighth sum
 pub returns-then-either : goal.returns-then-either
-returns-then-either c = rw c.nothing.ensures (add_past (a c) (b c) (flag c) c.if-either.true)
+returns-then-either c =
+    let flag : c.either.result ≡ any is_past (sums (totals c.args.a) (totals c.args.b)) = carries
+      (record {
+        first = c.add-psms.ensures.past;
+        second = c.add-distinct.ensures.past;
+        third = c.add-unique.ensures.past;
+        fourth = c.sum-protein_rows.ensures.past;
+        fifth = c.sum-peptide_rows.ensures.past;
+        sixth = c.sum-psm_rows.ensures.past;
+        seventh = c.sum-small_molecule_rows.ensures.past;
+        eighth = c.sum-missing.ensures.past;
+      })
+      c.either.ensures in
+    rw c.nothing.ensures (add_past c.args.a c.args.b flag c.if-either.true)
 
 pub returns : goal.returns
 returns c =
-    add_within (a c) (b c) (flag c) c.if-either.false _ (record {
+    let flag : c.either.result ≡ any is_past (sums (totals c.args.a) (totals c.args.b)) = carries
+      (record {
+        first = c.add-psms.ensures.past;
+        second = c.add-distinct.ensures.past;
+        third = c.add-unique.ensures.past;
+        fourth = c.sum-protein_rows.ensures.past;
+        fifth = c.sum-peptide_rows.ensures.past;
+        sixth = c.sum-psm_rows.ensures.past;
+        seventh = c.sum-small_molecule_rows.ensures.past;
+        eighth = c.sum-missing.ensures.past;
+      })
+      c.either.ensures in
+    add_within c.args.a c.args.b flag c.if-either.false _ (record {
       psms = c.add-psms.ensures.sum;
       distinct = c.add-distinct.ensures.sum;
       unique = c.add-unique.ensures.sum;

@@ -13,13 +13,19 @@ pub overflow_mul-n : goal.overflow_mul-n
 overflow_mul-n c = omega (arith, reads_room c.loop-i.invariant (omega arith) (omega arith))
 
 pub overflow_cast-n : goal.overflow_cast-n
-overflow_cast-n c = omega (arith, byte c)
+overflow_cast-n c =
+    let byte : get_or c.args.bytes.now (c.args.at + (c.loop-i.i - 1)) 0 < 256 = omega (arith, c.type_inv.bytes (c.args.at + (c.loop-i.i - 1))) in
+    omega arith
 
 pub overflow_add-n-in-loop-i : goal.overflow_add-n-in-loop-i
-overflow_add-n-in-loop-i c = omega (arith, byte c, reads_room c.loop-i.invariant (omega arith) (omega arith))
+overflow_add-n-in-loop-i c =
+    let byte : get_or c.args.bytes.now (c.args.at + (c.loop-i.i - 1)) 0 < 256 = omega (arith, c.type_inv.bytes (c.args.at + (c.loop-i.i - 1))) in
+    omega (arith, reads_room c.loop-i.invariant (omega arith) (omega arith))
 
 pub loop-i-preserved : goal.loop-i-preserved
-loop-i-preserved c = reads_next c.loop-i.invariant (omega arith) (omega arith) (byte c)
+loop-i-preserved c =
+    let byte : get_or c.args.bytes.now (c.args.at + (c.loop-i.i - 1)) 0 < 256 = omega (arith, c.type_inv.bytes (c.args.at + (c.loop-i.i - 1))) in
+    reads_next c.loop-i.invariant (omega arith) (omega arith) byte
 
 pub returns : goal.returns
 returns c = reads_end c.loop-i.invariant (omega arith)

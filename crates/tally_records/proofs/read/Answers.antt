@@ -13,34 +13,59 @@ pub returns-then-not-is_record : goal.returns-then-not-is_record
 returns-then-not-is_record c = rw c.nothing.ensures (read_none c.args.bytes.now (sym c.is_record.ensures ∙ not-true _ c.if-not-is_record.true-raw))
 
 pub total-requires : goal.total-requires
-total-requires c = (size c, omega arith)
+total-requires c =
+    let granted : is_record c.args.bytes.now ≡ true = sym c.is_record.ensures ∙ not-false _ c.if-not-is_record.false-raw in
+    let size : length c.args.bytes.now ≡ 70 = (record_head c.args.bytes.now granted).size in
+    (size, omega arith)
 
 pub total-requires-2 : goal.total-requires-2
-total-requires-2 c = (size c, omega arith)
+total-requires-2 c =
+    let granted : is_record c.args.bytes.now ≡ true = sym c.is_record.ensures ∙ not-false _ c.if-not-is_record.false-raw in
+    let size : length c.args.bytes.now ≡ 70 = (record_head c.args.bytes.now granted).size in
+    (size, omega arith)
 
 pub total-requires-3 : goal.total-requires-3
-total-requires-3 c = (size c, omega arith)
+total-requires-3 c =
+    let granted : is_record c.args.bytes.now ≡ true = sym c.is_record.ensures ∙ not-false _ c.if-not-is_record.false-raw in
+    let size : length c.args.bytes.now ≡ 70 = (record_head c.args.bytes.now granted).size in
+    (size, omega arith)
 
 pub total-requires-4 : goal.total-requires-4
-total-requires-4 c = (size c, omega arith)
+total-requires-4 c =
+    let granted : is_record c.args.bytes.now ≡ true = sym c.is_record.ensures ∙ not-false _ c.if-not-is_record.false-raw in
+    let size : length c.args.bytes.now ≡ 70 = (record_head c.args.bytes.now granted).size in
+    (size, omega arith)
 
 pub total-requires-5 : goal.total-requires-5
-total-requires-5 c = (size c, omega arith)
+total-requires-5 c =
+    let granted : is_record c.args.bytes.now ≡ true = sym c.is_record.ensures ∙ not-false _ c.if-not-is_record.false-raw in
+    let size : length c.args.bytes.now ≡ 70 = (record_head c.args.bytes.now granted).size in
+    (size, omega arith)
 
 pub total-requires-6 : goal.total-requires-6
-total-requires-6 c = (size c, omega arith)
+total-requires-6 c =
+    let granted : is_record c.args.bytes.now ≡ true = sym c.is_record.ensures ∙ not-false _ c.if-not-is_record.false-raw in
+    let size : length c.args.bytes.now ≡ 70 = (record_head c.args.bytes.now granted).size in
+    (size, omega arith)
 
 pub total-requires-7 : goal.total-requires-7
-total-requires-7 c = (size c, omega arith)
+total-requires-7 c =
+    let granted : is_record c.args.bytes.now ≡ true = sym c.is_record.ensures ∙ not-false _ c.if-not-is_record.false-raw in
+    let size : length c.args.bytes.now ≡ 70 = (record_head c.args.bytes.now granted).size in
+    (size, omega arith)
 
 pub total-requires-8 : goal.total-requires-8
-total-requires-8 c = (size c, omega arith)
+total-requires-8 c =
+    let granted : is_record c.args.bytes.now ≡ true = sym c.is_record.ensures ∙ not-false _ c.if-not-is_record.false-raw in
+    let size : length c.args.bytes.now ≡ 70 = (record_head c.args.bytes.now granted).size in
+    (size, omega arith)
 
 pub returns : goal.returns
 returns c =
+    let granted : is_record c.args.bytes.now ≡ true = sym c.is_record.ensures ∙ not-false _ c.if-not-is_record.false-raw in
     read_totals
     c.args.bytes.now
-    (granted c)
+    granted
     c.total.ensures
     c.total-2.ensures
     c.total-3.ensures

@@ -5,4 +5,4 @@ use borrow.Author.Rules.{rules}
 use Rattle.test_book.proofs.show.Goals as goal
 
 pub slice_bounds-write_all-end-2 : goal.slice_bounds-write_all-end-2
-slice_bounds-write_all-end-2 c = omega (arith, length-take c.push_fields-n.result c.push_fields-n.new.0, c.push_fields-n.ensures)
+slice_bounds-write_all-end-2 c = omega (arith, length-take c.push_fields-n.result c.push_fields-n.new.out, c.push_fields-n.ensures)

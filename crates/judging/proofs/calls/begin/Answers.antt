@@ -33,7 +33,7 @@ returns c =
       going = λ q. record {
         limit = c.if-file-gt-LIMIT.false;
         midway = midway_start _ c.beginning-2.ensures (asking_means _ c.asking_of-asking.ensures c.survey-facts.ensures.facts_of c.survey-facts.ensures.declared) (λ i. same_everywhere FIRSTS i 0);
-        declared = rw (four c.survey-facts.new.0 c.survey-facts.ensures.declared.shape.families) c.survey-facts.ensures.declared;
+        declared = rw (four c.survey-facts.new.flags c.survey-facts.ensures.declared.shape.families) c.survey-facts.ensures.declared;
         columns = refl;
         keys = length-replicate {A = ℕ} FIRSTS 0;
       };
