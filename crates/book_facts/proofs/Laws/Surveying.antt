@@ -152,9 +152,9 @@ left_next {file} {x} {n} {rest} l ls e h =
     }
 
 -- lines passed over say nothing
-pub left_passed : {file : List Bytes} {x : Facts} {n k : ℕ} {ls rest : List Bytes} → Passed 77 ls k rest → Left file x n ls → Left file x (n + k) rest
-left_passed {file} {x} {n} {k} {ls} {rest} none h = subst (λ (m : ℕ). Left file x m rest) (let e : n ≡ n + 0 = omega arith in e) h
-left_passed {file} {x} {n} {k} {ls} {rest} (more {n = j} l q o) h =
+pub left_passed : {file : List Bytes} {x : Facts} {n : ℕ} {ls : List Bytes} {k : ℕ} {rest : List Bytes} → Passed 77 ls k rest → Left file x n ls → Left file x (n + k) rest
+left_passed {file} {x} {n} {ls} {k} {rest} none h = subst (λ (m : ℕ). Left file x m rest) (let e : n ≡ n + 0 = omega arith in e) h
+left_passed {file} {x} {n} {ls} {k} {rest} (more {n = j} l q o) h =
     let next = left_next l rest refl (left_passed q h) in
     let same = noted_none x (n + j + 1) l (other_opening l o) in
     subst (λ (m : ℕ). Left file x m rest) (let e : n + j + 1 ≡ n + (j + 1) = omega arith in e) (subst (λ (y : Facts). Left file y (n + j + 1) rest) same next)

@@ -1,4 +1,5 @@
 -- `book_facts::is_asked` meets its contract: the letters are tried one after the other. Assumes nothing.
+use native.Mathlib.Omega.{arith}
 use borrow.Author.Rules.{rules}
 use mathlib.Core.Path.{◌≡◌, ◌∙◌}
 use mathlib.Core.Bool.{Bool}
@@ -42,4 +43,4 @@ returns-in-65 c =
     c.both-in-65.ensures ∙ rw c.either.ensures (keyed 65 c.in-65.is)
 
 pub returns-in_default : goal.returns-in_default
-returns-in_default c = ask_rest c.args.asked c.args.asking.mode c.args.asking.typed c.args.asking.assay c.if-asked-eq42.false c.if-mode-eq0.false c.if-typed-eq0.false c.in_default.0.0.0.0.1 c.in_default.0.0.0.1 c.in_default.0.0.1 c.in_default.0.1 c.in_default.1
+returns-in_default c = ask_rest c.args.asked c.args.asking.mode c.args.asking.typed c.args.asking.assay c.if-asked-eq42.false c.if-mode-eq0.false c.if-typed-eq0.false (λ e. omega arith) (λ e. omega arith) (λ e. omega arith) (λ e. omega arith) (λ e. omega arith)

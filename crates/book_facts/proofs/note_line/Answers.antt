@@ -11,31 +11,13 @@ use Rattle.text_bytes.specs.Bytes.{Bytes, bytes, begins}
 use Rattle.text_bytes.specs.Places.{part}
 use Rattle.text.specs.Lines.{cells, cell}
 use Rattle.text.proofs.Laws.CellParts.{found, missing}
-use Rattle.book_facts.proofs.Laws.Surveying.{nth_some, nth_none, no_field, is_field, noted_none, noted_other, noted_field_lem}
+use Rattle.book_facts.proofs.Laws.Surveying.{nth_some, nth_none, no_field, is_field_lem, noted_none, noted_other, noted_field_lem}
 use Rattle.book_facts.proofs.note_line.Goals as goal
 
 pub returns-in_default : goal.returns-in_default
 returns-in_default c =
     let h = nth_none (cells c.args.line.now) 1 (missing c.args.line.now 1 c.nth_cell.result c.in_default.is c.nth_cell.ensures) in
     sym (noted_none c.args.facts c.args.n c.args.line.now (no_field c.args.line.now (λ e. omega arith)))
-
-pub UNPLACED-5 : goal.UNPLACED-5
-UNPLACED-5 c =
-    let key : (c.in-At.a ≤ c.in-At.e) × (c.in-At.e ≤ length c.args.line.now) × (get_elem? (cells c.args.line.now) 1 ≡ some (part c.in-At.a c.in-At.e c.args.line.now)) = let f = found c.args.line.now 1 c.nth_cell.result c.in-At.a c.in-At.e c.in-At.is c.nth_cell.ensures in
-    (f.0, f.1, f.3) in
-    omega (arith, key)
-
-pub UNPLACED-6 : goal.UNPLACED-6
-UNPLACED-6 c =
-    let key : (c.in-At.a ≤ c.in-At.e) × (c.in-At.e ≤ length c.args.line.now) × (get_elem? (cells c.args.line.now) 1 ≡ some (part c.in-At.a c.in-At.e c.args.line.now)) = let f = found c.args.line.now 1 c.nth_cell.result c.in-At.a c.in-At.e c.in-At.is c.nth_cell.ensures in
-    (f.0, f.1, f.3) in
-    omega (arith, key)
-
-pub UNPLACED-7 : goal.UNPLACED-7
-UNPLACED-7 c =
-    let key : (c.in-At.a ≤ c.in-At.e) × (c.in-At.e ≤ length c.args.line.now) × (get_elem? (cells c.args.line.now) 1 ≡ some (part c.in-At.a c.in-At.e c.args.line.now)) = let f = found c.args.line.now 1 c.nth_cell.result c.in-At.a c.in-At.e c.in-At.is c.nth_cell.ensures in
-    (f.0, f.1, f.3) in
-    omega (arith, key)
 
 pub returns-then-not-begins_with : goal.returns-then-not-begins_with
 unfolding bytes cell
@@ -53,42 +35,6 @@ returns-in_default-nth_cell c =
     let h = nth_none (cells c.args.line.now) 2 (missing c.args.line.now 2 c.nth_cell-2.result c.in_default-nth_cell.is c.nth_cell-2.ensures) in
     sym (noted_none c.args.facts c.args.n c.args.line.now (no_field c.args.line.now (λ e. omega arith)))
 
-pub UNPLACED-16 : goal.UNPLACED-16
-UNPLACED-16 c =
-    let key : (c.in-At.a ≤ c.in-At.e) × (c.in-At.e ≤ length c.args.line.now) × (get_elem? (cells c.args.line.now) 1 ≡ some (part c.in-At.a c.in-At.e c.args.line.now)) = let f = found c.args.line.now 1 c.nth_cell.result c.in-At.a c.in-At.e c.in-At.is c.nth_cell.ensures in
-    (f.0, f.1, f.3) in
-    omega (arith, key)
-
-pub UNPLACED-17 : goal.UNPLACED-17
-UNPLACED-17 c =
-    let key : (c.in-At.a ≤ c.in-At.e) × (c.in-At.e ≤ length c.args.line.now) × (get_elem? (cells c.args.line.now) 1 ≡ some (part c.in-At.a c.in-At.e c.args.line.now)) = let f = found c.args.line.now 1 c.nth_cell.result c.in-At.a c.in-At.e c.in-At.is c.nth_cell.ensures in
-    (f.0, f.1, f.3) in
-    omega (arith, key)
-
-pub UNPLACED-18 : goal.UNPLACED-18
-UNPLACED-18 c =
-    let key : (c.in-At.a ≤ c.in-At.e) × (c.in-At.e ≤ length c.args.line.now) × (get_elem? (cells c.args.line.now) 1 ≡ some (part c.in-At.a c.in-At.e c.args.line.now)) = let f = found c.args.line.now 1 c.nth_cell.result c.in-At.a c.in-At.e c.in-At.is c.nth_cell.ensures in
-    (f.0, f.1, f.3) in
-    omega (arith, key)
-
-pub UNPLACED-19 : goal.UNPLACED-19
-UNPLACED-19 c =
-    let value : (c.in-At-nth_cell.b ≤ c.in-At-nth_cell.f) × (c.in-At-nth_cell.f ≤ length c.args.line.now) × (get_elem? (cells c.args.line.now) 2 ≡ some (part c.in-At-nth_cell.b c.in-At-nth_cell.f c.args.line.now)) = let g = found c.args.line.now 2 c.nth_cell-2.result c.in-At-nth_cell.b c.in-At-nth_cell.f c.in-At-nth_cell.is c.nth_cell-2.ensures in
-    (g.0, g.1, g.3) in
-    omega (arith, value)
-
-pub UNPLACED-20 : goal.UNPLACED-20
-UNPLACED-20 c =
-    let value : (c.in-At-nth_cell.b ≤ c.in-At-nth_cell.f) × (c.in-At-nth_cell.f ≤ length c.args.line.now) × (get_elem? (cells c.args.line.now) 2 ≡ some (part c.in-At-nth_cell.b c.in-At-nth_cell.f c.args.line.now)) = let g = found c.args.line.now 2 c.nth_cell-2.result c.in-At-nth_cell.b c.in-At-nth_cell.f c.in-At-nth_cell.is c.nth_cell-2.ensures in
-    (g.0, g.1, g.3) in
-    omega (arith, value)
-
-pub UNPLACED-21 : goal.UNPLACED-21
-UNPLACED-21 c =
-    let value : (c.in-At-nth_cell.b ≤ c.in-At-nth_cell.f) × (c.in-At-nth_cell.f ≤ length c.args.line.now) × (get_elem? (cells c.args.line.now) 2 ≡ some (part c.in-At-nth_cell.b c.in-At-nth_cell.f c.args.line.now)) = let g = found c.args.line.now 2 c.nth_cell-2.result c.in-At-nth_cell.b c.in-At-nth_cell.f c.in-At-nth_cell.is c.nth_cell-2.ensures in
-    (g.0, g.1, g.3) in
-    omega (arith, value)
-
 pub returns : goal.returns
 returns c =
     let key : (c.in-At.a ≤ c.in-At.e) × (c.in-At.e ≤ length c.args.line.now) × (get_elem? (cells c.args.line.now) 1 ≡ some (part c.in-At.a c.in-At.e c.args.line.now)) = let f = found c.args.line.now 1 c.nth_cell.result c.in-At.a c.in-At.e c.in-At.is c.nth_cell.ensures in
@@ -96,4 +42,4 @@ returns c =
     let value : (c.in-At-nth_cell.b ≤ c.in-At-nth_cell.f) × (c.in-At-nth_cell.f ≤ length c.args.line.now) × (get_elem? (cells c.args.line.now) 2 ≡ some (part c.in-At-nth_cell.b c.in-At-nth_cell.f c.args.line.now)) = let g = found c.args.line.now 2 c.nth_cell-2.result c.in-At-nth_cell.b c.in-At-nth_cell.f c.in-At-nth_cell.is c.nth_cell-2.ensures in
     (g.0, g.1, g.3) in
     let three = sym c.count_cells.ensures ∙ c.if-count_cells-ne3.false in
-    c.note_field.ensures ∙ noted_field_lem c.args.facts c.args.n c.args.line.now (is_field c.args.line.now c.requires three) (nth_some (cells c.args.line.now) 1 _ key.2) (nth_some (cells c.args.line.now) 2 _ value.2)
+    c.note_field.ensures ∙ noted_field_lem c.args.facts c.args.n c.args.line.now (is_field_lem c.args.line.now c.requires three) (nth_some (cells c.args.line.now) 1 _ key.2) (nth_some (cells c.args.line.now) 2 _ value.2)

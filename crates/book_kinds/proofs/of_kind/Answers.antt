@@ -1,4 +1,5 @@
 -- `book_kinds::of_kind`: each arm of the code is the case of its letter. Assumes nothing.
+use native.Mathlib.Omega.{arith}
 use borrow.Author.Rules.{rules}
 use mathlib.Core.Path.{◌≡◌, sym, ap, ◌∙◌}
 use mathlib.Core.List.{List}
@@ -72,4 +73,4 @@ returns-in-116 c = c.is_either-in-116.ensures ∙ case c.args.kind 116 c.args.fa
 
 pub returns-in_default : goal.returns-in_default
 unfolding of_kind
-returns-in_default c = c.is_text.ensures ∙ sym (other_text c.args.kind c.args.family c.args.s.now c.in_default.0.0.0.0.0.0.0.0.0.0.0.0.0.1 c.in_default.0.0.0.0.0.0.0.0.0.0.0.0.1 c.in_default.0.0.0.0.0.0.0.0.0.0.0.1 c.in_default.0.0.0.0.0.0.0.0.0.0.1 c.in_default.0.0.0.0.0.0.0.0.0.1 c.in_default.0.0.0.0.0.0.0.0.1 c.in_default.0.0.0.0.0.0.0.1 c.in_default.0.0.0.0.0.0.1 c.in_default.0.0.0.0.0.1 c.in_default.0.0.0.0.1 c.in_default.0.0.0.1 c.in_default.0.0.1 c.in_default.0.1 c.in_default.1)
+returns-in_default c = c.is_text.ensures ∙ sym (other_text c.args.kind c.args.family c.args.s.now (λ e. omega arith) (λ e. omega arith) (λ e. omega arith) (λ e. omega arith) (λ e. omega arith) (λ e. omega arith) (λ e. omega arith) (λ e. omega arith) (λ e. omega arith) (λ e. omega arith) (λ e. omega arith) (λ e. omega arith) (λ e. omega arith) (λ e. omega arith))

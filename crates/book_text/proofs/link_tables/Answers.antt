@@ -24,7 +24,7 @@ rows_at-to-requires c =
 pub links_at-at-requires : goal.links_at-at-requires
 links_at-at-requires c =
     let long : length c.args.front.now ≡ LINKS = ap length c.requires.front_value ∙ c.requires.text_len in
-    record { table_len_bound = omega (arith, long); table_in_bounds = omega (arith, long) }
+    omega (arith, long)
 
 pub slice_bounds-link-count : goal.slice_bounds-link-count
 slice_bounds-link-count c =

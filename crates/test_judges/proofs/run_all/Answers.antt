@@ -33,10 +33,6 @@ slice_bounds-print_judged-end c = search rules
 pub print_judged-requires : goal.print_judged-requires
 print_judged-requires c = search rules
 
--- src/main.rt:14:26
-pub UNPLACED-6 : goal.UNPLACED-6
-UNPLACED-6 c = search rules
-
 -- src/main.rt:14:9
 pub write_all-requires : goal.write_all-requires
 write_all-requires c = search rules

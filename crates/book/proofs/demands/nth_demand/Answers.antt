@@ -51,13 +51,11 @@ bounds-book-at-2 c =
     omega (arith, room)
 
 pub overflow_mul-cell : goal.overflow_mul-cell
-unfolding place
 overflow_mul-cell c =
     let place : ℕ = 14 + 12 * (c.wide.result + 1) + 7 * c.args.k in
     omega (arith, c.narrow-high.ensures, c.shared_slice_known-4-1.given (place + 1))
 
 pub overflow_add-cell : goal.overflow_add-cell
-unfolding place
 overflow_add-cell c =
     let place : ℕ = 14 + 12 * (c.wide.result + 1) + 7 * c.args.k in
     omega (arith, c.narrow-high.ensures, c.shared_slice_known-4-1.given (place + 1), c.narrow-low.ensures, c.shared_slice_known-3-1.given place)
@@ -113,7 +111,6 @@ bounds-book-at-7 c =
     omega (arith, room)
 
 pub returns : goal.returns
-unfolding place
 returns c =
     let place : ℕ = 14 + 12 * (c.wide.result + 1) + 7 * c.args.k in
     let place_is : place ≡ demand_at c.args.book.now c.args.k = omega (arith, c.wide.ensures) in

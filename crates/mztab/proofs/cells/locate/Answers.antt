@@ -56,7 +56,7 @@ slice_bounds-column_of-end c =
     row_here.1
 
 pub returns-in_default-column_of : goal.returns-in_default-column_of
-unfolding text_of book_in book_of
+unfolding book_in book_of
 returns-in_default-column_of c =
     let of_section : is_section (book_of (lines c.args.file.now)) c.args.section ≡ true = sym c.is_section.ensures ∙ not-false c.is_section.result c.if-not-is_section.false-raw in
     let row_here : (c.in-On.a ≤ c.in-On.e) × (c.in-On.e ≤ length c.args.file.now) × (c.in-On.a ≡ after LF (c.in-On.line - 1) c.args.file.now) × (row_of c.args.file.now c.args.section c.args.row ≡ some (line_of c.in-On.line (part c.in-On.a c.in-On.e c.args.file.now))) = row_found_lem c.args.file.now (row_of c.args.file.now c.args.section c.args.row) c.row_of.result c.in-On.line c.in-On.a c.in-On.e c.in-On.is c.row_of.ensures in
@@ -67,7 +67,6 @@ returns-in_default-column_of c =
 
 -- the cell's number is at most one more than the line's bytes
 pub overflow_add-cell : goal.overflow_add-cell
-unfolding text_of
 overflow_add-cell c =
     let row_here : (c.in-On.a ≤ c.in-On.e) × (c.in-On.e ≤ length c.args.file.now) × (c.in-On.a ≡ after LF (c.in-On.line - 1) c.args.file.now) × (row_of c.args.file.now c.args.section c.args.row ≡ some (line_of c.in-On.line (part c.in-On.a c.in-On.e c.args.file.now))) = row_found_lem c.args.file.now (row_of c.args.file.now c.args.section c.args.row) c.row_of.result c.in-On.line c.in-On.a c.in-On.e c.in-On.is c.row_of.ensures in
     let text_of : Bytes = part c.in-On.a c.in-On.e c.args.file.now in
@@ -78,7 +77,6 @@ overflow_add-cell c =
     omega (arith, column_below text_of c.args.column _ cell_here.3, line_length, c.if-file-gt-LIMIT.false)
 
 pub overflow_add-start : goal.overflow_add-start
-unfolding text_of
 overflow_add-start c =
     let row_here : (c.in-On.a ≤ c.in-On.e) × (c.in-On.e ≤ length c.args.file.now) × (c.in-On.a ≡ after LF (c.in-On.line - 1) c.args.file.now) × (row_of c.args.file.now c.args.section c.args.row ≡ some (line_of c.in-On.line (part c.in-On.a c.in-On.e c.args.file.now))) = row_found_lem c.args.file.now (row_of c.args.file.now c.args.section c.args.row) c.row_of.result c.in-On.line c.in-On.a c.in-On.e c.in-On.is c.row_of.ensures in
     let text_of : Bytes = part c.in-On.a c.in-On.e c.args.file.now in
@@ -89,7 +87,6 @@ overflow_add-start c =
     omega (arith, cell_here, line_length)
 
 pub overflow_add-end : goal.overflow_add-end
-unfolding text_of
 overflow_add-end c =
     let row_here : (c.in-On.a ≤ c.in-On.e) × (c.in-On.e ≤ length c.args.file.now) × (c.in-On.a ≡ after LF (c.in-On.line - 1) c.args.file.now) × (row_of c.args.file.now c.args.section c.args.row ≡ some (line_of c.in-On.line (part c.in-On.a c.in-On.e c.args.file.now))) = row_found_lem c.args.file.now (row_of c.args.file.now c.args.section c.args.row) c.row_of.result c.in-On.line c.in-On.a c.in-On.e c.in-On.is c.row_of.ensures in
     let text_of : Bytes = part c.in-On.a c.in-On.e c.args.file.now in
@@ -100,7 +97,7 @@ overflow_add-end c =
     omega (arith, cell_here, line_length)
 
 pub returns : goal.returns
-unfolding text_of book_in book_of
+unfolding book_in book_of
 returns c =
     let of_section : is_section (book_of (lines c.args.file.now)) c.args.section ≡ true = sym c.is_section.ensures ∙ not-false c.is_section.result c.if-not-is_section.false-raw in
     let row_here : (c.in-On.a ≤ c.in-On.e) × (c.in-On.e ≤ length c.args.file.now) × (c.in-On.a ≡ after LF (c.in-On.line - 1) c.args.file.now) × (row_of c.args.file.now c.args.section c.args.row ≡ some (line_of c.in-On.line (part c.in-On.a c.in-On.e c.args.file.now))) = row_found_lem c.args.file.now (row_of c.args.file.now c.args.section c.args.row) c.row_of.result c.in-On.line c.in-On.a c.in-On.e c.in-On.is c.row_of.ensures in
