@@ -5,7 +5,7 @@ use mathlib.Core.List.{List, [], ◌∷◌}
 use mathlib.Core.Logic.{inl}
 use Prim.Native.Nat.{ℕ}
 use native.Mathlib.Omega.{arith}
-use borrow.Author.Rules.{rules}
+use borrow.Author.Rules.{rules as tactics}
 use lib.ListN.{length}
 use Rattle.text_bytes.specs.Bytes.{Bytes}
 use Rattle.text.specs.Lines.{lines}
@@ -21,11 +21,11 @@ module _ (b : Book) where
   -- the numbers of the rules rise
   rising : Rising 0 (rules b)
   unfolding rules
-  rising = search rules
+  rising = search tactics
 
   end_rising : Rising 0 (end_rules b)
   unfolding end_rules
-  end_rising = search rules
+  end_rising = search tactics
 
   -- each break comes before all that stand after it, so none stands twice
   pub by_sorted : (file : List Bytes) → Sorted (breaks_by b file)
