@@ -3,7 +3,7 @@
 --     big-lit          a constant whose bound a proof shows
 --     init-times       a local is made to hold n times one value
 --     times-in         such a local is an array in memory.        array-room   an array in memory is room again
---     lends-all        an array in memory is lent as a `&κ [T]`.        all_back     and comes back when κ is over
+--     lends-all        an array in memory is lent as a `&κ [T]`, with tokens whose lifetimes' meet is within κ and which come back at once.        all_back     and the array comes back when κ is over
 --     lends-mut        an array in memory is lent as a `&κ mut [T]`.        mut_back     and comes back when κ is over, at its last value
 -- In all of them n is a variable, so no list of n elements is computed.
 -- Assumes `Logic`.
@@ -12,23 +12,25 @@ use Prim.Native.Nat.{ℕ, zero, suc}
 use mathlib.Core.List.{List, [], ◌∷◌}
 use lib.ListN.{length, replicate, length-replicate}
 use seplogic.Ra.Ura.{Ura}
-use seplogic.Ra.TreeShare.{full_share}
+use base.Fraction.{full_share}
 use mir.Syntax.{Lifetime, Width, ty_array, int_big}
 use mir.Val.{Val, vint, Fits}
 use base.Logic.{SProp, ent, sep, ex, emp, via, comm∗, mono∗, mono_l, emp∗, guard_i}
-use base.Fml.{Lft, GName, fat, froom, fdead, flent}
+use base.Fml.{Lft, GName, Incl, fat, froom, fdead, flent}
+use ghost.Rules.{Toks, span}
 use prog.Wp.{Env}
-use types.Logic.{Logic, sem}
+use types.Logic.{Logic, sem, lfts}
 use contract.Monad.{fact, fact_i}
-use types.Kit.{Item, prop, Step, step, ‵, ◌⊛◌, some, later, nth, put, ◌$◌, ◌∵◌, !, qed, by, move, drop, use1, use3, split, pick, fsplit, fjoin, feq_i, await, updating, now as at_once, done}
+use types.Kit.{Item, prop, Step, step, ‵, raw, ◌⊛◌, some, later, nth, put, ◌$◌, ◌∵◌, !, qed, by, move, drop, use1, use3, split, pick, fsplit, fjoin, feq_i, await, updating, now as at_once, done}
 use types.Run.{Opd, Writes, init, forget}
 use types.SemTy.{cells, Arr}
 use types.Share.{arr_parts}
 use types.Tokens.{lent_back}
 use denote.RattleType.{RattleType}
 use denote.Shadow.{shadow}
+use denote.Shares.{SharesAsFrom}
 use denote.Laws.{Is, Makes, Lawful, Copy}
-use denote.Memory.{lone, mem, part_at, shares}
+use denote.Memory.{lone, mem, part_at, shares, shared_of}
 use denote.Array.{each, Array, array_val, Array-repeat, Array-Lawful}
 use denote.ArrayMemory.{Single, Array-apart, Array-whole}
 use denote.Slice.{slice_val, MutSlice, Room, finally}
@@ -47,7 +49,7 @@ pub facts4 : {M : Type 1} (𝓤 : Ura M) {φ ψ χ ω : Type 0} → φ → ψ �
 facts4 𝓤 {φ} w x y z = via 𝓤 (sep 𝓤 (emp 𝓤) (emp 𝓤)) (emp∗ 𝓤 (emp 𝓤)) (mono∗ 𝓤 (fact_i 𝓤 φ (emp 𝓤) w) (facts3 𝓤 x y z))
 
 -- n times one value are n times its machine value
-times_is : (R : RattleType) (n : ℕ) (x : R.Denot) (u : Val) → Is R x (u ∷ []) → shadow (each R.Denot R.own (replicate n x) (replicate n u))
+times_is : (R : RattleType) (n : ℕ) (x : R.Denot) (u : Val) → Is R x (u ∷ []) → shadow (each R.Denot R.own_val (replicate n x) (replicate n u))
 times_is R zero x u is = tt
 times_is R (suc n) x u is = (is, times_is R n x u is)
 
@@ -79,10 +81,11 @@ module _ {M : Type 1} {𝓤 : Ura M} (𝓛 : Logic 𝓤) (R : RattleType) (n : �
       qed 𝓛 (‵ (part_at (Array R n) full_share xs b 0) ∷ []) ∵
       use1 𝓛 (some (λ (v : Val). ‵ (fat full_share (ty_array (lone R.mir) n) b 0 v) ⊛ ‵ ((Array R n).own_val xs (v ∷ [])))) (part_out 𝓛 (Array R n) refl full_share xs b 0) $ pick ! (λ v. split ! $ move ! (1 ∷ []) $ drop ! $ forget ! 0 refl $ done !)
 
-  pub lends_all : Single R.mir → (ℓ : Lifetime) (κ : Lft) (xs : List R.Denot) → Room R (length xs) → ent 𝓤 (sem 𝓛 (part_at (Array R n) full_share xs b 0)) (H.⇛ (ex 𝓤 (LentShrs 𝓛 R ℓ κ full_share xs b 0)))
-  lends_all one ℓ κ xs room =
-      qed 𝓛 (‵ (part_at (Array R n) full_share xs b 0) ∷ []) ∵ use1 𝓛 (‵ ((arr_parts (shares R) n).part full_share xs b 0)) (Array-apart 𝓛 R full_share one n xs b 0) $
-      fsplit ! $ drop ! $ feq_i ! ℕ (length xs) (length xs) refl $ fjoin ! $ by ! (lends_shr_slice 𝓛 R ℓ κ full_share xs b 0 room)
+  pub lends_all : Single R.mir → (ℓ : Lifetime) (κ : Lft) (xs : List R.Denot) → Room R (length xs) → (l : Lft) → SharesAsFrom 𝓛 full_share R (shared_of R) l → (ts : Toks) → Incl (span ts) l → Incl (span ts) κ
+      → ent 𝓤 (sep 𝓤 (sem 𝓛 (part_at (Array R n) full_share xs b 0)) (lfts 𝓛 ts)) (H.⇛ (sep 𝓤 (LentShrs 𝓛 R ℓ κ full_share xs b 0) (lfts 𝓛 ts)))
+  lends_all one ℓ κ xs room l s ts inc sp =
+      qed 𝓛 (‵ (part_at (Array R n) full_share xs b 0) ∷ raw (lfts 𝓛 ts) ∷ []) ∵ use1 𝓛 (‵ ((arr_parts (shares R) n).part full_share xs b 0)) (Array-apart 𝓛 R full_share one n xs b 0) $
+      fsplit ! $ drop ! $ feq_i ! ℕ (length xs) (length xs) refl $ fjoin ! $ by ! (lends_shr_slice 𝓛 R ℓ κ full_share xs b 0 room l s ts inc sp)
 
   pub all_back : (κ : Lft) (xs : List R.Denot) → length xs ≡ n → ent 𝓤 (sep 𝓤 (A.dead κ) (A.lent κ ((arr_parts (shares R) (length xs)).part full_share xs b 0))) (H.⇛ (sem 𝓛 (part_at (Array R n) full_share xs b 0)))
   all_back κ xs l =

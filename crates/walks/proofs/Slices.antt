@@ -23,7 +23,7 @@ use denote.Plain.{uint_Makes, uint_vals, uint_Tells}
 use denote.Builtin.{usize, unit}
 use denote.Ref.{Bor, MutBor}
 use denote.Signature.{Signature, plain, shr_slice_of, mut_slice_of}
-use denote.Slice.{slice_val, MutSlice, ShrSlice, Room, shr_slice_vals, mut_slice_Tells, shr_slice_Tells}
+use denote.Slice.{slice_val, MutSlice, ShrSlice, Room, shr_slice_vals, mut_slice_vals, mut_slice_Tells, shr_slice_Tells}
 use denote.Steps.{owned, nothing}
 use denote.Triple.Clauses.{Clauses, Ended, at_exit, closing}
 use denote.Triple.Entry.{on_entry}
@@ -42,7 +42,7 @@ module _ (S R : RattleType) where
   abbrev pub stayed : Stays ended.signature.params ended.kept
   stayed = (stay_none_slice (0 ∷ []) tt (plain (λ _. S)) yes, (stay_slice (1 ∷ []) tt (plain (λ _. R)), (stay_none (λ _. usize) yes, (stay_none (λ _. usize) yes, tt))))
 
-  module _ (κ κ' : Lft) (p : MutBor (List S.Denot)) (b o : ℕ) (γ : GName) (ys : List R.Denot) (i n : ℕ) where
+  module _ (κ κ' : Lft) (p : Bor (List S.Denot)) (b o : ℕ) (γ : GName) (ys : List R.Denot) (i n : ℕ) where
     -- the borrow of the lent slice, at the list l
     abbrev pub lent_at : List R.Denot → MutBor (List R.Denot)
     lent_at l = record { ref_ptr = (b, o); ghost_name = γ; now = l }
@@ -51,7 +51,7 @@ module _ (S R : RattleType) where
     lfts = (κ, (κ', tt))
 
     abbrev Arg : Type 0
-    Arg = Bor (List S.Denot) × (Bor (List R.Denot) × (ℕ × (ℕ × Unit {0})))
+    Arg = Bor (List S.Denot) × (MutBor (List R.Denot) × (ℕ × (ℕ × Unit {0})))
 
     abbrev pub args : Arg
     args = (p, (lent_at ys, (i, (n, tt))))
@@ -102,7 +102,7 @@ module _ (S R : RattleType) where
         → Meets 𝓛 signature run (closing 𝓛 ended c)
     meets mono walk =
         walk_Meets 𝓛 ended stayed (Goes-none_slice 𝓛 2 (0 ∷ []) tt (plain (λ _. S)) yes, (Goes-slice 𝓛 2 1 tt (plain (λ _. R)), (Goes-none 𝓛 2 (λ _. usize) yes (λ κs x f. refl), (Goes-none 𝓛 2 (λ _. usize) yes (λ κs x f. refl), tt)))) c run mono
-        (walked 𝓛 ended stayed c run (λ κs. (shr_slice_vals, (shr_slice_vals, (uint_vals w64, (uint_vals w64, tt)))))
+        (walked 𝓛 ended stayed c run (λ κs. (shr_slice_vals, (mut_slice_vals, (uint_vals w64, (uint_vals w64, tt)))))
         (λ κs. (shr_slice_Tells (named 0) κs.0 S, (mut_slice_Tells (named 1) κs.1.0 R, (uint_Tells w64, (uint_Tells w64, tt)))))
         (λ κs qs bounds a g are. walk κs.0 κs.1.0 qs.0 qs.1.0 a.0 a.1.0.ref_ptr.0 a.1.0.ref_ptr.1 a.1.0.ghost_name a.1.0.now a.1.1.0 a.1.1.1.0 g
         (record { is_p = are.0; rooms = are.1.0.0.1; i_fits = are.1.1.0.1; n_fits = are.1.1.1.0.1 })))
