@@ -52,8 +52,5 @@ loop-k-preserved c =
     let at_table : TableAt c.args.front.now c.loop-k.k c.rows_at-from.result c.rows_at-to.result c.links_at-at.result = table_at _ _ _ _ _ c.loop-k-test.true (ap length c.requires.front_value ∙ c.requires.text_len) (ap (take FRONT) c.requires.front_value ∙ c.requires.text_value) c.rows_at-from.ensures c.rows_at-to.ensures c.links_at-at.ensures in
     midway_turn _ _ _ _ _ _ _ c.loop-k.invariant at_table c.link.ensures
 
-pub shape_of-text : goal.shape_of-text
-shape_of-text c = omega (arith, c.loop-k.invariant.long, c.requires.text_len)
-
 pub returns : goal.returns
 returns c = midway_end c.loop-k.text c.loop-k.k c.loop-k-test.false c.loop-k.invariant

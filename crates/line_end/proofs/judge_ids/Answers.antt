@@ -56,7 +56,7 @@ loop-i-preserved c = (
   omega (arith, c.put_if-c.ensures.most, c.loop-i.invariant.1),
   omega (arith, c.loop-i.invariant.2),
   search rules,
-  ids_turn c.args.d c.args.asked (marks c.args.slots.now) (get_or c.args.flags.now c.args.d.each []) c.args.from c.args.line-no c.loop-i.i (lent c.args.places.now c.args.count) c.loop-i-test.true c.both.ensures (rw (absent_at c.args.slots.now (c.args.from + c.loop-i.i)) at c.both-lacking.ensures) (omega (arith, c.loop-i.invariant.2)) c.put_if-c.ensures c.loop-i.invariant.4,
+  ids_turn c.args.d c.args.asked (marks c.args.slots.now) (get_or c.args.flags.now c.args.d.each []) c.args.from c.args.line_no c.loop-i.i (lent c.args.places.now c.args.count) c.loop-i-test.true c.both.ensures (rw (absent_at c.args.slots.now (c.args.from + c.loop-i.i)) at c.both-lacking.ensures) (omega (arith, c.loop-i.invariant.2)) c.put_if-c.ensures c.loop-i.invariant.4,
 )
 
 pub returns : goal.returns

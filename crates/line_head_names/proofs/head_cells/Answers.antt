@@ -42,9 +42,6 @@ head_cell-k-requires c =
       kinds_len = c.loop-names.invariant.8;
     }
 
-pub shape_of-stamps-then-e-line : goal.shape_of-stamps-then-e-line
-shape_of-stamps-then-e-line c = omega (arith, c.came_before-first.ensures.noted.places, c.requires.stamps_len)
-
 pub returns-then-e-line : goal.returns-then-e-line
 returns-then-e-line c =
     let xs = cells (drop c.args.names.from c.args.line.now) in

@@ -31,7 +31,7 @@ pub enter-requires : goal.enter-requires
 enter-requires c =
     let table : List ℕ = c.last_door-door.new.stamps in
     let few : c.args.count ≤ 254 = c.requires.count_bound.0 in
-    let noted : Noted table c.args.line-no c.args.line.now c.args.count = noted_kept c.last_door-door.ensures.guessed few c.args.line-no c.args.line.now c.requires.noted in
+    let noted : Noted table c.args.line_no c.args.line.now c.args.count = noted_kept c.last_door-door.ensures.guessed few c.args.line_no c.args.line.now c.requires.noted in
     record { stamps_len = noted.places; count_bound = search rules }
 
 pub offset_bounds-stamps-h : goal.offset_bounds-stamps-h
@@ -44,7 +44,7 @@ bounds-stamps-h c =
     let below : c.hash-h.result < 4096 = rw c.hash-h.ensures (hash_below (part c.args.at c.args.end c.args.line.now)) in
     let table : List ℕ = c.last_door-door.new.stamps in
     let few : c.args.count ≤ 254 = c.requires.count_bound.0 in
-    let noted : Noted table c.args.line-no c.args.line.now c.args.count = noted_kept c.last_door-door.ensures.guessed few c.args.line-no c.args.line.now c.requires.noted in
+    let noted : Noted table c.args.line_no c.args.line.now c.args.count = noted_kept c.last_door-door.ensures.guessed few c.args.line_no c.args.line.now c.requires.noted in
     let entered_room : length (entered table c.args.count c.args.at c.args.end) ≡ ROOM = entered_length table c.args.count c.args.at c.args.end ∙ noted.places in
     omega (arith, below, ap length c.enter.ensures, entered_room)
 
@@ -63,21 +63,18 @@ bounds-stamps-h-then-door-eq0 c =
     let below : c.hash-h.result < 4096 = rw c.hash-h.ensures (hash_below (part c.args.at c.args.end c.args.line.now)) in
     let table : List ℕ = c.last_door-door.new.stamps in
     let few : c.args.count ≤ 254 = c.requires.count_bound.0 in
-    let noted : Noted table c.args.line-no c.args.line.now c.args.count = noted_kept c.last_door-door.ensures.guessed few c.args.line-no c.args.line.now c.requires.noted in
+    let noted : Noted table c.args.line_no c.args.line.now c.args.count = noted_kept c.last_door-door.ensures.guessed few c.args.line_no c.args.line.now c.requires.noted in
     let entered_room : length (entered table c.args.count c.args.at c.args.end) ≡ ROOM = entered_length table c.args.count c.args.at c.args.end ∙ noted.places in
     rw length-set (omega (arith, below, ap length c.enter.ensures, entered_room))
-
-pub shape_of-stamps-then-door-eq0 : goal.shape_of-stamps-then-door-eq0
-shape_of-stamps-then-door-eq0 c = (returns c).noted.places ∙ sym ((c)).requires.0.places
 
 pub returns-then-door-eq0 : goal.returns-then-door-eq0
 returns-then-door-eq0 c =
     let name : Bytes = part c.args.at c.args.end c.args.line.now in
     let table : List ℕ = c.last_door-door.new.stamps in
     let few : c.args.count ≤ 254 = c.requires.count_bound.0 in
-    let noted : Noted table c.args.line-no c.args.line.now c.args.count = noted_kept c.last_door-door.ensures.guessed few c.args.line-no c.args.line.now c.requires.noted in
-    let none = subst (λ (k : ℕ). get_or table k 0 ≡ c.args.line-no → IsDoor c.args.count (get_or table (DOORS + k) 0) → ⊥) c.hash-h.ensures (c.last_door-door.ensures.finds_door.none c.if-door-eq0.true) in
-    adds_kept c.last_door-door.ensures.guessed few c.args.line-no c.args.line.now (stamp_written c.args.line-no c.args.count c.enter.ensures c.hash-h.ensures)
+    let noted : Noted table c.args.line_no c.args.line.now c.args.count = noted_kept c.last_door-door.ensures.guessed few c.args.line_no c.args.line.now c.requires.noted in
+    let none = subst (λ (k : ℕ). get_or table k 0 ≡ c.args.line_no → IsDoor c.args.count (get_or table (DOORS + k) 0) → ⊥) c.hash-h.ensures (c.last_door-door.ensures.finds_door.none c.if-door-eq0.true) in
+    adds_kept c.last_door-door.ensures.guessed few c.args.line_no c.args.line.now (stamp_written c.args.line_no c.args.count c.enter.ensures c.hash-h.ensures)
     (adds_first noted few c.args.at c.args.end c.requires.count_bound.1 c.requires.count_bound.2 name refl none)
 
 pub offset_bounds-stamps-door : goal.offset_bounds-stamps-door
@@ -95,7 +92,7 @@ bounds-stamps-door c =
     let name : Bytes = part c.args.at c.args.end c.args.line.now in
     let table : List ℕ = c.last_door-door.new.stamps in
     let few : c.args.count ≤ 254 = c.requires.count_bound.0 in
-    let noted : Noted table c.args.line-no c.args.line.now c.args.count = noted_kept c.last_door-door.ensures.guessed few c.args.line-no c.args.line.now c.requires.noted in
+    let noted : Noted table c.args.line_no c.args.line.now c.args.count = noted_kept c.last_door-door.ensures.guessed few c.args.line_no c.args.line.now c.requires.noted in
     let door : ℕ = c.last_door-door.result in
     let way : Way table c.args.count name door (DOORS + hash_of name) = subst (λ (k : ℕ). Way table c.args.count name door (DOORS + k)) c.hash-h.ensures (c.last_door-door.ensures.finds_door.way c.if-door-eq0.false) in
     let door_below : door < 12288 = omega (arith, (way_range way (omega arith) (omega (arith, hash_below name))).1, few) in
@@ -106,8 +103,8 @@ overflow_add-k c =
     let table : List ℕ = c.last_door-door.new.stamps in
     let few : c.args.count ≤ 254 = c.requires.count_bound.0 in
     let door : ℕ = c.last_door-door.result in
-    let ends : get_or table door 0 < ((c)).args.count = c.last_door-door.ensures.finds_door.ends c.if-door-eq0.false in
-    let number_below : c.index-k.result < (((c))).args.count = omega (arith, c.index-k.ensures, ends) in
+    let ends : get_or table door 0 < c.args.count = c.last_door-door.ensures.finds_door.ends c.if-door-eq0.false in
+    let number_below : c.index-k.result < c.args.count = omega (arith, c.index-k.ensures, ends) in
     let number_few : c.index-k.result < 254 = omega (arith, number_below, few) in
     omega (arith, number_few)
 
@@ -116,8 +113,8 @@ offset_bounds-stamps-k c =
     let table : List ℕ = c.last_door-door.new.stamps in
     let few : c.args.count ≤ 254 = c.requires.count_bound.0 in
     let door : ℕ = c.last_door-door.result in
-    let ends : get_or table door 0 < ((c)).args.count = c.last_door-door.ensures.finds_door.ends c.if-door-eq0.false in
-    let number_below : c.index-k.result < (((c))).args.count = omega (arith, c.index-k.ensures, ends) in
+    let ends : get_or table door 0 < c.args.count = c.last_door-door.ensures.finds_door.ends c.if-door-eq0.false in
+    let number_below : c.index-k.result < c.args.count = omega (arith, c.index-k.ensures, ends) in
     let number_few : c.index-k.result < 254 = omega (arith, number_below, few) in
     omega (arith, number_few)
 
@@ -125,10 +122,10 @@ pub bounds-stamps-k : goal.bounds-stamps-k
 bounds-stamps-k c =
     let table : List ℕ = c.last_door-door.new.stamps in
     let few : c.args.count ≤ 254 = c.requires.count_bound.0 in
-    let noted : Noted table c.args.line-no c.args.line.now c.args.count = noted_kept c.last_door-door.ensures.guessed few c.args.line-no c.args.line.now c.requires.noted in
+    let noted : Noted table c.args.line_no c.args.line.now c.args.count = noted_kept c.last_door-door.ensures.guessed few c.args.line_no c.args.line.now c.requires.noted in
     let door : ℕ = c.last_door-door.result in
-    let ends : get_or table door 0 < ((c)).args.count = c.last_door-door.ensures.finds_door.ends c.if-door-eq0.false in
-    let number_below : c.index-k.result < (((c))).args.count = omega (arith, c.index-k.ensures, ends) in
+    let ends : get_or table door 0 < c.args.count = c.last_door-door.ensures.finds_door.ends c.if-door-eq0.false in
+    let number_below : c.index-k.result < c.args.count = omega (arith, c.index-k.ensures, ends) in
     let number_few : c.index-k.result < 254 = omega (arith, number_below, few) in
     omega (arith, number_few, noted.places)
 
@@ -137,8 +134,8 @@ overflow_add-k-2 c =
     let table : List ℕ = c.last_door-door.new.stamps in
     let few : c.args.count ≤ 254 = c.requires.count_bound.0 in
     let door : ℕ = c.last_door-door.result in
-    let ends : get_or table door 0 < ((c)).args.count = c.last_door-door.ensures.finds_door.ends c.if-door-eq0.false in
-    let number_below : c.index-k.result < (((c))).args.count = omega (arith, c.index-k.ensures, ends) in
+    let ends : get_or table door 0 < c.args.count = c.last_door-door.ensures.finds_door.ends c.if-door-eq0.false in
+    let number_below : c.index-k.result < c.args.count = omega (arith, c.index-k.ensures, ends) in
     let number_few : c.index-k.result < 254 = omega (arith, number_below, few) in
     omega (arith, number_few)
 
@@ -147,8 +144,8 @@ offset_bounds-stamps-k-2 c =
     let table : List ℕ = c.last_door-door.new.stamps in
     let few : c.args.count ≤ 254 = c.requires.count_bound.0 in
     let door : ℕ = c.last_door-door.result in
-    let ends : get_or table door 0 < ((c)).args.count = c.last_door-door.ensures.finds_door.ends c.if-door-eq0.false in
-    let number_below : c.index-k.result < (((c))).args.count = omega (arith, c.index-k.ensures, ends) in
+    let ends : get_or table door 0 < c.args.count = c.last_door-door.ensures.finds_door.ends c.if-door-eq0.false in
+    let number_below : c.index-k.result < c.args.count = omega (arith, c.index-k.ensures, ends) in
     let number_few : c.index-k.result < 254 = omega (arith, number_below, few) in
     omega (arith, number_few)
 
@@ -156,10 +153,10 @@ pub bounds-stamps-k-2 : goal.bounds-stamps-k-2
 bounds-stamps-k-2 c =
     let table : List ℕ = c.last_door-door.new.stamps in
     let few : c.args.count ≤ 254 = c.requires.count_bound.0 in
-    let noted : Noted table c.args.line-no c.args.line.now c.args.count = noted_kept c.last_door-door.ensures.guessed few c.args.line-no c.args.line.now c.requires.noted in
+    let noted : Noted table c.args.line_no c.args.line.now c.args.count = noted_kept c.last_door-door.ensures.guessed few c.args.line_no c.args.line.now c.requires.noted in
     let door : ℕ = c.last_door-door.result in
-    let ends : get_or table door 0 < ((c)).args.count = c.last_door-door.ensures.finds_door.ends c.if-door-eq0.false in
-    let number_below : c.index-k.result < (((c))).args.count = omega (arith, c.index-k.ensures, ends) in
+    let ends : get_or table door 0 < c.args.count = c.last_door-door.ensures.finds_door.ends c.if-door-eq0.false in
+    let number_below : c.index-k.result < c.args.count = omega (arith, c.index-k.ensures, ends) in
     let number_few : c.index-k.result < 254 = omega (arith, number_below, few) in
     omega (arith, number_few, noted.places)
 
@@ -167,11 +164,11 @@ pub slice_bounds-other-count : goal.slice_bounds-other-count
 slice_bounds-other-count c =
     let table : List ℕ = c.last_door-door.new.stamps in
     let few : c.args.count ≤ 254 = c.requires.count_bound.0 in
-    let noted : Noted table c.args.line-no c.args.line.now c.args.count = noted_kept c.last_door-door.ensures.guessed few c.args.line-no c.args.line.now c.requires.noted in
+    let noted : Noted table c.args.line_no c.args.line.now c.args.count = noted_kept c.last_door-door.ensures.guessed few c.args.line_no c.args.line.now c.requires.noted in
     let door : ℕ = c.last_door-door.result in
-    let ends : get_or table door 0 < ((c)).args.count = c.last_door-door.ensures.finds_door.ends c.if-door-eq0.false in
-    let number_below : c.index-k.result < (((c))).args.count = omega (arith, c.index-k.ensures, ends) in
-    let stands : (c.index-start.result ≤ c.index-stop.result) × (c.index-stop.result ≤ length ((((c)))).args.line.now) = let n = noted in
+    let ends : get_or table door 0 < c.args.count = c.last_door-door.ensures.finds_door.ends c.if-door-eq0.false in
+    let number_below : c.index-k.result < c.args.count = omega (arith, c.index-k.ensures, ends) in
+    let stands : (c.index-start.result ≤ c.index-stop.result) × (c.index-stop.result ≤ length c.args.line.now) = let n = noted in
     let l = number_below in
     (omega (arith, c.index-stop.ensures, c.index-start.ensures, n.starts c.index-k.result l), omega (arith, c.index-stop.ensures, n.ends c.index-k.result l)) in
     stands.0
@@ -180,11 +177,11 @@ pub slice_bounds-other-start : goal.slice_bounds-other-start
 slice_bounds-other-start c =
     let table : List ℕ = c.last_door-door.new.stamps in
     let few : c.args.count ≤ 254 = c.requires.count_bound.0 in
-    let noted : Noted table c.args.line-no c.args.line.now c.args.count = noted_kept c.last_door-door.ensures.guessed few c.args.line-no c.args.line.now c.requires.noted in
+    let noted : Noted table c.args.line_no c.args.line.now c.args.count = noted_kept c.last_door-door.ensures.guessed few c.args.line_no c.args.line.now c.requires.noted in
     let door : ℕ = c.last_door-door.result in
-    let ends : get_or table door 0 < ((c)).args.count = c.last_door-door.ensures.finds_door.ends c.if-door-eq0.false in
-    let number_below : c.index-k.result < (((c))).args.count = omega (arith, c.index-k.ensures, ends) in
-    let stands : (c.index-start.result ≤ c.index-stop.result) × (c.index-stop.result ≤ length ((((c)))).args.line.now) = let n = noted in
+    let ends : get_or table door 0 < c.args.count = c.last_door-door.ensures.finds_door.ends c.if-door-eq0.false in
+    let number_below : c.index-k.result < c.args.count = omega (arith, c.index-k.ensures, ends) in
+    let stands : (c.index-start.result ≤ c.index-stop.result) × (c.index-stop.result ≤ length c.args.line.now) = let n = noted in
     let l = number_below in
     (omega (arith, c.index-stop.ensures, c.index-start.ensures, n.starts c.index-k.result l), omega (arith, c.index-stop.ensures, n.ends c.index-k.result l)) in
     omega (arith, stands)
@@ -193,11 +190,11 @@ pub slice_bounds-other-end : goal.slice_bounds-other-end
 slice_bounds-other-end c =
     let table : List ℕ = c.last_door-door.new.stamps in
     let few : c.args.count ≤ 254 = c.requires.count_bound.0 in
-    let noted : Noted table c.args.line-no c.args.line.now c.args.count = noted_kept c.last_door-door.ensures.guessed few c.args.line-no c.args.line.now c.requires.noted in
+    let noted : Noted table c.args.line_no c.args.line.now c.args.count = noted_kept c.last_door-door.ensures.guessed few c.args.line_no c.args.line.now c.requires.noted in
     let door : ℕ = c.last_door-door.result in
-    let ends : get_or table door 0 < ((c)).args.count = c.last_door-door.ensures.finds_door.ends c.if-door-eq0.false in
-    let number_below : c.index-k.result < (((c))).args.count = omega (arith, c.index-k.ensures, ends) in
-    let stands : (c.index-start.result ≤ c.index-stop.result) × (c.index-stop.result ≤ length ((((c)))).args.line.now) = let n = noted in
+    let ends : get_or table door 0 < c.args.count = c.last_door-door.ensures.finds_door.ends c.if-door-eq0.false in
+    let number_below : c.index-k.result < c.args.count = omega (arith, c.index-k.ensures, ends) in
+    let stands : (c.index-start.result ≤ c.index-stop.result) × (c.index-stop.result ≤ length c.args.line.now) = let n = noted in
     let l = number_below in
     (omega (arith, c.index-stop.ensures, c.index-start.ensures, n.starts c.index-k.result l), omega (arith, c.index-stop.ensures, n.ends c.index-k.result l)) in
     omega (arith, stands)
@@ -207,7 +204,7 @@ is_astray-astray-requires c =
     let name : Bytes = part c.args.at c.args.end c.args.line.now in
     let table : List ℕ = c.last_door-door.new.stamps in
     let few : c.args.count ≤ 254 = c.requires.count_bound.0 in
-    let noted : Noted table c.args.line-no c.args.line.now c.args.count = noted_kept c.last_door-door.ensures.guessed few c.args.line-no c.args.line.now c.requires.noted in
+    let noted : Noted table c.args.line_no c.args.line.now c.args.count = noted_kept c.last_door-door.ensures.guessed few c.args.line_no c.args.line.now c.requires.noted in
     let door : ℕ = c.last_door-door.result in
     let way : Way table c.args.count name door (DOORS + hash_of name) = subst (λ (k : ℕ). Way table c.args.count name door (DOORS + k)) c.hash-h.ensures (c.last_door-door.ensures.finds_door.way c.if-door-eq0.false) in
     let door_below : door < 12288 = omega (arith, (way_range way (omega arith) (omega (arith, hash_below name))).1, few) in
@@ -217,7 +214,7 @@ pub enter-requires-2 : goal.enter-requires-2
 enter-requires-2 c =
     let table : List ℕ = c.last_door-door.new.stamps in
     let few : c.args.count ≤ 254 = c.requires.count_bound.0 in
-    let noted : Noted table c.args.line-no c.args.line.now c.args.count = noted_kept c.last_door-door.ensures.guessed few c.args.line-no c.args.line.now c.requires.noted in
+    let noted : Noted table c.args.line_no c.args.line.now c.args.count = noted_kept c.last_door-door.ensures.guessed few c.args.line_no c.args.line.now c.requires.noted in
     record { stamps_len = noted.places; count_bound = search rules }
 
 pub overflow_add-result : goal.overflow_add-result
@@ -225,29 +222,24 @@ overflow_add-result c =
     let table : List ℕ = c.last_door-door.new.stamps in
     let few : c.args.count ≤ 254 = c.requires.count_bound.0 in
     let door : ℕ = c.last_door-door.result in
-    let ends : get_or table door 0 < ((c)).args.count = c.last_door-door.ensures.finds_door.ends c.if-door-eq0.false in
-    let e = (c) in omega (arith, ends, few)
-
-pub shape_of-stamps-then-ask : goal.shape_of-stamps-then-ask
-shape_of-stamps-then-ask c = (returns-2 c).noted.places ∙ sym ((((c)))).requires.0.places
+    let ends : get_or table door 0 < c.args.count = c.last_door-door.ensures.finds_door.ends c.if-door-eq0.false in
+    omega (arith, ends, few)
 
 pub returns-then-ask : goal.returns-then-ask
 returns-then-ask c =
     let name : Bytes = part c.args.at c.args.end c.args.line.now in
     let table : List ℕ = c.last_door-door.new.stamps in
     let few : c.args.count ≤ 254 = c.requires.count_bound.0 in
-    let noted : Noted table c.args.line-no c.args.line.now c.args.count = noted_kept c.last_door-door.ensures.guessed few c.args.line-no c.args.line.now c.requires.noted in
+    let noted : Noted table c.args.line_no c.args.line.now c.args.count = noted_kept c.last_door-door.ensures.guessed few c.args.line_no c.args.line.now c.requires.noted in
     let door : ℕ = c.last_door-door.result in
     let way : Way table c.args.count name door (DOORS + hash_of name) = subst (λ (k : ℕ). Way table c.args.count name door (DOORS + k)) c.hash-h.ensures (c.last_door-door.ensures.finds_door.way c.if-door-eq0.false) in
-    let stamped : get_or table (hash_of name) 0 ≡ c.args.line-no = subst (λ (k : ℕ). get_or table k 0 ≡ c.args.line-no) c.hash-h.ensures (c.last_door-door.ensures.finds_door.stamped c.if-door-eq0.false) in
-    let ends : get_or table door 0 < ((c)).args.count = c.last_door-door.ensures.finds_door.ends c.if-door-eq0.false in
-    let there : Bytes = name_at table ((c)).args.line.now (get_or table door 0) in
-    let other_name : part c.index-start.result c.index-stop.result ((((c)))).args.line.now ≡ there = let e = (c) in
-    name_there table ((e)).args.line.now door c.index-k.ensures c.index-start.ensures c.index-stop.ensures in
+    let stamped : get_or table (hash_of name) 0 ≡ c.args.line_no = subst (λ (k : ℕ). get_or table k 0 ≡ c.args.line_no) c.hash-h.ensures (c.last_door-door.ensures.finds_door.stamped c.if-door-eq0.false) in
+    let ends : get_or table door 0 < c.args.count = c.last_door-door.ensures.finds_door.ends c.if-door-eq0.false in
+    let there : Bytes = name_at table c.args.line.now (get_or table door 0) in
+    let other_name : part c.index-start.result c.index-stop.result c.args.line.now ≡ there = name_there table c.args.line.now door c.index-k.ensures c.index-start.ensures c.index-stop.ensures in
     let equal : c.question-ask.result ≡ SAME → there ≡ name = λ e. sym (c.question-ask.ensures.a_value e ∙ other_name) in
-    let e = (c) in
-    adds_kept e.last-door.ensures.0 few e.args.line-no e.args.line.now c.enter-2.ensures
-    (adds_again noted few e.args.at e.args.end e.pre.1.1.1 e.pre.1.1.2 name refl stamped door way ends (equal c.if-ask.true))
+    adds_kept c.last_door-door.ensures.guessed few c.args.line_no c.args.line.now c.enter-2.ensures
+    (adds_again noted few c.args.at c.args.end c.requires.count_bound.1 c.requires.count_bound.2 name refl stamped door way ends (equal c.if-ask.true))
 
 pub offset_bounds-stamps-door-then-astray : goal.offset_bounds-stamps-door-then-astray
 offset_bounds-stamps-door-then-astray c =
@@ -265,34 +257,29 @@ bounds-stamps-door-then-astray c =
     let name : Bytes = part c.args.at c.args.end c.args.line.now in
     let table : List ℕ = c.last_door-door.new.stamps in
     let few : c.args.count ≤ 254 = c.requires.count_bound.0 in
-    let noted : Noted table c.args.line-no c.args.line.now c.args.count = noted_kept c.last_door-door.ensures.guessed few c.args.line-no c.args.line.now c.requires.noted in
+    let noted : Noted table c.args.line_no c.args.line.now c.args.count = noted_kept c.last_door-door.ensures.guessed few c.args.line_no c.args.line.now c.requires.noted in
     let entered_room : length (entered table c.args.count c.args.at c.args.end) ≡ ROOM = entered_length table c.args.count c.args.at c.args.end ∙ noted.places in
     let door : ℕ = c.last_door-door.result in
     let way : Way table c.args.count name door (DOORS + hash_of name) = subst (λ (k : ℕ). Way table c.args.count name door (DOORS + k)) c.hash-h.ensures (c.last_door-door.ensures.finds_door.way c.if-door-eq0.false) in
     let door_below : door < 12288 = omega (arith, (way_range way (omega arith) (omega (arith, hash_below name))).1, few) in
-    let e = (c) in
     omega (arith, door_below, ap length c.enter-2.ensures, entered_room)
-
-pub shape_of-stamps-then-astray : goal.shape_of-stamps-then-astray
-shape_of-stamps-then-astray c = (returns-3 c).noted.places ∙ sym (((((c))))).requires.0.places
 
 pub returns-then-astray : goal.returns-then-astray
 returns-then-astray c =
     let name : Bytes = part c.args.at c.args.end c.args.line.now in
     let table : List ℕ = c.last_door-door.new.stamps in
     let few : c.args.count ≤ 254 = c.requires.count_bound.0 in
-    let noted : Noted table c.args.line-no c.args.line.now c.args.count = noted_kept c.last_door-door.ensures.guessed few c.args.line-no c.args.line.now c.requires.noted in
+    let noted : Noted table c.args.line_no c.args.line.now c.args.count = noted_kept c.last_door-door.ensures.guessed few c.args.line_no c.args.line.now c.requires.noted in
     let door : ℕ = c.last_door-door.result in
     let way : Way table c.args.count name door (DOORS + hash_of name) = subst (λ (k : ℕ). Way table c.args.count name door (DOORS + k)) c.hash-h.ensures (c.last_door-door.ensures.finds_door.way c.if-door-eq0.false) in
-    let stamped : get_or table (hash_of name) 0 ≡ c.args.line-no = subst (λ (k : ℕ). get_or table k 0 ≡ c.args.line-no) c.hash-h.ensures (c.last_door-door.ensures.finds_door.stamped c.if-door-eq0.false) in
-    let ends : get_or table door 0 < ((c)).args.count = c.last_door-door.ensures.finds_door.ends c.if-door-eq0.false in
-    let there : Bytes = name_at table ((c)).args.line.now (get_or table door 0) in
-    let other_name : part c.index-start.result c.index-stop.result ((((c)))).args.line.now ≡ there = let e = (c) in
-    name_there table ((e)).args.line.now door c.index-k.ensures c.index-start.ensures c.index-stop.ensures in
+    let stamped : get_or table (hash_of name) 0 ≡ c.args.line_no = subst (λ (k : ℕ). get_or table k 0 ≡ c.args.line_no) c.hash-h.ensures (c.last_door-door.ensures.finds_door.stamped c.if-door-eq0.false) in
+    let ends : get_or table door 0 < c.args.count = c.last_door-door.ensures.finds_door.ends c.if-door-eq0.false in
+    let there : Bytes = name_at table c.args.line.now (get_or table door 0) in
+    let other_name : part c.index-start.result c.index-stop.result c.args.line.now ≡ there = name_there table c.args.line.now door c.index-k.ensures c.index-start.ensures c.index-stop.ensures in
     let parted : (c.question-ask.result ≡ SAME → ⊥) → side_of c.question-ask.result name ≡ side_of c.question-ask.result there → ⊥ = λ e q. c.question-ask.ensures.fact e (q ∙ ap (side_of c.question-ask.result) (sym other_name)) in
     let unequal : (c.question-ask.result ≡ SAME → ⊥) → there ≡ name → ⊥ = λ e q. parted e (ap (side_of c.question-ask.result) (sym q)) in
     let astray = subst (λ (b : Bytes). Astray table door b) other_name (c.is_astray-astray.ensures c.if-astray.true) in
-    adds_kept c.last_door-door.ensures.guessed few c.args.line-no c.args.line.now (ap (λ (t : List ℕ). set t door c.args.count) c.enter-2.ensures)
+    adds_kept c.last_door-door.ensures.guessed few c.args.line_no c.args.line.now (ap (λ (t : List ℕ). set t door c.args.count) c.enter-2.ensures)
     (adds_over noted few c.args.at c.args.end c.requires.count_bound.1 c.requires.count_bound.2 name refl stamped door way ends (unequal c.if-ask.false) astray)
 
 pub put_fork-requires : goal.put_fork-requires
@@ -300,38 +287,32 @@ put_fork-requires c =
     let name : Bytes = part c.args.at c.args.end c.args.line.now in
     let table : List ℕ = c.last_door-door.new.stamps in
     let few : c.args.count ≤ 254 = c.requires.count_bound.0 in
-    let noted : Noted table c.args.line-no c.args.line.now c.args.count = noted_kept c.last_door-door.ensures.guessed few c.args.line-no c.args.line.now c.requires.noted in
+    let noted : Noted table c.args.line_no c.args.line.now c.args.count = noted_kept c.last_door-door.ensures.guessed few c.args.line_no c.args.line.now c.requires.noted in
     let entered_room : length (entered table c.args.count c.args.at c.args.end) ≡ ROOM = entered_length table c.args.count c.args.at c.args.end ∙ noted.places in
     let door : ℕ = c.last_door-door.result in
     let way : Way table c.args.count name door (DOORS + hash_of name) = subst (λ (k : ℕ). Way table c.args.count name door (DOORS + k)) c.hash-h.ensures (c.last_door-door.ensures.finds_door.way c.if-door-eq0.false) in
     let door_below : door < 12288 = omega (arith, (way_range way (omega arith) (omega (arith, hash_below name))).1, few) in
-    let there : Bytes = name_at table ((c)).args.line.now (get_or table door 0) in
-    let other_name : part c.index-start.result c.index-stop.result ((((c)))).args.line.now ≡ there = let e = (c) in
-    name_there table ((e)).args.line.now door c.index-k.ensures c.index-start.ensures c.index-stop.ensures in
+    let there : Bytes = name_at table c.args.line.now (get_or table door 0) in
+    let other_name : part c.index-start.result c.index-stop.result c.args.line.now ≡ there = name_there table c.args.line.now door c.index-k.ensures c.index-start.ensures c.index-stop.ensures in
     let their_side : c.side-their.result ≡ side_of c.question-ask.result there = c.side-their.ensures ∙ ap (side_of c.question-ask.result) other_name in
-    let e = (c) in
     record {
       stamps_len = ap length c.enter-2.ensures ∙ entered_room;
       door_lt_room = (omega (arith, door_below), few, rw their_side (side_below c.question-ask.result there));
     }
-
-pub shape_of-stamps : goal.shape_of-stamps
-shape_of-stamps c = (returns-4 c).noted.places ∙ sym ((((c)))).requires.0.places
 
 pub returns : goal.returns
 returns c =
     let name : Bytes = part c.args.at c.args.end c.args.line.now in
     let table : List ℕ = c.last_door-door.new.stamps in
     let few : c.args.count ≤ 254 = c.requires.count_bound.0 in
-    let noted : Noted table c.args.line-no c.args.line.now c.args.count = noted_kept c.last_door-door.ensures.guessed few c.args.line-no c.args.line.now c.requires.noted in
+    let noted : Noted table c.args.line_no c.args.line.now c.args.count = noted_kept c.last_door-door.ensures.guessed few c.args.line_no c.args.line.now c.requires.noted in
     let door : ℕ = c.last_door-door.result in
     let way : Way table c.args.count name door (DOORS + hash_of name) = subst (λ (k : ℕ). Way table c.args.count name door (DOORS + k)) c.hash-h.ensures (c.last_door-door.ensures.finds_door.way c.if-door-eq0.false) in
-    let stamped : get_or table (hash_of name) 0 ≡ c.args.line-no = subst (λ (k : ℕ). get_or table k 0 ≡ c.args.line-no) c.hash-h.ensures (c.last_door-door.ensures.finds_door.stamped c.if-door-eq0.false) in
-    let ends : get_or table door 0 < ((c)).args.count = c.last_door-door.ensures.finds_door.ends c.if-door-eq0.false in
-    let there : Bytes = name_at table ((c)).args.line.now (get_or table door 0) in
-    let other_name : part c.index-start.result c.index-stop.result ((((c)))).args.line.now ≡ there = let e = (c) in
-    name_there table ((e)).args.line.now door c.index-k.ensures c.index-start.ensures c.index-stop.ensures in
+    let stamped : get_or table (hash_of name) 0 ≡ c.args.line_no = subst (λ (k : ℕ). get_or table k 0 ≡ c.args.line_no) c.hash-h.ensures (c.last_door-door.ensures.finds_door.stamped c.if-door-eq0.false) in
+    let ends : get_or table door 0 < c.args.count = c.last_door-door.ensures.finds_door.ends c.if-door-eq0.false in
+    let there : Bytes = name_at table c.args.line.now (get_or table door 0) in
+    let other_name : part c.index-start.result c.index-stop.result c.args.line.now ≡ there = name_there table c.args.line.now door c.index-k.ensures c.index-start.ensures c.index-stop.ensures in
     let parted : (c.question-ask.result ≡ SAME → ⊥) → side_of c.question-ask.result name ≡ side_of c.question-ask.result there → ⊥ = λ e q. c.question-ask.ensures.fact e (q ∙ ap (side_of c.question-ask.result) (sym other_name)) in
     let their_side : c.side-their.result ≡ side_of c.question-ask.result there = c.side-their.ensures ∙ ap (side_of c.question-ask.result) other_name in
-    adds_kept c.last_door-door.ensures.guessed few c.args.line-no c.args.line.now (c.put_fork.ensures ∙ fork_written door c.args.count c.question-ask.result c.enter-2.ensures their_side)
+    adds_kept c.last_door-door.ensures.guessed few c.args.line_no c.args.line.now (c.put_fork.ensures ∙ fork_written door c.args.count c.question-ask.result c.enter-2.ensures their_side)
     (adds_fork noted few c.args.at c.args.end c.requires.count_bound.1 c.requires.count_bound.2 name refl stamped door way ends c.question-ask.result (parted c.if-ask.false))

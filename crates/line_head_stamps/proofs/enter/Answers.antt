@@ -10,9 +10,6 @@ use Rattle.line_head_stamps.proofs.enter.Goals as goal
 pub bounds-stamps-count-2 : goal.bounds-stamps-count-2
 bounds-stamps-count-2 c = simp length-set (omega arith)
 
-pub shape_of-stamps : goal.shape_of-stamps
-shape_of-stamps c = ap length (returns c) ∙ entered_length c.args.stamps.now c.args.count c.args.at c.args.end
-
 pub returns : goal.returns
 unfolding entered
 returns c = c.fill_doors.ensures

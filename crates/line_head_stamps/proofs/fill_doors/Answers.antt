@@ -19,11 +19,6 @@ bounds-stamps-count c =
 pub loop-k-preserved : goal.loop-k-preserved
 loop-k-preserved c = (omega arith, rw c.loop-k.invariant.1 (filled_next c.args.stamps.now (BRANCHES + 16 * c.args.count) c.args.count c.loop-k.k))
 
-pub shape_of-stamps : goal.shape_of-stamps
-shape_of-stamps c =
-    let long : length c.loop-k.stamps ≡ ROOM = ap length c.loop-k.invariant.1 ∙ filled_length c.args.stamps.now (BRANCHES + 16 * c.args.count) c.args.count c.loop-k.k ∙ c.requires.stamps_len in
-    omega (arith, long, c.requires.stamps_len)
-
 pub returns : goal.returns
 returns c =
     let n : c.loop-k.k ≡ 16 = omega arith in

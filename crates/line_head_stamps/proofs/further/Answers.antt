@@ -47,11 +47,6 @@ bounds-stamps-door c =
 pub bounds-stamps-fork-then-there-guess : goal.bounds-stamps-fork-then-there-guess
 bounds-stamps-fork-then-there-guess c = omega (arith, c.index-fork.ensures, c.loop-stamps.invariant.3.1, c.loop-stamps.invariant.1)
 
-pub shape_of-stamps-then-there-guess : goal.shape_of-stamps-then-there-guess
-shape_of-stamps-then-there-guess c =
-    let fork : ℕ = c.index-fork.result in
-    length-set c.loop-stamps.stamps (13056 + fork) (get_or c.loop-stamps.stamps (8192 + 16 * fork + c.side.result) 0) ∙ ap length c.loop-stamps.invariant.0
-
 -- the guess is written, or nothing
 pub returns-then-there-guess : goal.returns-then-there-guess
 returns-then-there-guess c =
@@ -64,9 +59,6 @@ returns-then-there-guess c =
       guessed = subst (λ (u : List ℕ). Guessed u (set c.loop-stamps.stamps (13056 + fork) there)) c.loop-stamps.invariant.0 g;
       goes = goes_kept g few (omega (arith, c.requires.count_bound.1)) goes;
     }
-
-pub shape_of-stamps-then-guess-lt-FORK : goal.shape_of-stamps-then-guess-lt-FORK
-shape_of-stamps-then-guess-lt-FORK c = ap length c.loop-stamps.invariant.0
 
 pub returns-then-guess-lt-FORK : goal.returns-then-guess-lt-FORK
 returns-then-guess-lt-FORK c =

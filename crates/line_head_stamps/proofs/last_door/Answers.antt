@@ -59,9 +59,6 @@ loop-stamps-preserved c =
     let few : c.args.count ≤ 254 = c.requires.count_bound.0 in
     (guessed_both c.loop-stamps.invariant.0 c.further-door.ensures.guessed, c.further-door.ensures.guessed.places ∙ c.loop-stamps.invariant.1, doors_kept c.further-door.ensures.guessed few c.loop-stamps.invariant.2, c.further-door.ensures.goes.low, c.further-door.ensures.goes.high, c.further-door.ensures.goes.holds, λ last w. ways_kept c.further-door.ensures.guessed few c.loop-stamps.door _ (omega (arith, c.loop-stamps.invariant.4)) (omega (arith, c.requires.count_bound.1)) c.loop-stamps.invariant.6 last (c.further-door.ensures.goes.way last w))
 
-pub shape_of-stamps : goal.shape_of-stamps
-shape_of-stamps c = c.loop-stamps.invariant.0.places
-
 pub returns : goal.returns
 returns c =
     record {

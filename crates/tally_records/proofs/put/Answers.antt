@@ -17,8 +17,5 @@ bounds-buffer-at c = omega arith
 pub loop-rest-preserved : goal.loop-rest-preserved
 loop-rest-preserved c = (omega arith, rw length-set c.loop-rest.invariant.1, rw c.low.ensures (sym (laid_next c.args.at c.loop-rest.i c.loop-rest.rest c.loop-rest.left c.loop-rest.buffer (omega arith) (omega arith)) ∙ c.loop-rest.invariant.2))
 
-pub shape_of-buffer : goal.shape_of-buffer
-shape_of-buffer c = c.loop-rest.invariant.1
-
 pub returns : goal.returns
 returns c = sym (laid_done (c.args.at + c.loop-rest.i) c.loop-rest.rest c.loop-rest.left c.loop-rest.buffer (omega arith)) ∙ c.loop-rest.invariant.2

@@ -10,9 +10,6 @@ bounds-out-at c = search rules
 pub overflow_add-result : goal.overflow_add-result
 overflow_add-result c = search rules
 
-pub shape_of-out-then-at-out : goal.shape_of-out-then-at-out
-shape_of-out-then-at-out c = search rules
-
 pub returns-then-at-out : goal.returns-then-at-out
 returns-then-at-out c = omega (arith, length-set c.args.out.now c.args.at c.args.b)
 

@@ -21,9 +21,6 @@ count_cell-requires c =
     let i = get_or c.args.marks.now c.loop-k.k 0 - 1 in
     (c.loop-k.invariant.2 ∙ c.requires.room.long, low, omega (arith, c.loop-k.invariant.3 i (omega arith), c.requires.room.fits i (omega arith)))
 
-pub shape_of-weights-then-e-line : goal.shape_of-weights-then-e-line
-shape_of-weights-then-e-line c = search rules
-
 pub returns-then-e-line : goal.returns-then-e-line
 returns-then-e-line c =
     record {
@@ -42,9 +39,6 @@ loop-k-preserved c =
       search rules,
       λ i h. turn_next c.args.marks.now c.loop-k.k c.cell_end-e.ensures c.loop-k.weights (c.loop-k.invariant.2 ∙ c.requires.room.long) (c.requires.marks.low c.loop-k.k) c.count_cell.ensures i (c.loop-k.invariant.3 i h) lt,
     )
-
-pub shape_of-weights : goal.shape_of-weights
-shape_of-weights c = search rules
 
 pub returns : goal.returns
 returns c =

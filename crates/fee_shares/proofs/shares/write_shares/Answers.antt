@@ -32,9 +32,6 @@ loop-i-preserved c =
           c.ahead_of-count.ensures c.requires.over_value c.one_if.ensures.value),
     )
 
-pub shape_of-shares : goal.shape_of-shares
-shape_of-shares c = c.loop-i.invariant.1 ∙ sym c.requires.shares_len
-
 pub returns : goal.returns
 returns c =
     let e : c.loop-i.i ≡ length c.args.weights.now = omega arith in

@@ -22,8 +22,8 @@ bounds-places-at-then-at-places-3 c = simp length-set (omega arith)
 
 pub returns-then-at-places : goal.returns-then-at-places
 unfolding put_all put
-returns-then-at-places c = record { does = λ rest. rw (not-false c.args.yes c.if-not-yes.false-raw, le-leb (4 * c.args.count + 4) (length c.args.places.now) c.if-at-places.true); most = omega arith }
+returns-then-at-places c = record { does = λ rest. rw (not-false c.args.yes c.if-not-yes.false-raw, put, le-leb (4 * c.args.count + 4) (length c.args.places.now) c.if-at-places.true); most = omega arith }
 
 pub returns : goal.returns
 unfolding put_all put
-returns c = record { does = λ rest. rw (not-false c.args.yes c.if-not-yes.false-raw, lt-leb (4 * c.args.count + 4) (length c.args.places.now) c.if-at-places.false); most = omega arith }
+returns c = record { does = λ rest. rw (not-false c.args.yes c.if-not-yes.false-raw, put, lt-leb (4 * c.args.count + 4) (length c.args.places.now) c.if-at-places.false); most = omega arith }
