@@ -8,7 +8,7 @@ use borrow.Author.Rules.{rules}
 use Rattle.line_head_found.proofs.undeclared.Goals as goal
 
 pub returns-then-family-eq-NO_FAMILY : goal.returns-then-family-eq-NO_FAMILY
-returns-then-family-eq-NO_FAMILY c = sym (column_none c.args.found c.in-Known.is _ c.if-family-eq-NO_FAMILY.true)
+returns-then-family-eq-NO_FAMILY c = sym (column_none c.args.found c.in-Known.is (ids_of c.args.flags.now) c.if-family-eq-NO_FAMILY.true)
 
 pub overflow_sub-result : goal.overflow_sub-result
 overflow_sub-result c =

@@ -13,7 +13,7 @@ use Rattle.tally_rows.proofs.Laws.Adding.{nothing_found, lines_room, line_room, 
 use Rattle.tally_rows.proofs.found_in.Given as goal
 
 abbrev pub invariant-loop-at : goal.invariant-loop-at
-invariant-loop-at l = (l.at ≤ length l.file) × ((i : ℕ) → nine l.found i + sum_lines (λ (l : Bytes). line_adds l.marks l i) (lines (drop l.at l.file)) ≡ lines_add l.marks l.file i)
+invariant-loop-at l = (l.at ≤ length l.file) × ((i : ℕ) → nine l.found i + sum_lines (λ (x : Bytes). line_adds l.marks x i) (lines (drop l.at l.file)) ≡ lines_add l.marks l.file i)
 
 abbrev pub decreases-loop-at : goal.decreases-loop-at
 decreases-loop-at l = length l.file - l.at
