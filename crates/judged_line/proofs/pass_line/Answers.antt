@@ -19,28 +19,25 @@ use Rattle.judged_line.proofs.pass_line.Goals as goal
 pub judge_meta-requires : goal.judge_meta-requires
 judge_meta-requires c =
     let book : Book = book_in c.args.book.now in
-    let of_sort : {σ : Sort} → c.sort_of-sort.result ≡ σ → sort_of book c.args.line.now ≡ σ = λ e. sym c.sort_of-sort.ensures ∙ e in
     record {
       book = c.requires.book;
       flags = c.requires.flags;
       slots_len = c.requires.slots_len;
-      line_value = meta_sort book _ ∙ ap meta_in (of_sort c.in-Meta.is);
+      line_value = meta_sort book _ ∙ ap meta_in (sym c.sort_of-sort.ensures ∙ c.in-Meta.is);
       count_bound = omega arith;
     }
 
 pub offset_bounds-slots-slot : goal.offset_bounds-slots-slot
 offset_bounds-slots-slot c =
     let book : Book = book_in c.args.book.now in
-    let of_sort : {σ : Sort} → c.sort_of-sort.result ≡ σ → sort_of book c.args.line.now ≡ σ = λ e. sym c.sort_of-sort.ensures ∙ e in
-    let section_low : (0 < c.in-Header.h) × (c.in-Header.h < 5) = header_section book (book_sized _) c.args.line.now c.in-Header.h (of_sort c.in-Header.is) in
+    let section_low : (0 < c.in-Header.h) × (c.in-Header.h < 5) = header_section book (book_sized _) c.args.line.now c.in-Header.h (sym c.sort_of-sort.ensures ∙ c.in-Header.is) in
     let slot_low : c.header_slot-slot.result < FIRSTS = omega (arith, c.header_slot-slot.ensures, section_low.1) in
     omega (arith, slot_low)
 
 pub bounds-slots-slot : goal.bounds-slots-slot
 bounds-slots-slot c =
     let book : Book = book_in c.args.book.now in
-    let of_sort : {σ : Sort} → c.sort_of-sort.result ≡ σ → sort_of book c.args.line.now ≡ σ = λ e. sym c.sort_of-sort.ensures ∙ e in
-    let section_low : (0 < c.in-Header.h) × (c.in-Header.h < 5) = header_section book (book_sized _) c.args.line.now c.in-Header.h (of_sort c.in-Header.is) in
+    let section_low : (0 < c.in-Header.h) × (c.in-Header.h < 5) = header_section book (book_sized _) c.args.line.now c.in-Header.h (sym c.sort_of-sort.ensures ∙ c.in-Header.is) in
     let slot_low : c.header_slot-slot.result < FIRSTS = omega (arith, c.header_slot-slot.ensures, section_low.1) in
     let slot_in : c.header_slot-slot.result < length c.args.slots.now = omega (arith, slot_low, c.requires.slots_len) in
     slot_in
@@ -48,16 +45,14 @@ bounds-slots-slot c =
 pub offset_bounds-slots-slot-in-Header : goal.offset_bounds-slots-slot-in-Header
 offset_bounds-slots-slot-in-Header c =
     let book : Book = book_in c.args.book.now in
-    let of_sort : {σ : Sort} → c.sort_of-sort.result ≡ σ → sort_of book c.args.line.now ≡ σ = λ e. sym c.sort_of-sort.ensures ∙ e in
-    let section_low : (0 < c.in-Header.h) × (c.in-Header.h < 5) = header_section book (book_sized _) c.args.line.now c.in-Header.h (of_sort c.in-Header.is) in
+    let section_low : (0 < c.in-Header.h) × (c.in-Header.h < 5) = header_section book (book_sized _) c.args.line.now c.in-Header.h (sym c.sort_of-sort.ensures ∙ c.in-Header.is) in
     let slot_low : c.header_slot-slot.result < FIRSTS = omega (arith, c.header_slot-slot.ensures, section_low.1) in
     omega (arith, slot_low)
 
 pub bounds-slots-slot-in-Header : goal.bounds-slots-slot-in-Header
 bounds-slots-slot-in-Header c =
     let book : Book = book_in c.args.book.now in
-    let of_sort : {σ : Sort} → c.sort_of-sort.result ≡ σ → sort_of book c.args.line.now ≡ σ = λ e. sym c.sort_of-sort.ensures ∙ e in
-    let section_low : (0 < c.in-Header.h) × (c.in-Header.h < 5) = header_section book (book_sized _) c.args.line.now c.in-Header.h (of_sort c.in-Header.is) in
+    let section_low : (0 < c.in-Header.h) × (c.in-Header.h < 5) = header_section book (book_sized _) c.args.line.now c.in-Header.h (sym c.sort_of-sort.ensures ∙ c.in-Header.is) in
     let slot_low : c.header_slot-slot.result < FIRSTS = omega (arith, c.header_slot-slot.ensures, section_low.1) in
     let slot_in : c.header_slot-slot.result < length c.args.slots.now = omega (arith, slot_low, c.requires.slots_len) in
     slot_in
@@ -65,38 +60,33 @@ bounds-slots-slot-in-Header c =
 pub after_header-next-requires : goal.after_header-next-requires
 after_header-next-requires c =
     let book : Book = book_in c.args.book.now in
-    let of_sort : {σ : Sort} → c.sort_of-sort.result ≡ σ → sort_of book c.args.line.now ≡ σ = λ e. sym c.sort_of-sort.ensures ∙ e in
-    let section_low : (0 < c.in-Header.h) × (c.in-Header.h < 5) = header_section book (book_sized _) c.args.line.now c.in-Header.h (of_sort c.in-Header.is) in
+    let section_low : (0 < c.in-Header.h) × (c.in-Header.h < 5) = header_section book (book_sized _) c.args.line.now c.in-Header.h (sym c.sort_of-sort.ensures ∙ c.in-Header.is) in
     section_low.1
 
 pub after_row-next-requires : goal.after_row-next-requires
 after_row-next-requires c =
     let book : Book = book_in c.args.book.now in
-    let of_sort : {σ : Sort} → c.sort_of-sort.result ≡ σ → sort_of book c.args.line.now ≡ σ = λ e. sym c.sort_of-sort.ensures ∙ e in
-    (row_section_lem book (book_sized _) c.args.line.now c.in-Row.r (of_sort c.in-Row.is)).1
+    (row_section_lem book (book_sized _) c.args.line.now c.in-Row.r (sym c.sort_of-sort.ensures ∙ c.in-Row.is)).1
 
 -- a silent line
 pub returns-in-Silent : goal.returns-in-Silent
 returns-in-Silent c =
     let book : Book = book_in c.args.book.now in
-    let of_sort : {σ : Sort} → c.sort_of-sort.result ≡ σ → sort_of book c.args.line.now ≡ σ = λ e. sym c.sort_of-sort.ensures ∙ e in
-    let e = of_sort c.in-Silent.is in
+    let e = (sym c.sort_of-sort.ensures ∙ c.in-Silent.is) in
     record { passes = passes_kept e c.requires.slots_len refl refl; header_value = rw e }
 
 -- one with an unknown code
 pub returns-in-Unknown : goal.returns-in-Unknown
 returns-in-Unknown c =
     let book : Book = book_in c.args.book.now in
-    let of_sort : {σ : Sort} → c.sort_of-sort.result ≡ σ → sort_of book c.args.line.now ≡ σ = λ e. sym c.sort_of-sort.ensures ∙ e in
-    let e = of_sort c.in-Unknown.is in
+    let e = (sym c.sort_of-sort.ensures ∙ c.in-Unknown.is) in
     record { passes = passes_kept e c.requires.slots_len refl refl; header_value = rw e }
 
 -- a metadata line
 pub returns-in-Meta : goal.returns-in-Meta
 returns-in-Meta c =
     let book : Book = book_in c.args.book.now in
-    let of_sort : {σ : Sort} → c.sort_of-sort.result ≡ σ → sort_of book c.args.line.now ≡ σ = λ e. sym c.sort_of-sort.ensures ∙ e in
-    let e = of_sort c.in-Meta.is in
+    let e = (sym c.sort_of-sort.ensures ∙ c.in-Meta.is) in
     record {
       passes = passes_meta e c.judge_meta.ensures.keeps_keys.keys c.judge_meta.ensures.keeps_keys.headers c.judge_meta.ensures.keeps_keys.places;
       header_value = rw e;
@@ -106,9 +96,8 @@ returns-in-Meta c =
 pub returns-in-Header : goal.returns-in-Header
 returns-in-Header c =
     let book : Book = book_in c.args.book.now in
-    let of_sort : {σ : Sort} → c.sort_of-sort.result ≡ σ → sort_of book c.args.line.now ≡ σ = λ e. sym c.sort_of-sort.ensures ∙ e in
-    let section_low : (0 < c.in-Header.h) × (c.in-Header.h < 5) = header_section book (book_sized _) c.args.line.now c.in-Header.h (of_sort c.in-Header.is) in
-    let e = of_sort c.in-Header.is in
+    let section_low : (0 < c.in-Header.h) × (c.in-Header.h < 5) = header_section book (book_sized _) c.args.line.now c.in-Header.h (sym c.sort_of-sort.ensures ∙ c.in-Header.is) in
+    let e = (sym c.sort_of-sort.ensures ∙ c.in-Header.is) in
     record {
       passes = passes_header (book_sized _) c.in-Header.h e c.header_slot-slot.ensures c.after_header-next.ensures c.count_cells-width.ensures c.first_kept.ensures c.requires.slots_len;
       header_value = rw e (sym (lt-ltb 0 c.in-Header.h section_low.0));
@@ -118,6 +107,5 @@ returns-in-Header c =
 pub returns-in-Row : goal.returns-in-Row
 returns-in-Row c =
     let book : Book = book_in c.args.book.now in
-    let of_sort : {σ : Sort} → c.sort_of-sort.result ≡ σ → sort_of book c.args.line.now ≡ σ = λ e. sym c.sort_of-sort.ensures ∙ e in
-    let e = of_sort c.in-Row.is in
+    let e = (sym c.sort_of-sort.ensures ∙ c.in-Row.is) in
     record { passes = rw c.after_row-next.ensures (passes_kept e c.requires.slots_len refl refl); header_value = rw e }

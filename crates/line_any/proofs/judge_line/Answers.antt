@@ -20,20 +20,18 @@ use Rattle.line_any.proofs.judge_line.Goals as goal
 pub judge_meta-k-requires : goal.judge_meta-k-requires
 judge_meta-k-requires c =
     let book : Book = book_in c.args.book.now in
-    let of_sort : {σ : Sort} → c.sort_of-sort.result ≡ σ → sort_of book c.args.line.now ≡ σ = λ e. sym c.sort_of-sort.ensures ∙ e in
     record {
       book = c.requires.book;
       flags = c.requires.flags;
       slots_len = c.requires.slots_len;
-      line_value = meta_sort book _ ∙ ap meta_in (of_sort c.in-Meta.is);
+      line_value = meta_sort book _ ∙ ap meta_in (sym c.sort_of-sort.ensures ∙ c.in-Meta.is);
       count_bound = c.requires.count_bound;
     }
 
 pub offset_bounds-slots-slot : goal.offset_bounds-slots-slot
 offset_bounds-slots-slot c =
     let book : Book = book_in c.args.book.now in
-    let of_sort : {σ : Sort} → c.sort_of-sort.result ≡ σ → sort_of book c.args.line.now ≡ σ = λ e. sym c.sort_of-sort.ensures ∙ e in
-    let section_of_lem : is_section book c.in-Header.h ≡ true = header_is book c.args.line.now c.in-Header.h (of_sort c.in-Header.is) in
+    let section_of_lem : is_section book c.in-Header.h ≡ true = header_is book c.args.line.now c.in-Header.h (sym c.sort_of-sort.ensures ∙ c.in-Header.is) in
     let section_low : c.in-Header.h < 5 = (section_in book (book_sized _) _ section_of_lem).1 in
     let slot_low : c.header_slot-slot.result < FIRSTS = omega (arith, c.header_slot-slot.ensures, section_low) in
     omega (arith, slot_low)
@@ -41,8 +39,7 @@ offset_bounds-slots-slot c =
 pub bounds-slots-slot : goal.bounds-slots-slot
 bounds-slots-slot c =
     let book : Book = book_in c.args.book.now in
-    let of_sort : {σ : Sort} → c.sort_of-sort.result ≡ σ → sort_of book c.args.line.now ≡ σ = λ e. sym c.sort_of-sort.ensures ∙ e in
-    let section_of_lem : is_section book c.in-Header.h ≡ true = header_is book c.args.line.now c.in-Header.h (of_sort c.in-Header.is) in
+    let section_of_lem : is_section book c.in-Header.h ≡ true = header_is book c.args.line.now c.in-Header.h (sym c.sort_of-sort.ensures ∙ c.in-Header.is) in
     let section_low : c.in-Header.h < 5 = (section_in book (book_sized _) _ section_of_lem).1 in
     let slot_low : c.header_slot-slot.result < FIRSTS = omega (arith, c.header_slot-slot.ensures, section_low) in
     let slot_in : c.header_slot-slot.result < length c.args.slots.now = omega (arith, slot_low, c.requires.slots_len) in
@@ -51,8 +48,7 @@ bounds-slots-slot c =
 pub judge_head-k-requires : goal.judge_head-k-requires
 judge_head-k-requires c =
     let book : Book = book_in c.args.book.now in
-    let of_sort : {σ : Sort} → c.sort_of-sort.result ≡ σ → sort_of book c.args.line.now ≡ σ = λ e. sym c.sort_of-sort.ensures ∙ e in
-    let section_of_lem : is_section book c.in-Header.h ≡ true = header_is book c.args.line.now c.in-Header.h (of_sort c.in-Header.is) in
+    let section_of_lem : is_section book c.in-Header.h ≡ true = header_is book c.args.line.now c.in-Header.h (sym c.sort_of-sort.ensures ∙ c.in-Header.is) in
     record {
       count_bound = c.requires.count_bound;
       book = c.requires.book;
@@ -65,8 +61,7 @@ judge_head-k-requires c =
 pub offset_bounds-slots-slot-in-Header : goal.offset_bounds-slots-slot-in-Header
 offset_bounds-slots-slot-in-Header c =
     let book : Book = book_in c.args.book.now in
-    let of_sort : {σ : Sort} → c.sort_of-sort.result ≡ σ → sort_of book c.args.line.now ≡ σ = λ e. sym c.sort_of-sort.ensures ∙ e in
-    let section_of_lem : is_section book c.in-Header.h ≡ true = header_is book c.args.line.now c.in-Header.h (of_sort c.in-Header.is) in
+    let section_of_lem : is_section book c.in-Header.h ≡ true = header_is book c.args.line.now c.in-Header.h (sym c.sort_of-sort.ensures ∙ c.in-Header.is) in
     let section_low : c.in-Header.h < 5 = (section_in book (book_sized _) _ section_of_lem).1 in
     let slot_low : c.header_slot-slot.result < FIRSTS = omega (arith, c.header_slot-slot.ensures, section_low) in
     omega (arith, slot_low)
@@ -74,8 +69,7 @@ offset_bounds-slots-slot-in-Header c =
 pub bounds-slots-slot-in-Header : goal.bounds-slots-slot-in-Header
 bounds-slots-slot-in-Header c =
     let book : Book = book_in c.args.book.now in
-    let of_sort : {σ : Sort} → c.sort_of-sort.result ≡ σ → sort_of book c.args.line.now ≡ σ = λ e. sym c.sort_of-sort.ensures ∙ e in
-    let section_of_lem : is_section book c.in-Header.h ≡ true = header_is book c.args.line.now c.in-Header.h (of_sort c.in-Header.is) in
+    let section_of_lem : is_section book c.in-Header.h ≡ true = header_is book c.args.line.now c.in-Header.h (sym c.sort_of-sort.ensures ∙ c.in-Header.is) in
     let section_low : c.in-Header.h < 5 = (section_in book (book_sized _) _ section_of_lem).1 in
     let slot_low : c.header_slot-slot.result < FIRSTS = omega (arith, c.header_slot-slot.ensures, section_low) in
     let slot_in : c.header_slot-slot.result < length c.args.slots.now = omega (arith, slot_low, c.requires.slots_len) in
@@ -84,22 +78,19 @@ bounds-slots-slot-in-Header c =
 pub after_header-next-requires : goal.after_header-next-requires
 after_header-next-requires c =
     let book : Book = book_in c.args.book.now in
-    let of_sort : {σ : Sort} → c.sort_of-sort.result ≡ σ → sort_of book c.args.line.now ≡ σ = λ e. sym c.sort_of-sort.ensures ∙ e in
-    let section_of_lem : is_section book c.in-Header.h ≡ true = header_is book c.args.line.now c.in-Header.h (of_sort c.in-Header.is) in
+    let section_of_lem : is_section book c.in-Header.h ≡ true = header_is book c.args.line.now c.in-Header.h (sym c.sort_of-sort.ensures ∙ c.in-Header.is) in
     let section_low : c.in-Header.h < 5 = (section_in book (book_sized _) _ section_of_lem).1 in
     section_low
 
 pub after_row-next-requires : goal.after_row-next-requires
 after_row-next-requires c =
     let book : Book = book_in c.args.book.now in
-    let of_sort : {σ : Sort} → c.sort_of-sort.result ≡ σ → sort_of book c.args.line.now ≡ σ = λ e. sym c.sort_of-sort.ensures ∙ e in
-    (row_section_lem book (book_sized _) c.args.line.now c.in-Row.r (of_sort c.in-Row.is)).1
+    (row_section_lem book (book_sized _) c.args.line.now c.in-Row.r (sym c.sort_of-sort.ensures ∙ c.in-Row.is)).1
 
 pub returns-in-Silent : goal.returns-in-Silent
 returns-in-Silent c =
     let book : Book = book_in c.args.book.now in
-    let of_sort : {σ : Sort} → c.sort_of-sort.result ≡ σ → sort_of book c.args.line.now ≡ σ = λ e. sym c.sort_of-sort.ensures ∙ e in
-    let e = of_sort c.in-Silent.is in
+    let e = (sym c.sort_of-sort.ensures ∙ c.in-Silent.is) in
     record {
       puts = line_puts book (ids_of c.args.flags.now) c.args.step.state c.args.kinds.now c.args.slots.now c.args.step.line c.args.line.now Silent e (puts_none _) (omega arith);
       follows = follows_kept e c.requires.kinds_len c.requires.slots_len refl refl;
@@ -109,8 +100,7 @@ returns-in-Silent c =
 pub returns-in-Unknown : goal.returns-in-Unknown
 returns-in-Unknown c =
     let book : Book = book_in c.args.book.now in
-    let of_sort : {σ : Sort} → c.sort_of-sort.result ≡ σ → sort_of book c.args.line.now ≡ σ = λ e. sym c.sort_of-sort.ensures ∙ e in
-    let e = of_sort c.in-Unknown.is in
+    let e = (sym c.sort_of-sort.ensures ∙ c.in-Unknown.is) in
     record {
       puts = line_puts book (ids_of c.args.flags.now) c.args.step.state c.args.kinds.now c.args.slots.now c.args.step.line c.args.line.now Unknown e (rw c.control_of-control.ensures at c.judge_unknown.ensures) (omega arith);
       follows = follows_kept e c.requires.kinds_len c.requires.slots_len refl refl;
@@ -120,8 +110,7 @@ returns-in-Unknown c =
 pub returns-in-Meta : goal.returns-in-Meta
 returns-in-Meta c =
     let book : Book = book_in c.args.book.now in
-    let of_sort : {σ : Sort} → c.sort_of-sort.result ≡ σ → sort_of book c.args.line.now ≡ σ = λ e. sym c.sort_of-sort.ensures ∙ e in
-    let e = of_sort c.in-Meta.is in
+    let e = (sym c.sort_of-sort.ensures ∙ c.in-Meta.is) in
     record {
       puts = line_puts book (ids_of c.args.flags.now) c.args.step.state c.args.kinds.now c.args.slots.now c.args.step.line c.args.line.now Meta e (rw c.control_of-control.ensures at c.judge_meta-k.ensures.puts) (omega arith);
       follows = follows_meta e c.requires.kinds_len c.judge_meta-k.ensures.keeps_keys.keys c.judge_meta-k.ensures.keeps_keys.headers c.judge_meta-k.ensures.keeps_keys.places;
@@ -131,8 +120,7 @@ returns-in-Meta c =
 pub returns-in-Header : goal.returns-in-Header
 returns-in-Header c =
     let book : Book = book_in c.args.book.now in
-    let of_sort : {σ : Sort} → c.sort_of-sort.result ≡ σ → sort_of book c.args.line.now ≡ σ = λ e. sym c.sort_of-sort.ensures ∙ e in
-    let e = of_sort c.in-Header.is in
+    let e = (sym c.sort_of-sort.ensures ∙ c.in-Header.is) in
     record {
       puts = header_puts book (ids_of c.args.flags.now) c.args.step.state c.args.kinds.now c.args.slots.now c.args.step.line c.args.line.now c.in-Header.h e c.header_slot-slot.ensures c.control_of-control.ensures c.judge_head-k.ensures.puts (omega arith);
       follows = header_follows (book_sized _) c.in-Header.h e c.header_slot-slot.ensures c.after_header-next.ensures c.count_cells-width.ensures c.first_kept.ensures c.requires.slots_len c.judge_head-k.ensures.keeps_kinds.columns c.judge_head-k.ensures.keeps_kinds.kind_places;
@@ -142,8 +130,7 @@ returns-in-Header c =
 pub returns-in-Row : goal.returns-in-Row
 returns-in-Row c =
     let book : Book = book_in c.args.book.now in
-    let of_sort : {σ : Sort} → c.sort_of-sort.result ≡ σ → sort_of book c.args.line.now ≡ σ = λ e. sym c.sort_of-sort.ensures ∙ e in
-    let e = of_sort c.in-Row.is in
+    let e = (sym c.sort_of-sort.ensures ∙ c.in-Row.is) in
     record {
       puts = line_puts book (ids_of c.args.flags.now) c.args.step.state c.args.kinds.now c.args.slots.now c.args.step.line c.args.line.now (Row c.in-Row.r) e (rw c.control_of-control.ensures at c.judge_row-k.ensures) (omega arith);
       follows = rw c.after_row-next.ensures (follows_kept e c.requires.kinds_len c.requires.slots_len refl refl);

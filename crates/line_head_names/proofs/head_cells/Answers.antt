@@ -64,7 +64,7 @@ returns-then-e-line c =
     }
 
 pub overflow_add-at : goal.overflow_add-at
-overflow_add-at c = omega (arith, c.if-e-line.false, c.cell_end-e.ensures.within, c.well-formed.1.1.1.0.0)
+overflow_add-at c = omega (arith, c.if-e-line.false, c.cell_end-e.ensures.within, c.well_formed.1.1.1.0.0)
 
 pub overflow_add-c : goal.overflow_add-c
 overflow_add-c c = omega (arith, c.loop-names.invariant.2)

@@ -15,32 +15,28 @@ use Rattle.mender.proofs.mend_line.Goals as goal
 pub returns-in-Silent : goal.returns-in-Silent
 returns-in-Silent c =
     let book : Book = book_in c.args.book.now in
-    let of_sort : {σ : Sort} → c.sort_of-sort.result ≡ σ → sort_of book c.args.line.now ≡ σ = λ e. sym c.sort_of-sort.ensures ∙ e in
-    let whole = kept_line book c.args.line.now (of_sort c.in-Silent.is) c.args.walk c.args.kinds.now refl refl refl refl refl c.requires.kinds_len c.keep_line.ensures.to_after c.keep_line.ensures.line_value in
+    let whole = kept_line book c.args.line.now (sym c.sort_of-sort.ensures ∙ c.in-Silent.is) c.args.walk c.args.kinds.now refl refl refl refl refl c.requires.kinds_len c.keep_line.ensures.to_after c.keep_line.ensures.line_value in
     record { mends = whole.0; passes = whole.1.0; line_value = whole.1.1 }
 
 -- one with an unknown code
 pub returns-in-Unknown : goal.returns-in-Unknown
 returns-in-Unknown c =
     let book : Book = book_in c.args.book.now in
-    let of_sort : {σ : Sort} → c.sort_of-sort.result ≡ σ → sort_of book c.args.line.now ≡ σ = λ e. sym c.sort_of-sort.ensures ∙ e in
-    let whole = kept_line book c.args.line.now (of_sort c.in-Unknown.is) c.args.walk c.args.kinds.now refl refl refl refl refl c.requires.kinds_len c.keep_line-in-Unknown.ensures.to_after c.keep_line-in-Unknown.ensures.line_value in
+    let whole = kept_line book c.args.line.now (sym c.sort_of-sort.ensures ∙ c.in-Unknown.is) c.args.walk c.args.kinds.now refl refl refl refl refl c.requires.kinds_len c.keep_line-in-Unknown.ensures.to_after c.keep_line-in-Unknown.ensures.line_value in
     record { mends = whole.0; passes = whole.1.0; line_value = whole.1.1 }
 
 -- a metadata line
 pub returns-in-Meta : goal.returns-in-Meta
 returns-in-Meta c =
     let book : Book = book_in c.args.book.now in
-    let of_sort : {σ : Sort} → c.sort_of-sort.result ≡ σ → sort_of book c.args.line.now ≡ σ = λ e. sym c.sort_of-sort.ensures ∙ e in
-    let whole = kept_line book c.args.line.now (of_sort c.in-Meta.is) c.args.walk c.args.kinds.now refl refl refl refl refl c.requires.kinds_len c.keep_line-in-Meta.ensures.to_after c.keep_line-in-Meta.ensures.line_value in
+    let whole = kept_line book c.args.line.now (sym c.sort_of-sort.ensures ∙ c.in-Meta.is) c.args.walk c.args.kinds.now refl refl refl refl refl c.requires.kinds_len c.keep_line-in-Meta.ensures.to_after c.keep_line-in-Meta.ensures.line_value in
     record { mends = whole.0; passes = whole.1.0; line_value = whole.1.1 }
 
 -- a header
 pub returns-in-Header : goal.returns-in-Header
 returns-in-Header c =
     let book : Book = book_in c.args.book.now in
-    let of_sort : {σ : Sort} → c.sort_of-sort.result ≡ σ → sort_of book c.args.line.now ≡ σ = λ e. sym c.sort_of-sort.ensures ∙ e in
-    let e = of_sort c.in-Header.is in
+    let e = (sym c.sort_of-sort.ensures ∙ c.in-Header.is) in
     let z = (header_section book (book_sized _) c.args.line.now c.in-Header.h e).0 in
     record {
       mends = kept_mends book c.args.line.now e c.args.walk.section c.args.walk.width c.args.kinds.now (c.args.walk.line + 1) refl refl c.lay-to.ensures refl;
@@ -52,8 +48,7 @@ returns-in-Header c =
 pub returns-in-Row : goal.returns-in-Row
 returns-in-Row c =
     let book : Book = book_in c.args.book.now in
-    let of_sort : {σ : Sort} → c.sort_of-sort.result ≡ σ → sort_of book c.args.line.now ≡ σ = λ e. sym c.sort_of-sort.ensures ∙ e in
-    let e = of_sort c.in-Row.is in
+    let e = (sym c.sort_of-sort.ensures ∙ c.in-Row.is) in
     record {
       mends = rw e c.fill_row-done.ensures;
       passes = kept_passes book c.args.line.now e c.args.walk.section c.args.walk.width c.args.kinds.now refl refl refl refl refl c.requires.kinds_len;
