@@ -20,12 +20,11 @@ use Rattle.judging.proofs.parts.judge_part.Goals as goal
 pub overflow_add-before : goal.overflow_add-before
 overflow_add-before c =
     let all_few : length (breaks_by (book_in c.args.book.now) (lines c.args.file.now)) ≤ FILE_MOST = breaks_bound _ (book_sized c.args.book.now) c.args.file.now c.requires.file_len_bound in
-    let b : c.args.stand + c.args.stand.held ≤ FILE_MOST = omega (arith, c.requires.midway.most, all_few) in
+    let b : c.args.stand.before + c.args.stand.held ≤ FILE_MOST = omega (arith, c.requires.midway.most, all_few) in
     omega (arith, b)
 
 pub judge_lines-judged-requires : goal.judge_lines-judged-requires
 judge_lines-judged-requires c =
-    let whole = c.requires.1.1.1.1 in
     record {
       le_room = c.requires.le_room;
       end_in_bounds = omega arith;
@@ -33,9 +32,9 @@ judge_lines-judged-requires c =
       file_len_bound = c.requires.file_len_bound;
       scan = c.requires.midway.scan;
       asking_of = c.requires.midway.asking;
-      declared = whole.0;
-      kinds_len = whole.1.0;
-      slots_len = whole.1.1;
+      declared = c.requires.declared;
+      kinds_len = c.requires.kinds_len;
+      slots_len = c.requires.slots_len;
     }
 
 pub returns-then-judged : goal.returns-then-judged
