@@ -36,13 +36,12 @@ returns-then-not-reached c =
 
 pub learn_kinds-requires : goal.learn_kinds-requires
 learn_kinds-requires c =
-    let s = (c) in
     let r = c.reach-reached.ensures.le_line (not-false _ c.if-not-reached.false) in
     record {
-      book = s.pre.0;
-      file_len_bound = s.pre.1.0.limit;
+      book = c.requires.book;
+      file_len_bound = c.requires.going.limit;
       head_in_bounds = (λ low. ((r.3 low).0, section_is r.2 low));
-      kinds_len = s.pre.1.0.columns;
+      kinds_len = c.requires.going.columns;
     }
 
 pub overflow_add-next : goal.overflow_add-next

@@ -27,21 +27,21 @@ pub overflow_add-door-in-loop-stamps : goal.overflow_add-door-in-loop-stamps
 overflow_add-door-in-loop-stamps c =
     let fork : ℕ = c.index-fork.result in
     let few : c.args.count ≤ 254 = c.requires.count_bound.0 in
-    let goes : let a = ((c)).args in Goes c.loop-stamps.stamps a.count a.name.now a.from (8192 + 16 * fork + c.side.result) = goes_door fork c.side.result c.loop-stamps.invariant.2 few c.loop-stamps.invariant.3 c.index-fork.ensures c.side.ensures in
+    let goes : let a = c.args in Goes c.loop-stamps.stamps a.count a.name.now a.from (8192 + 16 * fork + c.side.result) = goes_door fork c.side.result c.loop-stamps.invariant.2 few c.loop-stamps.invariant.3 c.index-fork.ensures c.side.ensures in
     omega (arith, goes.high)
 
 pub offset_bounds-stamps-door : goal.offset_bounds-stamps-door
 offset_bounds-stamps-door c =
     let fork : ℕ = c.index-fork.result in
     let few : c.args.count ≤ 254 = c.requires.count_bound.0 in
-    let goes : let a = ((c)).args in Goes c.loop-stamps.stamps a.count a.name.now a.from (8192 + 16 * fork + c.side.result) = goes_door fork c.side.result c.loop-stamps.invariant.2 few c.loop-stamps.invariant.3 c.index-fork.ensures c.side.ensures in
+    let goes : let a = c.args in Goes c.loop-stamps.stamps a.count a.name.now a.from (8192 + 16 * fork + c.side.result) = goes_door fork c.side.result c.loop-stamps.invariant.2 few c.loop-stamps.invariant.3 c.index-fork.ensures c.side.ensures in
     omega (arith, goes.high)
 
 pub bounds-stamps-door : goal.bounds-stamps-door
 bounds-stamps-door c =
     let fork : ℕ = c.index-fork.result in
     let few : c.args.count ≤ 254 = c.requires.count_bound.0 in
-    let goes : let a = ((c)).args in Goes c.loop-stamps.stamps a.count a.name.now a.from (8192 + 16 * fork + c.side.result) = goes_door fork c.side.result c.loop-stamps.invariant.2 few c.loop-stamps.invariant.3 c.index-fork.ensures c.side.ensures in
+    let goes : let a = c.args in Goes c.loop-stamps.stamps a.count a.name.now a.from (8192 + 16 * fork + c.side.result) = goes_door fork c.side.result c.loop-stamps.invariant.2 few c.loop-stamps.invariant.3 c.index-fork.ensures c.side.ensures in
     omega (arith, goes.high, c.loop-stamps.invariant.1)
 
 pub bounds-stamps-fork-then-there-guess : goal.bounds-stamps-fork-then-there-guess
@@ -52,7 +52,7 @@ pub returns-then-there-guess : goal.returns-then-there-guess
 returns-then-there-guess c =
     let fork : ℕ = c.index-fork.result in
     let few : c.args.count ≤ 254 = c.requires.count_bound.0 in
-    let goes : let a = ((c)).args in Goes c.loop-stamps.stamps a.count a.name.now a.from (8192 + 16 * fork + c.side.result) = goes_door fork c.side.result c.loop-stamps.invariant.2 few c.loop-stamps.invariant.3 c.index-fork.ensures c.side.ensures in
+    let goes : let a = c.args in Goes c.loop-stamps.stamps a.count a.name.now a.from (8192 + 16 * fork + c.side.result) = goes_door fork c.side.result c.loop-stamps.invariant.2 few c.loop-stamps.invariant.3 c.index-fork.ensures c.side.ensures in
     let there = get_or c.loop-stamps.stamps (8192 + 16 * fork + c.side.result) 0 in
     let g = guessed_one c.loop-stamps.stamps (13056 + fork) there (omega arith) in
     record {
@@ -64,7 +64,7 @@ pub returns-then-guess-lt-FORK : goal.returns-then-guess-lt-FORK
 returns-then-guess-lt-FORK c =
     let fork : ℕ = c.index-fork.result in
     let few : c.args.count ≤ 254 = c.requires.count_bound.0 in
-    let goes : let a = ((c)).args in Goes c.loop-stamps.stamps a.count a.name.now a.from (8192 + 16 * fork + c.side.result) = goes_door fork c.side.result c.loop-stamps.invariant.2 few c.loop-stamps.invariant.3 c.index-fork.ensures c.side.ensures in
+    let goes : let a = c.args in Goes c.loop-stamps.stamps a.count a.name.now a.from (8192 + 16 * fork + c.side.result) = goes_door fork c.side.result c.loop-stamps.invariant.2 few c.loop-stamps.invariant.3 c.index-fork.ensures c.side.ensures in
     record {
       guessed = subst (λ (u : List ℕ). Guessed u c.loop-stamps.stamps) c.loop-stamps.invariant.0 (guessed_none c.loop-stamps.stamps);
       goes = goes;
@@ -80,5 +80,5 @@ pub loop-stamps-preserved : goal.loop-stamps-preserved
 loop-stamps-preserved c =
     let fork : ℕ = c.index-fork.result in
     let few : c.args.count ≤ 254 = c.requires.count_bound.0 in
-    let goes : let a = ((c)).args in Goes c.loop-stamps.stamps a.count a.name.now a.from (8192 + 16 * fork + c.side.result) = goes_door fork c.side.result c.loop-stamps.invariant.2 few c.loop-stamps.invariant.3 c.index-fork.ensures c.side.ensures in
+    let goes : let a = c.args in Goes c.loop-stamps.stamps a.count a.name.now a.from (8192 + 16 * fork + c.side.result) = goes_door fork c.side.result c.loop-stamps.invariant.2 few c.loop-stamps.invariant.3 c.index-fork.ensures c.side.ensures in
     (c.loop-stamps.invariant.0, c.loop-stamps.invariant.1, c.loop-stamps.invariant.2, leads_on _ c.if-guess-lt-FORK.false (rw c.if-there-guess.false at goes.holds) c.if-there-guess.false goes)

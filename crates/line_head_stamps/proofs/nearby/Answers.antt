@@ -46,12 +46,12 @@ bounds-stamps-fork c =
 
 pub overflow_add-door-in-loop-passed : goal.overflow_add-door-in-loop-passed
 overflow_add-door-in-loop-passed c =
-    let goes : let a = ((c)).args in Goes a.stamps.now a.count a.name.now c.loop-passed.door (8192 + 16 * c.index-fork.result + c.side.result) = goes_door c.index-fork.result c.side.result c.requires.doors c.requires.count_bound.0 (leads_first c.loop-passed.door c.if-held-lt-FORK.false c.loop-passed.invariant.0.2 refl) c.index-fork.ensures c.side.ensures in
+    let goes : let a = c.args in Goes a.stamps.now a.count a.name.now c.loop-passed.door (8192 + 16 * c.index-fork.result + c.side.result) = goes_door c.index-fork.result c.side.result c.requires.doors c.requires.count_bound.0 (leads_first c.loop-passed.door c.if-held-lt-FORK.false c.loop-passed.invariant.0.2 refl) c.index-fork.ensures c.side.ensures in
     omega (arith, goes.high)
 
 pub loop-passed-preserved : goal.loop-passed-preserved
 loop-passed-preserved c =
-    let goes : let a = ((c)).args in Goes a.stamps.now a.count a.name.now c.loop-passed.door (8192 + 16 * c.index-fork.result + c.side.result) = goes_door c.index-fork.result c.side.result c.requires.doors c.requires.count_bound.0 (leads_first c.loop-passed.door c.if-held-lt-FORK.false c.loop-passed.invariant.0.2 refl) c.index-fork.ensures c.side.ensures in
+    let goes : let a = c.args in Goes a.stamps.now a.count a.name.now c.loop-passed.door (8192 + 16 * c.index-fork.result + c.side.result) = goes_door c.index-fork.result c.side.result c.requires.doors c.requires.count_bound.0 (leads_first c.loop-passed.door c.if-held-lt-FORK.false c.loop-passed.invariant.0.2 refl) c.index-fork.ensures c.side.ensures in
     (near_next c.loop-passed.invariant.0 c.if-held-lt-FORK.false goes, omega (arith, c.loop-passed-test.true))
 
 pub returns : goal.returns
