@@ -1,5 +1,4 @@
 -- `book::column`: a short name, an `opt_` name, or the section's table of the book. Assumes nothing.
-use borrow.Author.Rules.{rules}
 use mathlib.Core.Path.{sym, ◌∙◌}
 use Rattle.book.specs.Text.{book_in}
 use Rattle.book.proofs.Laws.Columns.{column_table, column_bare, column_opt, column_short}

@@ -1,5 +1,4 @@
 -- `book::find_column`: table k of the book, from 1 on, has the columns of section k from the first; a number before or past them is that of no section. Assumes nothing.
-use borrow.Author.Rules.{rules}
 use native.Mathlib.Omega.{arith}
 use mathlib.Core.Path.{ap, sym, ◌∙◌}
 use mathlib.Core.List.{List}

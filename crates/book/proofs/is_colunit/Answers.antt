@@ -1,5 +1,4 @@
 -- `book::is_colunit`: the word of the code is the paper's. Assumes nothing.
-use borrow.Author.Rules.{rules}
 use Rattle.text_bytes.specs.Bytes.{bytes}
 use Rattle.book.specs.Keys.{is_colunit}
 use Rattle.book.proofs.is_colunit.Goals as goal

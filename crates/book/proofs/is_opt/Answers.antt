@@ -1,5 +1,4 @@
 -- `book::is_opt`: the word of the code is the paper's. Assumes nothing.
-use borrow.Author.Rules.{rules}
 use Rattle.text_bytes.specs.Bytes.{bytes}
 use Rattle.book.specs.Book.{is_opt}
 use Rattle.book.proofs.is_opt.Goals as goal

@@ -1,5 +1,4 @@
 -- `book::key`: table 0 of the book has the keys. Assumes nothing.
-use borrow.Author.Rules.{rules}
 use mathlib.Core.Path.{ap, ◌∙◌}
 use mathlib.Core.List.{List}
 use Rattle.book_names.specs.Names.{Entry, lookup_in}

@@ -1,5 +1,4 @@
 -- `book::search`: the directory says where the rows and the links of the table stand. Assumes nothing.
-use borrow.Author.Rules.{rules}
 use mathlib.Core.Path.{◌∙◌}
 use Rattle.book.proofs.Laws.Directing.{table_linked, table_rows}
 use Rattle.book.proofs.search.Goals as goal

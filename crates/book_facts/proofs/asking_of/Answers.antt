@@ -1,7 +1,6 @@
 -- `book_facts::asking_of` meets its contract: an assay is declared where one of their flags is marked. Assumes nothing.
-use borrow.Author.Rules.{rules}
 use native.Mathlib.Omega.{arith}
-use mathlib.Core.Path.{◌≡◌, refl, sym}
+use mathlib.Core.Path.{◌≡◌, sym}
 use mathlib.Core.List.{[]}
 use lib.ListN.{length, get_or}
 use Rattle.book_facts.proofs.asking_of.Goals as goal

@@ -1,8 +1,6 @@
 -- `book_facts::is_asked` meets its contract: the letters are tried one after the other. Assumes nothing.
 use native.Mathlib.Omega.{arith}
-use borrow.Author.Rules.{rules}
 use mathlib.Core.Path.{◌≡◌, ◌∙◌}
-use mathlib.Core.Bool.{Bool}
 use Prim.Native.Nat.{ℕ}
 use Rattle.book_facts.specs.Asked.{asks}
 use Rattle.book_facts.proofs.Laws.Lettered.{ask_always, ask_no_mode, ask_no_type, by, ask_key, ask_rest}

@@ -1,5 +1,4 @@
 -- `book_facts::letter_in` meets its contract: the two conditions, one after the other. Assumes nothing.
-use borrow.Author.Rules.{rules}
 use borrow.Author.Tests.{not-true, not-false}
 use mathlib.Core.Bool.{Bool, true}
 use mathlib.Core.Path.{◌≡◌, sym, ◌∙◌}

@@ -1,5 +1,4 @@
 -- `book_facts::note_field` meets its contract: each fact is its own. Assumes nothing.
-use borrow.Author.Rules.{rules}
 use Rattle.text_bytes.specs.Bytes.{bytes}
 use Rattle.book_facts.proofs.note_field.Goals as goal
 

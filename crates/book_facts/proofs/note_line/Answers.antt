@@ -1,13 +1,11 @@
 -- `book_facts::note_line` meets its contract: a line with another key, or with other cells than three, says nothing. Assumes nothing.
-use borrow.Author.Rules.{rules}
-use borrow.Author.Tests.{not-true, not-false}
+use borrow.Author.Tests.{not-true}
 use native.Mathlib.Omega.{arith}
 use mathlib.Core.Path.{◌≡◌, sym, ap, ◌∙◌}
-use mathlib.Core.List.{List, []}
 use mathlib.Core.Option.{some}
-use Prim.Native.Nat.{ℕ, ◌≤◌}
-use lib.ListN.{length, get_or, get_elem?}
-use Rattle.text_bytes.specs.Bytes.{Bytes, bytes, begins}
+use Prim.Native.Nat.{◌≤◌}
+use lib.ListN.{length, get_elem?}
+use Rattle.text_bytes.specs.Bytes.{bytes, begins}
 use Rattle.text_bytes.specs.Places.{part}
 use Rattle.text.specs.Lines.{cells, cell}
 use Rattle.text.proofs.Laws.CellParts.{found, missing}

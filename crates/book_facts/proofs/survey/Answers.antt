@@ -1,11 +1,10 @@
 -- `book_facts::survey`: the flags and the facts so far, and the lines that are left, decide. Assumes nothing.
-use borrow.Author.Rules.{rules}
 use native.Mathlib.Omega.{arith}
 use mathlib.Core.Path.{refl, subst⁻¹}
 use mathlib.Core.List.{List}
 use mathlib.Core.Bool.{Bool}
-use Prim.Native.Nat.{◌+◌, ◌-◌, ◌≤◌}
-use lib.ListN.{length, drop}
+use Prim.Native.Nat.{◌+◌, ◌-◌}
+use lib.ListN.{drop}
 use Rattle.text_bytes.specs.Places.{part}
 use Rattle.text.specs.Lines.{lines}
 use Rattle.text.proofs.Laws.Lines.{lines_done}

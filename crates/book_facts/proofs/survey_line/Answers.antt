@@ -1,7 +1,6 @@
 -- `book_facts::survey_line` meets its contract: only metadata lines declare ids and say facts. Assumes nothing.
-use borrow.Author.Rules.{rules}
 use borrow.Author.Tests.{not-true, not-false}
-use mathlib.Core.Path.{◌≡◌, sym, ap, ◌∙◌}
+use mathlib.Core.Path.{sym, ap, ◌∙◌}
 use Rattle.text_bytes.specs.Bytes.{bytes}
 use Rattle.book_ids.specs.Ids.{marked}
 use Rattle.book_ids.proofs.Laws.Marks.{line_other}

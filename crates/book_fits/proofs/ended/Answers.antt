@@ -1,5 +1,4 @@
 -- `book_fits::ended` meets its contract: a pattern that has ended fits where the name has ended too, and misses where there was a flaw. Assumes nothing.
-use borrow.Author.Rules.{rules}
 use mathlib.Core.Path.{sym}
 use Rattle.book_names.proofs.Laws.Flaws.{marked_differs}
 use Rattle.book_names.proofs.Laws.Turns.{ended_long, ended_here}

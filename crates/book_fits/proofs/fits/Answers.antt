@@ -1,14 +1,13 @@
 -- `book_fits::fits`: the flaw so far, and what is left of the row and of the name, decide the whole. Assumes nothing.
 use borrow.Author.Rules.{rules}
 use native.Mathlib.Omega.{arith}
-use mathlib.Core.Path.{◌≡◌, refl, sym, ◌∙◌, ap}
+use mathlib.Core.Path.{refl, sym, ◌∙◌, ap}
 use mathlib.Core.List.{List}
 use Prim.Native.Nat.{ℕ, ◌+◌, ◌-◌, ◌≤◌, ◌<◌}
 use lib.ListN.{length, drop, length-drop}
-use Rattle.book_names.specs.Names.{pieces, fits as fitsIn}
 use Rattle.book_names.specs.Steps.{flawed}
 use Rattle.book_names.proofs.Laws.Flaws.{turn_differs, turn_flaw, place_within}
-use Rattle.book_names.proofs.Laws.Turns.{rest, inside, rest_end, rest_space, rest_byte, rest_other, rest_none, rest_first, rest_second, rest_third}
+use Rattle.book_names.proofs.Laws.Turns.{inside, rest_end, rest_space, rest_byte, rest_other, rest_none, rest_first, rest_second, rest_third}
 use Rattle.book_fits.proofs.fits.Goals as goal
 
 pub loop-a-init : goal.loop-a-init

@@ -1,5 +1,4 @@
 -- `book_fits::read_place` meets its contract: each way of the match is one of the definitions. Assumes nothing.
-use borrow.Author.Rules.{rules}
 use native.Mathlib.Omega.{arith}
 use mathlib.Core.Path.{◌≡◌, sym, ◌∙◌, ap}
 use mathlib.Core.List.{List}

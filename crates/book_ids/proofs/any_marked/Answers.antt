@@ -1,11 +1,9 @@
 -- `book_ids::any_marked` meets its contract: the slots that are left decide. Assumes nothing.
-use mathlib.Core.Path.{◌≡◌, refl, sym, ◌∙◌}
-use Prim.Native.Nat.{◌-◌, ◌≤◌}
-use native.Mathlib.Omega.{arith}
+use mathlib.Core.Path.{refl, sym, ◌∙◌}
+use Prim.Native.Nat.{◌-◌}
 use borrow.Author.Rules.{rules}
-use lib.ListN.{length}
 use Rattle.book_ids.specs.Ids.{is_marked}
-use Rattle.book_ids.proofs.Laws.Flagging.{left, mark_here, mark_next, mark_none}
+use Rattle.book_ids.proofs.Laws.Flagging.{mark_here, mark_next, mark_none}
 use Rattle.book_ids.proofs.any_marked.Goals as goal
 
 pub loop-i-init : goal.loop-i-init

@@ -1,14 +1,11 @@
 -- `book_ids::id_of` meets its contract. The loop's invariant: the id that the name begins with is the one that the words left find. Assumes nothing.
-use mathlib.Core.Path.{◌≡◌, refl, sym, ap, ◌∙◌}
-use mathlib.Core.List.{List, ◌∷◌, map}
-use Prim.Native.Nat.{ℕ, ◌+◌, ◌-◌, ◌≤◌}
-use native.Mathlib.Omega.{arith}
-use borrow.Author.Rules.{rules}
+use mathlib.Core.Path.{◌≡◌}
+use mathlib.Core.List.{map}
+use Prim.Native.Nat.{◌-◌, ◌≤◌}
 use lib.ListN.{drop}
 use Rattle.text_bytes.specs.Bytes.{bytes}
-use Rattle.value_references.specs.References.{families, family}
-use Rattle.book_ids.specs.Ids.{index_after, id_in, id_of}
-use Rattle.book_ids.proofs.Laws.Words.{id_here, id_later, id_nowhere, words_from}
+use Rattle.value_references.specs.References.{families}
+use Rattle.book_ids.specs.Ids.{id_in, id_of}
 use Rattle.book_ids.proofs.id_of.Given as goal
 
 abbrev pub invariant-loop-f : goal.invariant-loop-f

@@ -1,5 +1,4 @@
 -- `book_ids::index_after` meets its contract: where the word stands in front, the index after it is read. Assumes nothing.
-use borrow.Author.Rules.{rules}
 use native.Mathlib.Omega.{arith}
 use mathlib.Core.Path.{◌≡◌, sym, ◌∙◌, ap}
 use mathlib.Core.List.{List}

@@ -1,5 +1,4 @@
 -- `book_ids::key_id` meets its contract: an unknown key has no id, and neither has one that begins with none. Assumes nothing.
-use borrow.Author.Rules.{rules}
 use mathlib.Core.Path.{refl, sym, ◌∙◌}
 use Rattle.book_ids.proofs.Laws.Marks.{key_none, key_unknown, key_known}
 use Rattle.book_ids.proofs.key_id.Goals as goal

@@ -1,5 +1,4 @@
 -- `book_ids::mark_line` meets its contract: the id that a line declares is one of the four families', from 1 to 64. Assumes nothing.
-use borrow.Author.Rules.{rules}
 use native.Mathlib.Omega.{arith}
 use mathlib.Core.Path.{sym, ◌∙◌, ap}
 use mathlib.Core.List.{List}

@@ -1,5 +1,4 @@
 -- `book_kinds::cell_of_kind` meets its contract: each letter that is tried first has the answer that the definition gives it. Assumes nothing.
-use borrow.Author.Rules.{rules}
 use mathlib.Core.Path.{sym, ◌∙◌}
 use Rattle.book_kinds.proofs.Laws.Letters.{cell_text, cell_kept, cell_null, cell_value, value_whole, value_decimal, value_parameters}
 use Rattle.book_kinds.proofs.cell_of_kind.Goals as goal

@@ -1,5 +1,4 @@
 -- `book_kinds::is_either` meets its contract: both words are compared. Assumes nothing.
-use borrow.Author.Rules.{rules}
 use mathlib.Core.Path.{sym, ◌∙◌}
 use Rattle.text_bytes.proofs.Laws.Tests.{either_first, either_second}
 use Rattle.book_kinds.proofs.is_either.Goals as goal

@@ -1,5 +1,4 @@
 -- `book_kinds::is_kept` meets its contract: it asks what the definition asks, text first and then `null`. Assumes nothing.
-use borrow.Author.Rules.{rules}
 use mathlib.Core.Path.{sym, ◌∙◌}
 use Rattle.book_kinds.proofs.Laws.Letters.{kept_null, kept_text}
 use Rattle.book_kinds.proofs.is_kept.Goals as goal

@@ -1,5 +1,4 @@
 -- `book_kinds::is_reliability`: the three values of the code are the paper's. Assumes nothing.
-use borrow.Author.Rules.{rules}
 use mathlib.Core.Path.{sym, ◌∙◌}
 use Rattle.text_bytes.specs.Bytes.{bytes}
 use Rattle.book_kinds.specs.Kinds.{is_fixed}

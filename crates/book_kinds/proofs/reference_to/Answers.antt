@@ -1,5 +1,4 @@
 -- `book_kinds::reference_to`: the word that the letter's number gives is the family's. Assumes nothing.
-use borrow.Author.Rules.{rules}
 use Rattle.book_kinds.proofs.reference_to.Goals as goal
 
 pub returns : goal.returns

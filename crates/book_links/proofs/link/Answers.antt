@@ -1,9 +1,8 @@
 -- `book_links::link`. The invariant: the rows from `row` on are linked, and what stands before `at` is as it was. Assumes nothing.
-use borrow.Author.Rules.{rules}
 use native.Mathlib.Omega.{arith}
 use mathlib.Core.Path.{◌≡◌, refl, sym, ◌∙◌, subst}
 use Prim.Native.Nat.{ℕ, ◌+◌, ◌*◌, ◌-◌, ◌/◌, ◌≤◌, ◌<◌}
-use lib.ListN.{length, get_or, set, take, drop, length-drop, length-set}
+use lib.ListN.{length, get_or, set, drop, length-drop, length-set}
 use lib.Seq.{lt-length-set, take-set-le}
 use Rattle.book_names.specs.Table.{entries}
 use Rattle.book_names.specs.Links.{Linked}

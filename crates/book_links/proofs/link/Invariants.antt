@@ -1,13 +1,9 @@
 -- `book_links::link`. The invariant: the rows from `row` on are linked, and what stands before `at` is as it was. Assumes nothing.
-use borrow.Author.Rules.{rules}
-use native.Mathlib.Omega.{arith}
-use mathlib.Core.Path.{◌≡◌, refl, sym, ◌∙◌, subst}
-use Prim.Native.Nat.{ℕ, ◌+◌, ◌*◌, ◌-◌, ◌/◌, ◌≤◌, ◌<◌}
-use lib.ListN.{length, get_or, set, take, drop, length-drop, length-set}
-use lib.Seq.{lt-length-set, take-set-le}
+use mathlib.Core.Path.{◌≡◌}
+use Prim.Native.Nat.{◌-◌, ◌/◌, ◌≤◌}
+use lib.ListN.{length, take, drop}
 use Rattle.book_names.specs.Table.{entries}
 use Rattle.book_names.specs.Links.{Linked}
-use Rattle.book_names.proofs.Laws.Linking.{entry_count, entry_at, row_head, linked_none, linked_turn}
 use Rattle.book_links.proofs.link.Given as goal
 
 abbrev pub invariant-loop-row : goal.invariant-loop-row

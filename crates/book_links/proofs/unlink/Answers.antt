@@ -1,9 +1,8 @@
 -- `book_links::unlink`. The invariant: the bytes passed are linked to `none`. Assumes nothing.
 use borrow.Author.Rules.{rules}
 use native.Mathlib.Omega.{arith}
-use mathlib.Core.Path.{◌≡◌, refl, ◌∙◌}
-use Prim.Native.Nat.{ℕ, ◌-◌, ◌≤◌, ◌<◌}
-use lib.ListN.{length, get_or, take, drop}
+use mathlib.Core.Path.{refl, ◌∙◌}
+use Prim.Native.Nat.{◌-◌}
 use lib.Seq.{take-set-le}
 use Rattle.book_names.proofs.Laws.Linking.{heads_next}
 use Rattle.book_links.proofs.unlink.Goals as goal

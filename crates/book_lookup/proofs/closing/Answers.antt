@@ -1,5 +1,4 @@
 -- `book_lookup::closing`: whether the byte behind the digits is a closing bracket is what the definition asks. Assumes nothing.
-use borrow.Author.Rules.{rules}
 use mathlib.Core.Path.{sym, ◌∙◌}
 use lib.ListN.{get_or}
 use borrow.Author.Tests.{eq-eqb, ne_eqb}

@@ -1,12 +1,10 @@
 -- `book_lookup::extent`: what the bytes passed count, and those left, make the whole. Assumes nothing.
-use borrow.Author.Rules.{rules}
 use native.Mathlib.Omega.{arith}
 use mathlib.Core.Path.{◌≡◌}
 use mathlib.Core.Bool.{false}
 use mathlib.Core.List.{List}
 use Prim.Native.Nat.{ℕ, ◌+◌, ◌*◌, ◌-◌, ◌≤◌, ◌<◌}
-use lib.ListN.{length, drop}
-use Rattle.book_names.specs.Steps.{extent as extentFrom}
+use lib.ListN.{length}
 use Rattle.book_names.proofs.Laws.Lengths.{turn_extent, turn_within, close_most, last_extent}
 use Rattle.book_lookup.proofs.extent.Goals as goal
 

@@ -1,5 +1,4 @@
 -- `book_lookup::may_end`: the tests that led to each `return` decide. Assumes nothing.
-use borrow.Author.Rules.{rules}
 use borrow.Author.Tests.{eq-eqb, ne_eqb}
 use Prim.Native.Nat.{◌-◌}
 use lib.ListN.{get_or}

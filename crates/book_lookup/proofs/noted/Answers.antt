@@ -1,5 +1,4 @@
 -- `book_lookup::noted`: a row that does not miss changes nothing. Assumes nothing.
-use borrow.Author.Rules.{rules}
 use mathlib.Core.Path.{sym, ◌∙◌}
 use Rattle.value_references.proofs.Laws.Firsts.{sooner_none}
 use Rattle.book_lookup.proofs.noted.Goals as goal

@@ -1,5 +1,4 @@
 -- `book_text::book`: the directory, the rows, the required columns and the starts laid one after the other are what stands in front of the links, and the links are written behind them. Assumes nothing.
-use borrow.Author.Rules.{rules}
 use mathlib.Core.Path.{refl, ◌∙◌}
 use Prim.Native.Nat.{ℕ}
 use lib.ListN.{length-replicate}

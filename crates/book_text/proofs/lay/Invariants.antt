@@ -1,11 +1,8 @@
 -- `book_text::lay`. The invariant: as many bytes as were copied stand behind what stood before `at`. Assumes nothing.
-use borrow.Author.Rules.{rules}
-use native.Mathlib.Omega.{arith}
-use mathlib.Core.Path.{◌≡◌, refl}
+use mathlib.Core.Path.{◌≡◌}
 use mathlib.Core.List.{◌++◌}
 use Prim.Native.Nat.{◌+◌, ◌-◌, ◌≤◌}
 use lib.ListN.{length, take}
-use Rattle.book_laid.proofs.Laws.Laying.{copied_none, copied, copied_all}
 use Rattle.book_text.proofs.lay.Given as goal
 
 abbrev pub invariant-loop-i : goal.invariant-loop-i

@@ -1,5 +1,4 @@
 -- `capi::mztab_add_cents` meets its contract: it is that of `Cents::add`. Assumes nothing.
-use borrow.Author.Rules.{rules}
 use Rattle.capi.proofs.mztab_add_cents.Goals as goal
 
 pub returns : goal.returns

@@ -1,5 +1,4 @@
 -- `capi::mztab_cell` meets its contract: `locate` gives the place. Assumes nothing.
-use borrow.Author.Rules.{rules}
 use Rattle.capi.proofs.Laws.{placed_at}
 use Rattle.capi.proofs.mztab_cell.Goals as goal
 

@@ -1,6 +1,5 @@
 -- `capi::mztab_cell_or` meets its contract: `locate` gives the place, and its bytes decide. Assumes nothing.
 use mathlib.Core.Path.{sym, ◌∙◌}
-use borrow.Author.Rules.{rules}
 use Rattle.text_bytes.specs.Bytes.{bytes}
 use Rattle.capi.proofs.Laws.{stood_in, stood_out}
 use Rattle.capi.proofs.mztab_cell_or.Goals as goal

@@ -1,5 +1,4 @@
 -- `capi::mztab_judge` meets its contract: it is that of `judge_places`. Assumes nothing.
-use borrow.Author.Rules.{rules}
 use Rattle.capi.proofs.mztab_judge.Goals as goal
 
 pub returns : goal.returns

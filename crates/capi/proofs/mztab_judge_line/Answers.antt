@@ -1,5 +1,4 @@
 -- `capi::mztab_judge_line` meets its contract: it is that of `judge_line_places`. Assumes nothing.
-use borrow.Author.Rules.{rules}
 use Rattle.capi.proofs.mztab_judge_line.Goals as goal
 
 pub returns : goal.returns

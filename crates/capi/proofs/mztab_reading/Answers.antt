@@ -2,7 +2,6 @@
 use mathlib.Core.Path.{◌∙◌}
 use mir.ValLaws.{to_z-of_z}
 use mir.Syntax.{w32, w64}
-use borrow.Author.Rules.{rules}
 use Rattle.capi.proofs.Laws.{told_as}
 use Rattle.capi.proofs.mztab_reading.Goals as goal
 

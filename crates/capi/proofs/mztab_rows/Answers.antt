@@ -1,5 +1,4 @@
 -- `capi::mztab_rows` meets its contract: it is that of `rows`. Assumes nothing.
-use borrow.Author.Rules.{rules}
 use Rattle.capi.proofs.mztab_rows.Goals as goal
 
 pub returns : goal.returns

@@ -1,5 +1,4 @@
 -- `capi::mztab_split_fee` meets its contract: it is that of `split_places`. Assumes nothing.
-use borrow.Author.Rules.{rules}
 use Rattle.capi.proofs.mztab_split_fee.Goals as goal
 
 pub returns : goal.returns

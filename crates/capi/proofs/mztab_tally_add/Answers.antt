@@ -1,6 +1,5 @@
 -- `capi::mztab_tally_add` meets its contract: it is that of `tally::add` of the tallies in the places. Assumes nothing.
 use mathlib.Core.Path.{ap, ◌∙◌}
-use borrow.Author.Rules.{rules}
 use Rattle.tally.specs.declared.Tally.{Tally}
 use Rattle.tally.specs.Tally.{tally_of, added}
 use Rattle.tally.proofs.Laws.Placing.{placed_is}

@@ -1,5 +1,4 @@
 -- `capi::mztab_tally_read` meets its contract: it is that of `tally_records::read`, its totals one to a place. Assumes nothing.
-use borrow.Author.Rules.{rules}
 use Rattle.tally.proofs.Laws.Placing.{placed_is}
 use Rattle.capi.proofs.mztab_tally_read.Goals as goal
 

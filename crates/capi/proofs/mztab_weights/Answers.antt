@@ -1,5 +1,4 @@
 -- `capi::mztab_weights` meets its contract: it is that of `weights`. Assumes nothing.
-use borrow.Author.Rules.{rules}
 use Rattle.capi.proofs.mztab_weights.Goals as goal
 
 pub returns : goal.returns

@@ -1,5 +1,4 @@
 -- `column_marks::counter_of` meets its contract: a column's name is a word and an index, as a reference is; the words are tried one after the other. Assumes nothing.
-use borrow.Author.Rules.{rules}
 use Rattle.text_bytes.specs.Bytes.{bytes}
 use Rattle.column_marks.proofs.Laws.Columning.{counts_psms, counts_distinct, counts_unique, counts_nothing}
 use Rattle.column_marks.proofs.counter_of.Goals as goal

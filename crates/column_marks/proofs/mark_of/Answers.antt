@@ -1,5 +1,4 @@
 -- `column_marks::mark_of` meets its contract: a name is marked by what is asked for. Assumes nothing.
-use borrow.Author.Rules.{rules}
 use Rattle.column_marks.proofs.mark_of.Goals as goal
 
 pub returns-in-Variables : goal.returns-in-Variables

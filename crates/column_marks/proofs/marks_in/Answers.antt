@@ -1,9 +1,8 @@
 -- `column_marks::marks_in` meets its contract. The invariant: the cells before k are marked, and the cells from `at` on are left. Assumes nothing.
-use Prim.Native.Nat.{◌-◌, ◌≤◌}
+use Prim.Native.Nat.{◌-◌}
 use native.Mathlib.Omega.{arith}
 use borrow.Author.Rules.{rules}
-use lib.ListN.{length}
-use Rattle.column_marks.proofs.Laws.Columning.{SoFar, marks_start, marks_next, marks_last, marks_full}
+use Rattle.column_marks.proofs.Laws.Columning.{marks_start, marks_next, marks_last, marks_full}
 use Rattle.column_marks.proofs.marks_in.Goals as goal
 
 pub loop-k-init : goal.loop-k-init

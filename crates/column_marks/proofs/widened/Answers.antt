@@ -1,5 +1,4 @@
 -- `column_marks::widened` meets its contract: a cell without a mark needs nothing. Assumes nothing.
-use borrow.Author.Rules.{rules}
 use borrow.Author.Tests.{eq-eqb, ne_eqb}
 use Rattle.column_marks.proofs.widened.Goals as goal
 

@@ -1,6 +1,5 @@
 -- `fault_steps::begin` meets its contract: past the limit nothing is left to report, and else nothing was reported yet. Assumes nothing.
 use mathlib.Core.Path.{refl, sym, ap, ◌∙◌}
-use borrow.Author.Rules.{rules}
 use borrow.Author.Tests.{eqb-true, eqb-false}
 use lib.ListN.{length}
 use Rattle.book.specs.Book.{book_of}

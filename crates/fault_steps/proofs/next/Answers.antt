@@ -1,7 +1,6 @@
 -- `fault_steps::next` meets its contract: the part that was judged is what comes next, cut to what the list has room for. Assumes nothing.
 use mathlib.Core.Path.{◌≡◌, refl, sym, ap, ◌∙◌}
 use native.Mathlib.Omega.{arith}
-use borrow.Author.Rules.{rules}
 use lib.ListN.{length, take, drop}
 use Rattle.rules.specs.Rules.{breaks_by}
 use Rattle.scan.specs.Places.{Lent}

@@ -1,5 +1,5 @@
 -- `faults::copy_out` meets its contract: a turn lays the first of the records that are left. Assumes nothing.
-use Rattle.std.proofs.Common.{◌≡◌, ◌<◌, ℕ, suc, ◌+◌, ◌-◌, List, ◌∷◌, length, set, sym, ap, ◌∙◌, arith}
+use Rattle.std.proofs.Common.{◌≡◌, ◌<◌, ℕ, suc, ◌+◌, ◌-◌, List, ◌∷◌, set, sym, ap, ◌∙◌, arith}
 use Rattle.std.proofs.lemmas.List.Edits.{sets}
 use Rattle.fault_steps.specs.declared.Fault.{Fault}
 use Rattle.fault_steps.specs.Steps.{record_at, records}

@@ -1,7 +1,6 @@
 -- `fee::fill` meets its contract: over 64 places are refused before any is lent, else what `split_places` leaves is handed on. Assumes nothing.
 use mathlib.Core.Path.{sym}
 use native.Mathlib.Omega.{arith}
-use borrow.Author.Rules.{rules}
 use lib.ListN.{replicate, take, drop}
 use lib.Seq.{length-take-le}
 use Rattle.fee.proofs.Laws.Filling.{too_many, fills_none, number_is, fills_all}

@@ -1,5 +1,5 @@
 -- `judge_report::print_breaks` ends and is safe: it prints no break past the places. Assumes nothing.
-use Prim.Native.Nat.{◌-◌, ◌≤◌}
+use Prim.Native.Nat.{◌-◌}
 use borrow.Author.Rules.{rules}
 use Rattle.judge_report.proofs.print_breaks.Reads as reads
 use Rattle.judge_report.proofs.print_breaks.Lts as lts

@@ -1,6 +1,5 @@
 -- `judged_line::judge_line_places` meets its contract: the limit decides, then whether the line is there, and else its breaks are put. Assumes nothing.
 use mathlib.Core.Path.{sym, ap, ◌∙◌}
-use borrow.Author.Rules.{rules}
 use borrow.Author.Tests.{lt-ltb, le-ltb, not-true, not-false}
 use lib.ListN.{length}
 use Rattle.text.specs.Lines.{LIMIT}

@@ -1,7 +1,6 @@
 -- `judged_line::learn_kinds` meets its contract: where there is a header its names are judged, and their kinds kept. Assumes nothing.
 use Prim.Native.Nat.{ℕ, ◌-◌, ◌<◌}
 use native.Mathlib.Omega.{arith}
-use borrow.Author.Rules.{rules}
 use lib.ListN.{drop, length-take, length-drop, length-replicate}
 use Rattle.line_head_stamps.specs.Stamps.{ROOM}
 use Rattle.judged_line.proofs.Laws.Passing.{learnt}

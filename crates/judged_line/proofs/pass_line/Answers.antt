@@ -1,16 +1,13 @@
 -- `judged_line::pass_line` meets its contract: a row and a header change what is carried by their section, a metadata line by its key, and any other line changes
 -- nothing. Assumes nothing.
-use mathlib.Core.Path.{◌≡◌, refl, sym, ap, ◌∙◌}
+use mathlib.Core.Path.{refl, sym, ap, ◌∙◌}
 use Prim.Native.Nat.{◌<◌}
 use native.Mathlib.Omega.{arith}
-use borrow.Author.Rules.{rules}
 use borrow.Author.Tests.{lt-ltb}
 use lib.ListN.{length}
 use Rattle.book.specs.Book.{Book}
 use Rattle.book.specs.Text.{book_in}
 use Rattle.book.proofs.Laws.Sized.{book_sized}
-use Rattle.rules.specs.Sorts.{sort_of}
-use Rattle.rules.specs.declared.sorts.Sort.{Sort}
 use Rattle.rules.proofs.Laws.Sorting.{meta_in, meta_sort, header_section, row_section_lem}
 use Rattle.scan.specs.Machine.{FIRSTS}
 use Rattle.judged_line.proofs.Laws.Passing.{passes_kept, passes_meta, passes_header}

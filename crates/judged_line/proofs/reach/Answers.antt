@@ -1,16 +1,14 @@
 -- `judged_line::reach` meets its contract. The invariant: what is worked out stands for the lines passed, which are fewer than the line sought, and the nearest
 -- header among them begins at `head`. Assumes nothing.
 use mathlib.Core.Path.{◌≡◌, sym, subst⁻¹}
-use Prim.Native.Nat.{ℕ, ◌-◌, ◌≤◌, ◌<◌}
+use Prim.Native.Nat.{ℕ, ◌-◌}
 use native.Mathlib.Omega.{arith}
-use borrow.Author.Rules.{rules}
-use lib.ListN.{length, drop, length-take, length-drop}
+use lib.ListN.{drop, length-take, length-drop}
 use Rattle.text_bytes.proofs.Laws.Tests.{absurd_bool}
 use Rattle.text.specs.Lines.{lines}
 use Rattle.book.specs.Text.{book_in}
 use Rattle.book.proofs.Laws.Sized.{book_sized}
 use Rattle.book_facts.specs.Asked.{AskingOf}
-use Rattle.scan.specs.Machine.{FIRSTS}
 use Rattle.scan.proofs.Laws.Scanning.{scan_all}
 use Rattle.judged_line.specs.Passing.{Reaches, Headed}
 use Rattle.judged_line.proofs.Laws.Passing.{reaches_step, headed_step, passes_slots, passes_asking}

@@ -1,6 +1,5 @@
 -- `line_any::control_of` meets its contract: a line has at most one cell more than bytes. Assumes nothing.
 use native.Mathlib.Omega.{arith}
-use borrow.Author.Rules.{rules}
 use Rattle.text.specs.Lines.{TAB, cells, control}
 use Rattle.text_bytes.proofs.Laws.Pieces.{pieces_bound}
 use Rattle.text_bytes.specs.Bytes.{any}

@@ -3,11 +3,8 @@ use mathlib.Core.Path.{◌≡◌, refl, sym, ap, ◌∙◌}
 use mathlib.Core.Bool.{true}
 use Prim.Native.Nat.{◌<◌}
 use native.Mathlib.Omega.{arith}
-use borrow.Author.Rules.{rules}
-use Rattle.rules.specs.Sorts.{sort_of}
 use lib.ListN.{length}
 use Rattle.scan.specs.Machine.{FIRSTS, ids_of}
-use Rattle.rules.specs.declared.sorts.Sort.{Sort}
 use Rattle.rules.specs.declared.sorts.Sort.TheVariants.{Silent, Unknown, Meta, Row}
 use Rattle.scan.proofs.Laws.Putting.{puts_none}
 use Rattle.line_any.proofs.Laws.Steps.{line_puts, follows_kept, follows_meta, header_puts, header_follows}

@@ -1,5 +1,4 @@
 -- `line_any::judge_unknown` meets its contract: three puts, one after the other. Assumes nothing.
-use borrow.Author.Rules.{rules}
 use Rattle.scan.specs.Machine.{unknown_breaks}
 use Rattle.scan.proofs.Laws.Putting.{puts3}
 use Rattle.line_any.proofs.judge_unknown.Goals as goal

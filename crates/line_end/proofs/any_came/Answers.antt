@@ -1,12 +1,12 @@
 -- `line_end::any_came` meets its contract: the slots that are left decide. Assumes nothing.
-use mathlib.Core.Path.{◌≡◌, refl, sym, ap, ◌∙◌}
+use mathlib.Core.Path.{refl, sym, ap, ◌∙◌}
 use mathlib.Core.Bool.{not}
-use Prim.Native.Nat.{◌-◌, ◌≤◌}
+use Prim.Native.Nat.{◌-◌}
 use borrow.Author.Rules.{rules}
 use borrow.Author.Tests.{eq-eqb, ne_eqb}
 use lib.ListN.{get_or}
 use Rattle.book_ids.specs.Ids.{is_marked}
-use Rattle.book_ids.proofs.Laws.Flagging.{left, mark_here, mark_next, mark_none}
+use Rattle.book_ids.proofs.Laws.Flagging.{mark_here, mark_next, mark_none}
 use Rattle.scan.specs.Machine.{marks}
 use Rattle.line_end.proofs.Laws.Wanting.{came_at}
 use Rattle.line_end.proofs.any_came.Goals as goal

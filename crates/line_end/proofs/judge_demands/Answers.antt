@@ -7,12 +7,11 @@ use native.Mathlib.Omega.{arith}
 use borrow.Author.Rules.{rules}
 use lib.ListN.{length, get_or, drop, drop_of_length-le, length-append}
 use lib.Seq.{drop-cons}
-use Rattle.book.specs.Book.{Demand, no_demand, wants_of, wants_in, wants}
+use Rattle.book.specs.Book.{Demand, no_demand, wants_of, wants_in}
 use Rattle.book.specs.Text.{book_in}
 use Rattle.book.proofs.Laws.Sized.{book_sized}
-use Rattle.rules.specs.Breaks.{Break}
 use Rattle.scan.specs.Places.{lent, put_all}
-use Rattle.scan.specs.Machine.{want_breaks, end_breaks}
+use Rattle.scan.specs.Machine.{want_breaks}
 use Rattle.line_end.specs.Ends.{seen}
 use Rattle.line_end.proofs.Laws.Wanting.{wants_append}
 use Rattle.line_end.proofs.judge_demands.Goals as goal

@@ -1,20 +1,14 @@
 -- `line_end::judge_demands` meets its contract. The loop's invariant: what was put, and what the demands left will put, is what all demands put. Assumes nothing.
-use mathlib.Core.Path.{◌≡◌, refl, sym, ap, ◌∙◌}
-use mathlib.Core.List.{List, ◌∷◌}
-use Prim.Native.Nat.{suc, ◌+◌, ◌-◌, ◌≤◌}
-use native.Mathlib.Numerals.{add-one}
-use native.Mathlib.Omega.{arith}
-use borrow.Author.Rules.{rules}
-use lib.ListN.{length, get_or, drop, drop_of_length-le, length-append}
-use lib.Seq.{drop-cons}
-use Rattle.book.specs.Book.{Demand, no_demand, wants_of, wants_in, wants}
+use mathlib.Core.Path.{◌≡◌}
+use mathlib.Core.List.{List}
+use Prim.Native.Nat.{◌+◌, ◌-◌, ◌≤◌}
+use lib.ListN.{length, drop}
+use Rattle.book.specs.Book.{wants_in, wants}
 use Rattle.book.specs.Text.{book_in}
-use Rattle.book.proofs.Laws.Sized.{book_sized}
 use Rattle.rules.specs.Breaks.{Break}
 use Rattle.scan.specs.Places.{lent, put_all}
 use Rattle.scan.specs.Machine.{want_breaks, end_breaks}
 use Rattle.line_end.specs.Ends.{seen}
-use Rattle.line_end.proofs.Laws.Wanting.{wants_append}
 use Rattle.line_end.proofs.judge_demands.Given as goal
 
 abbrev pub invariant-loop-k : goal.invariant-loop-k

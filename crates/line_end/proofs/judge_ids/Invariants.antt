@@ -1,16 +1,13 @@
 -- `line_end::judge_ids` meets its contract. The loop's invariant: what was put, and what the ids left will put, is what all ids put. Assumes nothing.
-use mathlib.Core.Path.{◌≡◌, refl, sym, ap, ◌∙◌}
-use mathlib.Core.List.{List, []}
-use Prim.Native.Nat.{◌+◌, ◌-◌, ◌≤◌, ◌<◌}
-use native.Mathlib.Omega.{arith}
-use borrow.Author.Rules.{rules}
-use lib.ListN.{length, get_or}
+use mathlib.Core.Path.{◌≡◌}
+use mathlib.Core.List.{List}
+use Prim.Native.Nat.{◌+◌, ◌-◌, ◌≤◌}
+use lib.ListN.{length}
 use Rattle.book.specs.Book.{up_from}
 use Rattle.rules.specs.Breaks.{Break}
 use Rattle.scan.specs.Places.{lent, put_all}
 use Rattle.scan.specs.Machine.{marks}
 use Rattle.line_end.specs.Ends.{id_breaks}
-use Rattle.line_end.proofs.Laws.Wanting.{absent_at, ids_turn, ids_done}
 use Rattle.line_end.proofs.judge_ids.Given as goal
 
 abbrev pub invariant-loop-i : goal.invariant-loop-i

@@ -1,6 +1,5 @@
 -- `line_head::head_code` meets its contract: four puts, one after the other. Assumes nothing.
 use Rattle.scan.proofs.Laws.Putting.{puts2, puts3}
-use borrow.Author.Rules.{rules}
 use Rattle.line_head.proofs.head_code.Goals as goal
 
 pub returns : goal.returns

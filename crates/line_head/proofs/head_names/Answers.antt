@@ -1,7 +1,6 @@
 -- `line_head::head_names` meets its contract: rule 16, then each name. Assumes nothing.
 use native.Mathlib.Omega.{arith}
 use Rattle.scan.proofs.Laws.Putting.{puts2}
-use borrow.Author.Rules.{rules}
 use Rattle.line_head.proofs.head_names.Goals as goal
 
 pub head_cells-requires : goal.head_cells-requires

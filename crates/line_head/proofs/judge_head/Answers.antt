@@ -10,7 +10,6 @@ use Rattle.book_facts.specs.Asked.{asked_by}
 use Rattle.scan.specs.Machine.{ids_of}
 use Rattle.scan.proofs.Laws.Celling.{cell_here, cells_next, cells_last}
 use Rattle.line_head.proofs.Laws.Heading.{head_wide, head_named, names_none}
-use borrow.Author.Rules.{rules}
 use Rattle.line_head.proofs.judge_head.Goals as goal
 
 pub returns-then-wide : goal.returns-then-wide

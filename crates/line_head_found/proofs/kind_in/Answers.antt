@@ -1,7 +1,6 @@
 -- `line_head_found::kind_in` meets its contract: the two cases of the definition. Assumes nothing.
 use mathlib.Core.Path.{sym, ap}
 use Rattle.rules.specs.Rules.{kind_in}
-use borrow.Author.Rules.{rules}
 use Rattle.line_head_found.proofs.kind_in.Goals as goal
 
 pub returns-in-Known : goal.returns-in-Known

@@ -1,7 +1,6 @@
 -- `line_head_found::name_rule` meets its contract: an unknown name has a flaw or none, and a known one names an undeclared id or none. Assumes nothing.
 use mathlib.Core.Path.{ap, ◌∙◌}
 use mathlib.Core.Bool.{Bool, cond}
-use borrow.Author.Rules.{rules}
 use Rattle.line_head_found.proofs.name_rule.Goals as goal
 
 pub returns-in-Unknown : goal.returns-in-Unknown

@@ -4,7 +4,6 @@ use native.Mathlib.Omega.{arith}
 use Prim.Native.Nat.{◌≤◌, ◌<◌}
 use Rattle.scan.specs.Machine.{ids_of}
 use Rattle.scan.proofs.Laws.Families.{within_named, column_none, column_named_lem}
-use borrow.Author.Rules.{rules}
 use Rattle.line_head_found.proofs.undeclared.Goals as goal
 
 pub returns-then-family-eq-NO_FAMILY : goal.returns-then-family-eq-NO_FAMILY

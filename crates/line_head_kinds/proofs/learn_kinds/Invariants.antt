@@ -1,18 +1,12 @@
 -- `line_head_kinds::learn_kinds` meets its contract. The invariant: the kinds of the names so far are kept, and the cells after the current one are those that
 -- are left. Assumes nothing.
-use mathlib.Core.Path.{◌≡◌, sym, ap, subst, ◌∙◌}
-use mathlib.Core.List.{[], ◌∷◌}
-use Prim.Native.Nat.{ℕ, ◌+◌, ◌-◌, ◌≤◌, ◌<◌}
-use native.Mathlib.Omega.{arith}
-use borrow.Author.Rules.{rules}
-use lib.ListN.{length, take, drop, set, length-set, length-drop}
-use lib.Seq.{drop-drop}
+use mathlib.Core.Path.{◌≡◌}
+use mathlib.Core.List.{[]}
+use Prim.Native.Nat.{◌+◌, ◌-◌, ◌≤◌, ◌<◌}
+use lib.ListN.{length, drop}
 use Rattle.text.specs.Lines.{cells}
-use Rattle.book.specs.Book.{column_of}
 use Rattle.book.specs.Text.{book_in}
-use Rattle.rules.specs.Rules.{kind_in}
-use Rattle.scan.proofs.Laws.Celling.{cell_here, cells_next, cells_last}
-use Rattle.line_head_kinds.proofs.Laws.Kinds.{KindsTo, kinds_step}
+use Rattle.line_head_kinds.proofs.Laws.Kinds.{KindsTo}
 use Rattle.line_head_kinds.proofs.learn_kinds.Given as goal
 
 abbrev pub invariant-loop-end : goal.invariant-loop-end

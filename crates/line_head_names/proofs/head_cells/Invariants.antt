@@ -1,22 +1,17 @@
 -- `line_head_names::head_cells` meets its contract. The loop's invariant: the breaks put so far and those of the names that are left are those of all
 -- names; the kinds of the names so far are kept, and they are noted. Assumes nothing.
-use mathlib.Core.Path.{◌≡◌, refl, ap, ◌∙◌}
+use mathlib.Core.Path.{◌≡◌}
 use mathlib.Core.List.{List}
-use Prim.Native.Nat.{ℕ, ◌+◌, ◌-◌, ◌*◌, ◌≤◌, ◌<◌}
-use native.Mathlib.Omega.{arith}
-use borrow.Author.Rules.{rules}
-use lib.ListN.{length, take, drop, length-set}
-use Rattle.text_bytes.specs.Bytes.{Bytes, any, same, first_from, first_kept}
+use Prim.Native.Nat.{◌+◌, ◌-◌, ◌*◌, ◌≤◌}
+use lib.ListN.{length, take, drop}
+use Rattle.text_bytes.specs.Bytes.{Bytes, any, same, first_from}
 use Rattle.text.specs.Lines.{cells}
-use Rattle.book.specs.Book.{is_opt, column_of}
+use Rattle.book.specs.Book.{is_opt}
 use Rattle.rules.specs.Breaks.{Break}
 use Rattle.scan.specs.Places.{lent, put_all}
-use Rattle.rules.specs.Rules.{kind_in}
 use Rattle.scan.specs.Machine.{ids_of, each_cell, head_cell}
-use Rattle.scan.proofs.Laws.Celling.{cell_here, cells_next, cells_last, turn_next, turn_last, column_next, column_count, any_more, first_more_name}
 use Rattle.line_head_stamps.specs.Ways.{first_named, Noted}
-use Rattle.line_head_stamps.proofs.Laws.Noting.{noted_none}
-use Rattle.line_head_kinds.proofs.Laws.Kinds.{KindsTo, kinds_step}
+use Rattle.line_head_kinds.proofs.Laws.Kinds.{KindsTo}
 use Rattle.book.specs.Text.{book_in}
 use Rattle.line_head_names.proofs.head_cells.Given as goal
 

@@ -1,6 +1,5 @@
 -- `line_head_names::name_cell` meets its contract: the puts of name_known and two more. Assumes nothing.
 use Rattle.scan.proofs.Laws.Putting.{puts3}
-use borrow.Author.Rules.{rules}
 use Rattle.line_head_names.proofs.name_cell.Goals as goal
 
 pub returns : goal.returns

@@ -1,6 +1,5 @@
 -- `line_head_names::name_known` meets its contract: three puts, one after the other. Assumes nothing.
 use Rattle.scan.proofs.Laws.Putting.{puts3}
-use borrow.Author.Rules.{rules}
 use Rattle.line_head_names.proofs.name_known.Goals as goal
 
 pub returns : goal.returns

@@ -2,11 +2,9 @@
 use mathlib.Core.Path.{◌≡◌, ap, ◌∙◌}
 use Prim.Native.Nat.{ℕ, ◌+◌, ◌*◌, ◌-◌, ◌≤◌, ◌<◌}
 use native.Mathlib.Omega.{arith}
-use borrow.Author.Rules.{rules}
 use lib.ListN.{length}
-use Rattle.text_bytes.specs.Bytes.{Bytes}
 use Rattle.book.specs.Book.{Book}
-use Rattle.book.specs.Text.{IsText, book_in}
+use Rattle.book.specs.Text.{book_in}
 use Rattle.book.proofs.Laws.Directing.{section_within}
 use Rattle.line_head_required.proofs.Laws.Requiring.{wanted_within, lacks_wanted, wanted_lines}
 use Rattle.line_head_required.proofs.lacks.Goals as goal

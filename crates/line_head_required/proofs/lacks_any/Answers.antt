@@ -1,16 +1,10 @@
 -- `line_head_required::lacks_any` meets its contract. The loop's invariant: the wanted columns that are left decide, and each has its letter. Assumes nothing.
-use mathlib.Core.Path.{◌≡◌, refl, sym, ap, ◌∙◌}
-use mathlib.Core.Bool.{Bool, true, not}
-use Prim.Native.Nat.{ℕ, ◌-◌, ◌≤◌}
+use mathlib.Core.Path.{refl, sym, ap, ◌∙◌}
+use mathlib.Core.Bool.{true, not}
+use Prim.Native.Nat.{◌-◌}
 use native.Mathlib.Omega.{arith}
 use borrow.Author.Rules.{rules}
 use borrow.Author.Tests.{leb-true}
-use lib.ListN.{length, take, drop}
-use Rattle.text_bytes.specs.Bytes.{Bytes, all}
-use Rattle.text.specs.Lines.{cells}
-use Rattle.book_facts.specs.Asked.{asked_by}
-use Rattle.book_facts.specs.declared.Asking.{Asking}
-use Rattle.rules.specs.Rules.{has_column}
 use Rattle.line_head_required.specs.Wanted.{is_line}
 use Rattle.line_head_required.proofs.Laws.Requiring.{all_miss, all_next, all_last, all_here, all_after}
 use Rattle.line_head_required.proofs.lacks_any.Invariants.{has}

@@ -4,7 +4,6 @@ use mathlib.Core.Bool.{Bool, true, false, not, ◌||◌}
 use mathlib.Core.List.{List}
 use Prim.Native.Nat.{◌-◌}
 use native.Mathlib.Omega.{arith}
-use borrow.Author.Rules.{rules}
 use lib.Seq.{take_all}
 use lib.ListN.{length, get_or, take, drop, length-drop}
 use Rattle.text_bytes.specs.Bytes.{Bytes, any, same}

@@ -1,11 +1,7 @@
 -- `line_head_required::named_before` meets its contract. The loop's invariant: the cells that are left decide. Assumes nothing.
 use mathlib.Core.Path.{◌≡◌, sym, ◌∙◌}
-use Prim.Native.Nat.{◌≤◌}
 use native.Mathlib.Omega.{arith}
-use borrow.Author.Rules.{rules}
-use lib.ListN.{length, take, drop}
-use Rattle.text_bytes.specs.Bytes.{any, same}
-use Rattle.text.specs.Lines.{cells}
+use Rattle.text_bytes.specs.Bytes.{any}
 use Rattle.scan.proofs.Laws.Celling.{any_hit, any_next, any_last}
 use Rattle.line_head_required.proofs.named_before.Goals as goal
 

@@ -1,12 +1,9 @@
 -- `line_head_required::named_before` meets its contract. The loop's invariant: the cells that are left decide. Assumes nothing.
-use mathlib.Core.Path.{◌≡◌, sym, ◌∙◌}
+use mathlib.Core.Path.{◌≡◌}
 use Prim.Native.Nat.{◌≤◌}
-use native.Mathlib.Omega.{arith}
-use borrow.Author.Rules.{rules}
 use lib.ListN.{length, take, drop}
 use Rattle.text_bytes.specs.Bytes.{any, same}
 use Rattle.text.specs.Lines.{cells}
-use Rattle.scan.proofs.Laws.Celling.{any_hit, any_next, any_last}
 use Rattle.line_head_required.proofs.named_before.Given as goal
 
 abbrev pub invariant-loop-left : goal.invariant-loop-left

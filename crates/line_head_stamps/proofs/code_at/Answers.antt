@@ -1,7 +1,6 @@
 -- `line_head_stamps::code_at` meets its contract: a place is before the end or past it. Assumes nothing.
 use mathlib.Core.Path.{sym, ◌∙◌}
 use native.Mathlib.Omega.{arith}
-use borrow.Author.Rules.{rules}
 use Rattle.line_head_stamps.proofs.Laws.Asking.{code_here, code_past}
 use Rattle.line_head_stamps.proofs.code_at.Goals as goal
 

@@ -2,7 +2,6 @@
 use mathlib.Core.Path.{◌≡◌}
 use Prim.Native.Nat.{ℕ, ◌/◌, ◌%◌, ◌≤◌}
 use native.Mathlib.Omega.{arith}
-use borrow.Author.Rules.{rules}
 use Rattle.line_head_stamps.proofs.differing_bits.Goals as goal
 
 highest : (a : ℕ) → a ≤ 256 → a / 256 % 16 ≡ a / 16 / 16

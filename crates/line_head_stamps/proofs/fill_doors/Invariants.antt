@@ -1,11 +1,7 @@
 -- `line_head_stamps::fill_doors` meets its contract. The loop's invariant: the first k doors are filled. Assumes nothing.
-use mathlib.Core.Path.{◌≡◌, sym, ap, ◌∙◌}
+use mathlib.Core.Path.{◌≡◌}
 use Prim.Native.Nat.{◌+◌, ◌-◌, ◌*◌, ◌≤◌}
-use native.Mathlib.Omega.{arith}
-use borrow.Author.Rules.{rules}
-use lib.ListN.{length}
-use Rattle.line_head_stamps.specs.Stamps.{BRANCHES, ROOM, covered}
-use Rattle.line_head_stamps.proofs.Laws.Writing.{filled_none, filled_next, filled_length}
+use Rattle.line_head_stamps.specs.Stamps.{BRANCHES, covered}
 use Rattle.line_head_stamps.proofs.fill_doors.Given as goal
 
 abbrev pub invariant-loop-k : goal.invariant-loop-k

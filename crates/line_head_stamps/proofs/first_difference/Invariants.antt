@@ -1,12 +1,8 @@
 -- `line_head_stamps::first_difference` meets its contract. The loop's invariant: the bytes that are left decide whether the two are the same. Assumes nothing.
-use mathlib.Core.Path.{◌≡◌, refl, sym, ◌∙◌}
+use mathlib.Core.Path.{◌≡◌}
 use Prim.Native.Nat.{◌-◌, ◌≤◌}
-use native.Mathlib.Omega.{arith}
-use borrow.Author.Rules.{rules}
 use lib.ListN.{length, drop}
 use Rattle.text_bytes.specs.Bytes.{same}
-use Rattle.text_bytes.proofs.Laws.Same.{same_hit}
-use Rattle.line_head_stamps.proofs.Laws.Asking.{code_here, code_past, parts_before, parts_end}
 use Rattle.line_head_stamps.proofs.first_difference.Given as goal
 
 abbrev pub invariant-loop-i : goal.invariant-loop-i

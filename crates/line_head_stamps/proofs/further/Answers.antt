@@ -1,13 +1,11 @@
 -- `line_head_stamps::further` meets its contract. The loop's invariant: what is held leads to a fork, and a way on from the name's door there is one from the first. Forks rise, so it ends; a guess is all that is written. Assumes nothing.
-use mathlib.Core.Path.{◌≡◌, refl, ap, subst, ◌∙◌}
+use mathlib.Core.Path.{refl, subst}
 use mathlib.Core.List.{List}
 use Prim.Native.Nat.{ℕ, ◌+◌, ◌-◌, ◌*◌, ◌≤◌}
 use native.Mathlib.Omega.{arith}
-use borrow.Author.Rules.{rules}
-use lib.ListN.{length, get_or, set, length-set}
-use Rattle.line_head_stamps.specs.Stamps.{ROOM}
-use Rattle.line_head_stamps.specs.Ways.{Guessed, Doors, Goes}
-use Rattle.line_head_stamps.proofs.Laws.Passing.{Leads, leads_first, leads_on, door_rises, goes_door}
+use lib.ListN.{get_or, set}
+use Rattle.line_head_stamps.specs.Ways.{Guessed, Goes}
+use Rattle.line_head_stamps.proofs.Laws.Passing.{leads_first, leads_on, door_rises, goes_door}
 use Rattle.line_head_stamps.proofs.Laws.Guessing.{guessed_none, guessed_one, goes_kept}
 use Rattle.line_head_stamps.proofs.further.Goals as goal
 

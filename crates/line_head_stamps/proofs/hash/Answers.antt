@@ -1,11 +1,10 @@
 -- `line_head_stamps::hash` meets its contract. The loop's invariant: the hash so far and the bytes that are left give the whole. Assumes nothing.
-use mathlib.Core.Path.{◌≡◌, refl, sym, ap, ◌∙◌}
-use Prim.Native.Nat.{ℕ, ◌+◌, ◌-◌, ◌*◌, ◌%◌, ◌≤◌, ◌<◌}
+use mathlib.Core.Path.{refl, sym, ap, ◌∙◌}
+use Prim.Native.Nat.{ℕ, ◌+◌, ◌-◌, ◌*◌, ◌%◌}
 use native.Mathlib.Nat.{mod-lt}
 use native.Mathlib.Omega.{arith}
 use borrow.Author.Rules.{rules}
-use lib.ListN.{length, drop}
-use Rattle.line_head_stamps.specs.Stamps.{DOORS, hash_from, hash_of}
+use Rattle.line_head_stamps.specs.Stamps.{DOORS, hash_of}
 use Rattle.line_head_stamps.proofs.Laws.Asking.{hash_next, hash_end}
 use Rattle.line_head_stamps.proofs.hash.Goals as goal
 

@@ -1,7 +1,6 @@
 -- `line_head_stamps::is_astray` meets its contract: it compares the side of the name with that of the door. Assumes nothing.
-use mathlib.Core.Path.{sym, ◌∙◌}
+use mathlib.Core.Path.{◌∙◌}
 use native.Mathlib.Omega.{arith}
-use borrow.Author.Rules.{rules}
 use borrow.Author.Tests.{not-true, eqb-false}
 use Rattle.text_bytes.proofs.Laws.Tests.{absurd_bool}
 use Rattle.line_head_stamps.proofs.is_astray.Goals as goal

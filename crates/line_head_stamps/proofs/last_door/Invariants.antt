@@ -1,14 +1,10 @@
 -- `line_head_stamps::last_door` meets its contract. The loop's invariant: a way on from the door is a way from the first, in the list with the guesses of now. Forks rise, so the way ends. Assumes nothing.
-use mathlib.Core.Path.{◌≡◌, refl, ◌∙◌}
+use mathlib.Core.Path.{◌≡◌}
 use Prim.Native.Nat.{ℕ, ◌+◌, ◌≤◌, ◌<◌}
-use native.Mathlib.Omega.{arith}
-use borrow.Author.Rules.{rules}
-use borrow.Author.Tests.{not-true, not-false}
 use lib.ListN.{length, get_or}
 use Rattle.line_head_stamps.specs.Stamps.{ROOM, IsDoor}
-use Rattle.line_head_stamps.specs.Ways.{Guessed, Way, here, Doors}
-use Rattle.line_head_stamps.proofs.Laws.Passing.{rank, rank_falls}
-use Rattle.line_head_stamps.proofs.Laws.Guessing.{guessed_none, guessed_both, ways_kept, doors_kept}
+use Rattle.line_head_stamps.specs.Ways.{Guessed, Way, Doors}
+use Rattle.line_head_stamps.proofs.Laws.Passing.{rank}
 use Rattle.line_head_stamps.proofs.last_door.Given as goal
 
 abbrev pub invariant-loop-stamps : goal.invariant-loop-stamps

@@ -1,10 +1,9 @@
 -- `line_head_stamps::nearby` meets its contract. The loop's invariant: a way on from the door is a way from the first. Assumes nothing.
 use mathlib.Core.Path.{refl}
-use Prim.Native.Nat.{◌+◌, ◌-◌, ◌*◌, ◌≤◌, ◌<◌}
+use Prim.Native.Nat.{◌+◌, ◌-◌, ◌*◌, ◌<◌}
 use native.Mathlib.Omega.{arith}
-use borrow.Author.Rules.{rules}
 use Rattle.line_head_stamps.specs.Ways.{Goes}
-use Rattle.line_head_stamps.proofs.Laws.Passing.{leads_first, goes_door, Near, near_first, near_next, near_goes}
+use Rattle.line_head_stamps.proofs.Laws.Passing.{leads_first, goes_door, near_first, near_next, near_goes}
 use Rattle.line_head_stamps.proofs.nearby.Goals as goal
 
 pub loop-passed-init : goal.loop-passed-init

@@ -1,7 +1,6 @@
 -- `line_head_stamps::put_fork` meets its contract: three places are written. Assumes nothing.
 use mathlib.Core.Path.{refl}
 use native.Mathlib.Omega.{arith}
-use borrow.Author.Rules.{rules}
 use lib.ListN.{length-set}
 use Rattle.line_head_stamps.specs.Stamps.{forked}
 use Rattle.line_head_stamps.proofs.put_fork.Goals as goal

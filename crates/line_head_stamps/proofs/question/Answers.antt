@@ -1,7 +1,6 @@
 -- `line_head_stamps::question` meets its contract: the first place where two names differ is the end of both, or there the lowest four bits that differ part them. Assumes nothing.
 use mathlib.Core.Path.{refl, sym, ◌∙◌}
 use native.Mathlib.Omega.{arith}
-use borrow.Author.Rules.{rules}
 use Rattle.line_head_stamps.proofs.Laws.Asking.{both_ended, ended_both, side_parts}
 use Rattle.line_head_stamps.proofs.question.Goals as goal
 

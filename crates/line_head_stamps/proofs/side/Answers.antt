@@ -1,6 +1,5 @@
 -- `line_head_stamps::side` meets its contract: a shift to the right and a rest. Assumes nothing.
 use mathlib.Core.Path.{◌∙◌}
-use borrow.Author.Rules.{rules}
 use Rattle.line_head_stamps.specs.Stamps.{side_of}
 use Rattle.line_head_stamps.proofs.side.Goals as goal
 

@@ -3,7 +3,6 @@ use mathlib.Core.Path.{◌∙◌}
 use Prim.Native.Nat.{◌<◌}
 use lib.ListN.{length}
 use native.Mathlib.Omega.{arith}
-use borrow.Author.Rules.{rules}
 use Rattle.text.specs.Lines.{cells}
 use Rattle.scan.proofs.Laws.Celling.{three_second, three_cells, three_key}
 use Rattle.line_meta_keys.proofs.Laws.Slotting.{in_slots}

@@ -1,5 +1,4 @@
 -- `line_meta::put_field` meets its contract: two puts, one after the other. Assumes nothing.
-use borrow.Author.Rules.{rules}
 use Rattle.scan.proofs.Laws.Putting.{puts2}
 use Rattle.line_meta.proofs.put_field.Goals as goal
 

@@ -1,6 +1,5 @@
 -- `line_meta_keys::first_of` meets its contract: the test of the code is that of the definition. Assumes nothing.
 use mathlib.Core.Path.{sym, ◌∙◌}
-use borrow.Author.Rules.{rules}
 use Rattle.line_meta_keys.proofs.first_of.Goals as goal
 
 pub returns-then-is_colunit : goal.returns-then-is_colunit

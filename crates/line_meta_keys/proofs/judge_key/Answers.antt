@@ -4,7 +4,6 @@ use mathlib.Core.Bool.{cond, not}
 use Prim.Native.Nat.{ℕ, ◌<◌}
 use lib.Dec.{eqb}
 use native.Mathlib.Omega.{arith}
-use borrow.Author.Rules.{rules}
 use Rattle.book.specs.Book.{SLOTS}
 use Rattle.book.specs.Text.{book_in}
 use Rattle.line_meta_keys.proofs.Laws.Slotting.{inside}

@@ -2,7 +2,6 @@
 use Prim.Native.Nat.{◌<◌}
 use lib.ListN.{length}
 use native.Mathlib.Omega.{arith}
-use borrow.Author.Rules.{rules}
 use Rattle.book.specs.Book.{SLOTS}
 use Rattle.book.specs.Text.{book_in}
 use Rattle.line_meta_keys.proofs.Laws.Slotting.{inside}

@@ -1,6 +1,5 @@
 -- `line_meta_keys::place_among` meets its contract: without a second index the first counts, else the first counts by 64. Assumes nothing.
 use native.Mathlib.Omega.{arith}
-use borrow.Author.Rules.{rules}
 use mathlib.Core.Path.{◌≡◌}
 use Prim.Native.Nat.{◌+◌, ◌*◌, ◌-◌}
 use Rattle.book_names.specs.Names.{among}

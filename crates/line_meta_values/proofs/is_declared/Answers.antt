@@ -5,7 +5,6 @@ use Prim.Native.Nat.{◌-◌}
 use mathlib.Core.List.{List, []}
 use native.Mathlib.Omega.{arith}
 use lib.ListN.{get_or, get_or-eq_default}
-use borrow.Author.Rules.{rules}
 use Rattle.line_meta_values.proofs.is_declared.Goals as goal
 
 pub returns : goal.returns

@@ -1,15 +1,14 @@
 -- `line_meta_values::judge_reference` meets its contract: the one index that the value names is bad, or declared or not. Assumes nothing.
 use mathlib.Core.Path.{◌≡◌, refl, sym, ap, ◌∙◌}
-use mathlib.Core.Bool.{Bool, true, false, not, cond}
+use mathlib.Core.Bool.{true, false, not}
 use Prim.Native.Nat.{ℕ}
 use native.Mathlib.Omega.{arith}
-use borrow.Author.Rules.{rules}
 use borrow.Author.Tests.{ne_eqb}
 use Rattle.value_references.specs.Index.{index_in, flaw_in}
 use Rattle.value_references.specs.References.{ref_to, ref_flaw, is_index}
 use Rattle.value_references.specs.declared.index.Flaw.{Flaw}
 use Rattle.value_references.proofs.Laws.Names.{ref_le}
-use Rattle.book_kinds.specs.Kinds.{family_number, word_of, of_kind}
+use Rattle.book_kinds.specs.Kinds.{family_number, word_of}
 use Rattle.scan.specs.Machine.{flaw_rule, ids_of}
 use Rattle.line_meta_values.proofs.Laws.Referring.{one_good, one_flawed}
 use Rattle.line_meta_values.proofs.Laws.Valuing.{rule_wrong, rule_good, one_any}

@@ -2,9 +2,8 @@
 use mathlib.Core.Path.{◌≡◌, refl, sym, ap, ◌∙◌}
 use mathlib.Core.Bool.{Bool, true, false, not, ◌&&◌}
 use mathlib.Core.List.{List}
-use Prim.Native.Nat.{ℕ, ◌-◌, ◌≤◌}
+use Prim.Native.Nat.{ℕ, ◌-◌}
 use native.Mathlib.Omega.{arith}
-use borrow.Author.Rules.{rules}
 use borrow.Author.Tests.{not-true, not-false}
 use lib.Dec.{eqb}
 use Rattle.text_bytes.specs.Bytes.{any, all}
@@ -13,7 +12,7 @@ use Rattle.book_kinds.specs.Kinds.{family_number, word_of}
 use Rattle.scan.specs.Machine.{flaw_rule, ids_of}
 use Rattle.value_references.specs.declared.index.Flaw.{Flaw}
 use Rattle.line_meta_values.proofs.Laws.Referring.{list_good, list_named, list_flawed, is_high, refs_high}
-use Rattle.line_meta_values.proofs.Laws.Valuing.{rule_wrong, rule_good, Left, left_start, left_next, left_hit, left_end}
+use Rattle.line_meta_values.proofs.Laws.Valuing.{rule_wrong, rule_good, left_start, left_next, left_hit, left_end}
 use Rattle.line_meta_values.proofs.judge_references.Goals as goal
 
 pub returns-then-not-told : goal.returns-then-not-told

@@ -1,19 +1,10 @@
 -- `line_meta_values::judge_references` meets its contract. The invariant: the indices from `i` on decide. Assumes nothing.
-use mathlib.Core.Path.{◌≡◌, refl, sym, ap, ◌∙◌}
-use mathlib.Core.Bool.{Bool, true, false, not, ◌&&◌}
-use mathlib.Core.List.{List}
-use Prim.Native.Nat.{ℕ, ◌-◌, ◌≤◌}
-use native.Mathlib.Omega.{arith}
-use borrow.Author.Rules.{rules}
-use borrow.Author.Tests.{not-true, not-false}
-use lib.Dec.{eqb}
-use Rattle.text_bytes.specs.Bytes.{any, all}
-use Rattle.value_references.specs.References.{refs_to, is_references}
+use mathlib.Core.Bool.{not}
+use Prim.Native.Nat.{◌-◌, ◌≤◌}
+use Rattle.value_references.specs.References.{refs_to}
 use Rattle.book_kinds.specs.Kinds.{family_number, word_of}
-use Rattle.scan.specs.Machine.{flaw_rule, ids_of}
-use Rattle.value_references.specs.declared.index.Flaw.{Flaw}
-use Rattle.line_meta_values.proofs.Laws.Referring.{list_good, list_named, list_flawed, is_high, refs_high}
-use Rattle.line_meta_values.proofs.Laws.Valuing.{rule_wrong, rule_good, Left, left_start, left_next, left_hit, left_end}
+use Rattle.scan.specs.Machine.{ids_of}
+use Rattle.line_meta_values.proofs.Laws.Valuing.{Left}
 use Rattle.line_meta_values.proofs.judge_references.Given as goal
 
 abbrev pub invariant-loop-i : goal.invariant-loop-i

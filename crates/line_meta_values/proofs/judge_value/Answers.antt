@@ -2,7 +2,6 @@
 use native.Mathlib.Omega.{arith}
 use mathlib.Core.Path.{sym, ap, ◌∙◌}
 use Prim.Native.Nat.{ℕ}
-use borrow.Author.Rules.{rules}
 use Rattle.scan.specs.Machine.{ids_of, kind_rule}
 use Rattle.line_meta_values.proofs.Laws.Valuing.{rule_plain}
 use Rattle.line_meta_values.proofs.judge_value.Goals as goal

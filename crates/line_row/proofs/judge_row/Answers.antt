@@ -8,7 +8,6 @@ use Rattle.text.specs.Lines.{cells}
 use Rattle.scan.specs.Machine.{row_cell}
 use Rattle.scan.proofs.Laws.Celling.{each_none, cell_here, cells_next, cells_last}
 use Rattle.line_row.proofs.Laws.{row_narrow, row_under, row_other}
-use borrow.Author.Rules.{rules}
 use Rattle.line_row.proofs.judge_row.Goals as goal
 
 pub returns-then-not-both : goal.returns-then-not-both

@@ -2,7 +2,6 @@
 use Rattle.scan.proofs.Laws.Putting.{puts3}
 use Rattle.rules.proofs.Laws.Sorting.{empty_test}
 use Rattle.line_row.proofs.Laws.{cell_good}
-use borrow.Author.Rules.{rules}
 use Rattle.line_row.proofs.row_cell.Goals as goal
 
 pub returns-then-not-either : goal.returns-then-not-either

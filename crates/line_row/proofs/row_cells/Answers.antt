@@ -1,15 +1,11 @@
 -- `line_row::row_cells` meets its contract. The loop's invariant: the breaks put so far and those of the cells that are left are those of all cells.
 -- Assumes nothing.
-use mathlib.Core.Path.{◌≡◌, refl, ap, ◌∙◌}
-use mathlib.Core.List.{List}
-use Prim.Native.Nat.{◌+◌, ◌-◌, ◌*◌, ◌≤◌, ◌<◌}
+use mathlib.Core.Path.{refl, ap, ◌∙◌}
+use Prim.Native.Nat.{◌-◌, ◌<◌}
 use native.Mathlib.Omega.{arith}
 use borrow.Author.Rules.{rules}
-use lib.ListN.{length, drop}
-use Rattle.text.specs.Lines.{cells}
-use Rattle.rules.specs.Breaks.{Break}
-use Rattle.scan.specs.Places.{lent, put_all}
-use Rattle.scan.specs.Machine.{each_cell, row_cell}
+use lib.ListN.{length}
+use Rattle.scan.specs.Machine.{row_cell}
 use Rattle.scan.proofs.Laws.Celling.{cell_here, cells_next, turn_next, turn_last}
 use Rattle.line_row.proofs.row_cells.Goals as goal
 

@@ -1,6 +1,5 @@
 -- `line_row::row_code` meets its contract: three puts, one after the other. Assumes nothing.
 use Rattle.scan.proofs.Laws.Putting.{puts3}
-use borrow.Author.Rules.{rules}
 use Rattle.line_row.proofs.row_code.Goals as goal
 
 pub returns : goal.returns

@@ -1,6 +1,5 @@
 -- `mender::mend` meets its contract: the limit decides, then what a first walk says of the copy's length, and else a second walk writes. Assumes nothing.
 use mathlib.Core.Path.{sym, ◌∙◌}
-use borrow.Author.Rules.{rules}
 use Rattle.book.specs.Book.{book_of}
 use Rattle.book.specs.Text.{book_in}
 use Rattle.mender.proofs.Laws.Writing.{mended_long, mended_none, mended_room, mended_done}

@@ -1,12 +1,9 @@
 -- `mender::mend_line` meets its contract: a row is filled, a header is laid and learnt, and any other line is laid as it is. Assumes nothing.
-use mathlib.Core.Path.{◌≡◌, refl, sym, ◌∙◌}
+use mathlib.Core.Path.{refl, sym, ◌∙◌}
 use Prim.Native.Nat.{◌+◌}
-use borrow.Author.Rules.{rules}
 use Rattle.book.specs.Book.{Book}
 use Rattle.book.specs.Text.{book_in}
 use Rattle.book.proofs.Laws.Sized.{book_sized}
-use Rattle.rules.specs.Sorts.{sort_of}
-use Rattle.rules.specs.declared.sorts.Sort.{Sort}
 use Rattle.rules.proofs.Laws.Sorting.{header_section}
 use Rattle.mender.proofs.Laws.Passing.{kept_mends, kept_passes, kept_line, head_passes}
 use Rattle.mender.proofs.mend_line.Goals as goal

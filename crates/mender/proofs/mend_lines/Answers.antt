@@ -1,14 +1,14 @@
 -- `mender::mend_lines` meets its contract. The invariant: what is laid and noted, and what of the lines left is still to come, are the copy and the changes.
 -- Assumes nothing.
-use mathlib.Core.Path.{◌≡◌, refl}
-use Prim.Native.Nat.{◌-◌, ◌≤◌}
+use mathlib.Core.Path.{refl}
+use Prim.Native.Nat.{◌-◌}
 use native.Mathlib.Omega.{arith}
 use borrow.Author.Rules.{rules}
-use lib.ListN.{length, drop, length-take, length-drop}
+use lib.ListN.{drop, length-take, length-drop}
 use Rattle.text.proofs.Laws.Joining.{end_before}
 use Rattle.book.specs.Text.{book_in}
 use Rattle.book.proofs.Laws.Sized.{book_sized}
-use Rattle.mender.proofs.Laws.Walking.{Midway, midway_start, midway_next, midway_end}
+use Rattle.mender.proofs.Laws.Walking.{midway_start, midway_next, midway_end}
 use Rattle.mender.proofs.mend_lines.Goals as goal
 
 pub loop-at-init : goal.loop-at-init

@@ -1,14 +1,10 @@
 -- `mender::mend_lines` meets its contract. The invariant: what is laid and noted, and what of the lines left is still to come, are the copy and the changes.
 -- Assumes nothing.
-use mathlib.Core.Path.{◌≡◌, refl}
-use Prim.Native.Nat.{◌-◌, ◌≤◌}
-use native.Mathlib.Omega.{arith}
-use borrow.Author.Rules.{rules}
-use lib.ListN.{length, drop, length-take, length-drop}
-use Rattle.text.proofs.Laws.Joining.{end_before}
+use mathlib.Core.Path.{◌≡◌}
+use Prim.Native.Nat.{◌-◌}
+use lib.ListN.{length}
 use Rattle.book.specs.Text.{book_in}
-use Rattle.book.proofs.Laws.Sized.{book_sized}
-use Rattle.mender.proofs.Laws.Walking.{Midway, midway_start, midway_next, midway_end}
+use Rattle.mender.proofs.Laws.Walking.{Midway}
 use Rattle.mender.proofs.mend_lines.Given as goal
 
 abbrev pub invariant-loop-at : goal.invariant-loop-at

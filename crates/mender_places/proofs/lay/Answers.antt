@@ -1,9 +1,8 @@
 -- `mender_places::lay` meets its contract. The invariant: what is laid, and the bytes that are left, are all of them. Assumes nothing.
 use mathlib.Core.Path.{◌≡◌, refl, sym, ap, ◌∙◌}
-use Prim.Native.Nat.{ℕ, ◌+◌, ◌-◌, ◌≤◌, ◌<◌}
+use Prim.Native.Nat.{ℕ, ◌+◌, ◌-◌, ◌<◌}
 use native.Mathlib.Omega.{arith}
-use borrow.Author.Rules.{rules}
-use lib.ListN.{length, drop, get_or, length-set}
+use lib.ListN.{length, get_or, length-set}
 use Rattle.scan.specs.Places.{lent}
 use Rattle.mender_places.specs.Places.{lay_all}
 use Rattle.mender_places.proofs.Laws.Laying.{lay_step, lay_end}

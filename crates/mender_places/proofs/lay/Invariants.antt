@@ -1,12 +1,9 @@
 -- `mender_places::lay` meets its contract. The invariant: what is laid, and the bytes that are left, are all of them. Assumes nothing.
-use mathlib.Core.Path.{◌≡◌, refl, sym, ap, ◌∙◌}
-use Prim.Native.Nat.{ℕ, ◌+◌, ◌-◌, ◌≤◌, ◌<◌}
-use native.Mathlib.Omega.{arith}
-use borrow.Author.Rules.{rules}
-use lib.ListN.{length, drop, get_or, length-set}
+use mathlib.Core.Path.{◌≡◌}
+use Prim.Native.Nat.{◌+◌, ◌-◌, ◌≤◌}
+use lib.ListN.{length, drop}
 use Rattle.scan.specs.Places.{lent}
 use Rattle.mender_places.specs.Places.{lay_all}
-use Rattle.mender_places.proofs.Laws.Laying.{lay_step, lay_end}
 use Rattle.mender_places.proofs.lay.Given as goal
 
 abbrev pub invariant-loop-i : goal.invariant-loop-i

@@ -1,7 +1,6 @@
 -- `mender_places::note` meets its contract: a change is counted in any case, and written where both of its places are there. Assumes nothing.
 use Prim.Native.Nat.{◌+◌, ◌*◌}
 use native.Mathlib.Omega.{arith}
-use borrow.Author.Rules.{rules}
 use borrow.Author.Tests.{le-leb, lt-leb}
 use lib.ListN.{length, length-set}
 use Rattle.mender_places.specs.Places.{noted}

@@ -1,5 +1,4 @@
 -- `mender_rows::fill_cell` meets its contract: it lays `null` and notes the change where `null` comes into the cell, and else lays the cell. Assumes nothing.
-use borrow.Author.Rules.{rules}
 use Rattle.text_bytes.specs.Bytes.{bytes}
 use Rattle.rules.specs.Mended.{NULL}
 use Rattle.mender_rows.proofs.Laws.Filling.{cell_new, cell_same}

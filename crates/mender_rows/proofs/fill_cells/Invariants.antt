@@ -1,17 +1,13 @@
 -- `mender_rows::fill_cells` meets its contract. The loop's invariant: the bytes laid so far and those of the cells that are left are those of all cells, and so are
 -- the changes. Assumes nothing.
-use mathlib.Core.Path.{◌≡◌, refl, ap, ◌∙◌}
-use Prim.Native.Nat.{◌+◌, ◌-◌, ◌*◌, ◌≤◌, ◌<◌}
-use native.Mathlib.Omega.{arith}
-use borrow.Author.Rules.{rules}
+use mathlib.Core.Path.{◌≡◌}
+use Prim.Native.Nat.{◌+◌, ◌-◌, ◌*◌, ◌≤◌}
 use lib.ListN.{length, drop}
 use Rattle.text.specs.Lines.{cells}
 use Rattle.text.specs.Joined.{tabbed}
 use Rattle.scan.specs.Places.{lent}
-use Rattle.scan.proofs.Laws.Celling.{cell_here, cells_next}
 use Rattle.mender_places.specs.Places.{lay_all, note_all}
 use Rattle.mender_rows.specs.Rows.{filled, found}
-use Rattle.mender_rows.proofs.Laws.Filling.{cell_length, lays_last, notes_last, lays_next, count_next, notes_next}
 use Rattle.mender_rows.proofs.fill_cells.Given as goal
 
 abbrev pub invariant-loop-s : goal.invariant-loop-s

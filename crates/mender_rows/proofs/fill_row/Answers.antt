@@ -4,7 +4,6 @@ use mathlib.Core.Path.{◌≡◌, sym}
 use mathlib.Core.Bool.{false, not, ◌&&◌}
 use Prim.Native.Nat.{◌+◌, ◌<◌}
 use native.Mathlib.Omega.{arith}
-use borrow.Author.Rules.{rules}
 use lib.ListN.{length, take}
 use lib.Seq.{length-take-le}
 use Rattle.text.specs.Lines.{cells}

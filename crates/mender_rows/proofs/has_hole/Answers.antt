@@ -1,14 +1,10 @@
 -- `mender_rows::has_hole` meets its contract. The invariant: the line has a hole where one was met or what is left has two tabs, one directly after the other.
 -- Assumes nothing.
-use mathlib.Core.Path.{◌≡◌, sym, ◌∙◌}
-use mathlib.Core.Bool.{◌||◌}
-use Prim.Native.Nat.{◌-◌, ◌≤◌}
+use mathlib.Core.Path.{sym, ◌∙◌}
+use Prim.Native.Nat.{◌-◌}
 use native.Mathlib.Omega.{arith}
 use borrow.Author.Rules.{rules}
-use lib.ListN.{drop}
-use Rattle.text.specs.Lines.{cells}
-use Rattle.mender_rows.specs.Rows.{has_hole}
-use Rattle.mender_rows.proofs.Laws.Holes.{pairs, holes_none, holes_start, pairs_more, pairs_end}
+use Rattle.mender_rows.proofs.Laws.Holes.{holes_none, holes_start, pairs_more, pairs_end}
 use Rattle.mender_rows.proofs.has_hole.Goals as goal
 
 pub returns-then-line-eq0 : goal.returns-then-line-eq0

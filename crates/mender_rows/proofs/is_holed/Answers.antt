@@ -2,7 +2,6 @@
 use mathlib.Core.Bool.{◌&&◌}
 use lib.Dec.{eqb, leb}
 use lib.ListN.{length}
-use borrow.Author.Rules.{rules}
 use Rattle.text.specs.Lines.{cells}
 use Rattle.mender_rows.specs.Rows.{has_hole}
 use Rattle.mender_rows.proofs.Laws.Rowing.{holed_other, holed_none, holed_some}

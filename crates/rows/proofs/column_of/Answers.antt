@@ -1,6 +1,5 @@
 -- `rows::column_of` meets its contract: there is no column 0. Assumes nothing.
 use borrow.Author.Tests.{eq-eqb}
-use borrow.Author.Rules.{rules}
 use Rattle.rows.specs.Rows.{cell_at}
 use Rattle.rows.proofs.Laws.Finding.{column_cell}
 use Rattle.rows.proofs.column_of.Goals as goal

@@ -1,12 +1,9 @@
 -- `rows::count_coded` meets its contract. The invariant: the lines with the code are those counted and those of what is left. Assumes nothing.
-use mathlib.Core.Path.{◌≡◌, sym, ◌∙◌}
+use mathlib.Core.Path.{◌≡◌}
 use Prim.Native.Nat.{◌+◌, ◌-◌, ◌≤◌}
-use native.Mathlib.Omega.{arith}
-use borrow.Author.Rules.{rules}
 use lib.ListN.{length, drop}
 use Rattle.text_bytes.specs.Bytes.{count}
 use Rattle.text.specs.Lines.{lines, coded}
-use Rattle.text.proofs.Laws.Counts.{count_hit, count_miss, count_done}
 use Rattle.rows.proofs.count_coded.Given as goal
 
 abbrev pub invariant-loop-at : goal.invariant-loop-at

@@ -1,11 +1,7 @@
 -- `rows::nth_coded` meets its contract. The invariant: line n of those with the code is line `left` of those from `at` on, the first of which is line `line_no`. Assumes nothing.
-use mathlib.Core.Path.{◌≡◌, refl, sym, ◌∙◌}
-use Prim.Native.Nat.{◌+◌, ◌-◌, ◌≤◌}
+use mathlib.Core.Path.{refl, sym, ◌∙◌}
+use Prim.Native.Nat.{◌-◌}
 use borrow.Author.Rules.{rules}
-use lib.ListN.{length, drop, get_elem?}
-use Rattle.text_bytes.specs.Places.{after}
-use Rattle.text.specs.Lines.{LF, lines}
-use Rattle.rows.specs.Rows.{numbered, having}
 use Rattle.rows.proofs.Laws.Finding.{row_here, row_next, row_miss, row_none, start_first, start_next}
 use Rattle.rows.proofs.nth_coded.Goals as goal
 

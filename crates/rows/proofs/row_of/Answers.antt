@@ -2,7 +2,6 @@
 use mathlib.Core.Path.{◌≡◌}
 use Prim.Native.Nat.{◌-◌}
 use native.Mathlib.Omega.{arith}
-use borrow.Author.Rules.{rules}
 use Rattle.book.specs.Book.{book_of}
 use Rattle.book.specs.Text.{book_in}
 use Rattle.rows.specs.Rows.{row_of}

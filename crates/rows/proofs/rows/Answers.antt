@@ -1,7 +1,6 @@
 -- `rows::rows` meets its contract: at each `return` the tests that led there say which answer it is. Assumes nothing.
 use mathlib.Core.Path.{◌≡◌, sym, ◌∙◌}
 use mathlib.Core.Bool.{true}
-use borrow.Author.Rules.{rules}
 use borrow.Author.Tests.{not-true, not-false}
 use Rattle.text.specs.Lines.{lines}
 use Rattle.book.specs.Book.{is_section, book_of}

@@ -1,7 +1,6 @@
 -- `tally_cells::count_at` meets its contract: where digits go up to the cell's end, the cell is what they write. Assumes nothing.
 use mathlib.Core.Path.{sym, ◌∙◌}
 use native.Mathlib.Omega.{arith}
-use borrow.Author.Rules.{rules}
 use borrow.Author.Tests.{not-false, ltb-true}
 use lib.Dec.{ltb}
 use Rattle.text_bytes.proofs.Laws.Tests.{and_both}

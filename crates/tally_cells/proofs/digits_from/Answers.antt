@@ -4,11 +4,10 @@ use mathlib.Core.Bool.{true}
 use mathlib.Core.Logic.{⊎_elim}
 use Prim.Native.Nat.{◌-◌, ◌≤◌}
 use native.Mathlib.Omega.{arith}
-use borrow.Author.Rules.{rules}
 use borrow.Author.Tests.{not-true, not-false}
 use lib.ListN.{get_or}
 use Rattle.value_references.specs.Index.{is_digit}
-use Rattle.tally_cells.proofs.Laws.Reading.{digit_range, SoFar, so_none, so_next, so_small, so_ends}
+use Rattle.tally_cells.proofs.Laws.Reading.{digit_range, so_none, so_next, so_small, so_ends}
 use Rattle.tally_cells.proofs.digits_from.Goals as goal
 
 pub loop-i-init : goal.loop-i-init

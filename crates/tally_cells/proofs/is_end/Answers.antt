@@ -1,5 +1,4 @@
 -- `tally_cells::is_end` meets its contract: the end of the line is asked for first. Assumes nothing.
-use borrow.Author.Rules.{rules}
 use borrow.Author.Tests.{eq-eqb, ne_eqb}
 use lib.ListN.{length}
 use Rattle.tally_cells.proofs.is_end.Goals as goal

@@ -1,7 +1,6 @@
 -- `tally_cells::is_plain` meets its contract: both tests are those of the definition. Assumes nothing.
 use mathlib.Core.Path.{ap, ◌∙◌}
 use mathlib.Core.Bool.{Bool, ◌&&◌}
-use borrow.Author.Rules.{rules}
 use lib.Dec.{ltb}
 use Rattle.tally_cells.proofs.is_plain.Goals as goal
 

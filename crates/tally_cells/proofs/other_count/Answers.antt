@@ -1,7 +1,6 @@
 -- `tally_cells::other_count` meets its contract: `null` is asked for first, then a whole, whose digits are read after its minus. Assumes nothing.
 use mathlib.Core.Path.{◌≡◌, sym, subst, ◌∙◌}
 use mathlib.Core.Bool.{true, false}
-use borrow.Author.Rules.{rules}
 use borrow.Author.Tests.{not-true, not-false}
 use Rattle.text_bytes.specs.Bytes.{Bytes}
 use Rattle.text_bytes.specs.Places.{part}

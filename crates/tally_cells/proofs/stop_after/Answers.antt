@@ -2,7 +2,6 @@
 use mathlib.Core.Logic.{inl, inr}
 use mathlib.Core.Path.{refl}
 use native.Mathlib.Omega.{arith}
-use borrow.Author.Rules.{rules}
 use Rattle.tally_cells.proofs.stop_after.Goals as goal
 
 pub returns-then-end-from-gt-WHOLE_DIGITS : goal.returns-then-end-from-gt-WHOLE_DIGITS

@@ -1,6 +1,5 @@
 -- `tally_files::tally` meets its contract: the refusals are tried in the order of the table, and what the lines of an accepted file add is its tally. Assumes nothing.
 use mathlib.Core.Path.{◌≡◌, sym, ap, ◌∙◌}
-use borrow.Author.Rules.{rules}
 use Rattle.numbers.specs.Numbers.{TOO_LONG, NOT_ACCEPTED, BELOW_ZERO}
 use Rattle.tally.specs.Tally.{tally_of, outcome}
 use Rattle.tally_files.specs.Tallied.{below_of, totals_of}

@@ -1,9 +1,8 @@
 -- `tally_records::get` meets its contract. The invariant: n is the number in the bytes from place i on, and fits in as many bytes. Assumes nothing.
-use Prim.Native.Nat.{ℕ, ◌+◌, ◌-◌, ◌<◌}
+use Prim.Native.Nat.{◌+◌, ◌-◌, ◌<◌}
 use native.Mathlib.Omega.{arith}
-use borrow.Author.Rules.{rules}
 use lib.ListN.{get_or}
-use Rattle.tally_records.proofs.Laws.Little.{Reads, reads_start, reads_next, reads_room, reads_end}
+use Rattle.tally_records.proofs.Laws.Little.{reads_start, reads_next, reads_room, reads_end}
 use Rattle.tally_records.proofs.get.Goals as goal
 
 pub loop-i-init : goal.loop-i-init

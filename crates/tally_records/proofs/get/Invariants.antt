@@ -1,9 +1,6 @@
 -- `tally_records::get` meets its contract. The invariant: n is the number in the bytes from place i on, and fits in as many bytes. Assumes nothing.
-use Prim.Native.Nat.{ℕ, ◌+◌, ◌-◌, ◌<◌}
-use native.Mathlib.Omega.{arith}
-use borrow.Author.Rules.{rules}
-use lib.ListN.{get_or}
-use Rattle.tally_records.proofs.Laws.Little.{Reads, reads_start, reads_next, reads_room, reads_end}
+use Prim.Native.Nat.{◌-◌}
+use Rattle.tally_records.proofs.Laws.Little.{Reads}
 use Rattle.tally_records.proofs.get.Given as goal
 
 abbrev pub invariant-loop-i : goal.invariant-loop-i

@@ -1,5 +1,4 @@
 -- `tally_records::is_record` meets its contract: the tests are those of the definition, in its order. Assumes nothing.
-use borrow.Author.Rules.{rules}
 use native.Mathlib.Omega.{arith}
 use Rattle.tally_records.proofs.Laws.Reading.{other_size, other_length, by_kind}
 use Rattle.tally_records.proofs.is_record.Goals as goal

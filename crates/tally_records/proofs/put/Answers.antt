@@ -3,9 +3,8 @@
 use mathlib.Core.Path.{◌≡◌, refl, sym, ◌∙◌}
 use Prim.Native.Nat.{◌+◌}
 use native.Mathlib.Omega.{arith}
-use borrow.Author.Rules.{rules}
-use lib.ListN.{length, length-set}
-use Rattle.tally_records.proofs.Laws.Little.{laid, laid_next, laid_done}
+use lib.ListN.{length-set}
+use Rattle.tally_records.proofs.Laws.Little.{laid_next, laid_done}
 use Rattle.tally_records.proofs.put.Goals as goal
 
 pub loop-rest-init : goal.loop-rest-init

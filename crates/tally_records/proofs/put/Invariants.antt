@@ -1,11 +1,9 @@
 -- `tally_records::put` meets its contract. The invariant: what is left of the number, written behind the bytes that are there, gives what is promised. Assumes
 -- nothing.
-use mathlib.Core.Path.{◌≡◌, refl, sym, ◌∙◌}
+use mathlib.Core.Path.{◌≡◌}
 use Prim.Native.Nat.{◌+◌}
-use native.Mathlib.Omega.{arith}
-use borrow.Author.Rules.{rules}
-use lib.ListN.{length, length-set}
-use Rattle.tally_records.proofs.Laws.Little.{laid, laid_next, laid_done}
+use lib.ListN.{length}
+use Rattle.tally_records.proofs.Laws.Little.{laid}
 use Rattle.tally_records.proofs.put.Given as goal
 
 abbrev pub invariant-loop-rest : goal.invariant-loop-rest

@@ -1,5 +1,4 @@
 -- `tally_records::put_total` meets its contract: total i stands 8 i places behind the first. Assumes nothing.
-use borrow.Author.Rules.{rules}
 use Rattle.tally_records.proofs.put_total.Goals as goal
 
 pub returns : goal.returns

@@ -1,5 +1,4 @@
 -- `tally_records::put_totals` meets its contract: after each call one total more stands behind the others. Assumes nothing.
-use borrow.Author.Rules.{rules}
 use native.Mathlib.Omega.{arith}
 use Rattle.tally_records.proofs.Laws.Writing.{totals_none, totals_more}
 use Rattle.tally_records.proofs.put_totals.Goals as goal

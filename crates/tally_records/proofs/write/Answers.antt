@@ -1,5 +1,4 @@
 -- `tally_records::write` meets its contract: the length of the rest, the kind and the totals stand one behind the other, and are the record. Assumes nothing.
-use borrow.Author.Rules.{rules}
 use native.Mathlib.Omega.{arith}
 use Rattle.tally_records.proofs.Laws.Writing.{write_short, write_whole}
 use Rattle.tally_records.proofs.write.Goals as goal

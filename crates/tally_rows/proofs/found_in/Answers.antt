@@ -1,12 +1,8 @@
 -- `tally_rows::found_in` meets its contract. The invariant: what was added and what the lines left will add is what all lines add. Assumes nothing.
-use mathlib.Core.Path.{◌≡◌}
-use Prim.Native.Nat.{ℕ, ◌+◌, ◌-◌, ◌≤◌}
+use Prim.Native.Nat.{◌-◌}
 use native.Mathlib.Omega.{arith}
 use borrow.Author.Rules.{rules}
-use lib.ListN.{length, drop}
 use Rattle.text_bytes.specs.Bytes.{Bytes}
-use Rattle.text.specs.Lines.{lines}
-use Rattle.column_marks.specs.Sums.{sum_lines}
 use Rattle.column_marks.proofs.Laws.Summing.{lines_none}
 use Rattle.tally_rows.specs.Counts.{nine, line_adds, lines_add}
 use Rattle.tally_rows.proofs.Laws.Adding.{nothing_found, lines_room, line_room, line_next}

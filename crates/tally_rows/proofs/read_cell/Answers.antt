@@ -1,6 +1,5 @@
 -- `tally_rows::read_cell` meets its contract: nothing is asked of a cell under no counter but where it ends. Assumes nothing.
 use mathlib.Core.Path.{◌∙◌}
-use borrow.Author.Rules.{rules}
 use Rattle.tally_rows.proofs.Laws.Adding.{marked_none, marked_some}
 use Rattle.tally_rows.proofs.read_cell.Goals as goal
 

@@ -1,7 +1,6 @@
 -- `tally_rows::row_section` meets its contract: the codes are tried one after the other. Assumes nothing.
 use mathlib.Core.Path.{◌≡◌, sym, ◌∙◌}
 use mathlib.Core.Bool.{false}
-use borrow.Author.Rules.{rules}
 use lib.Seq.{length-take-le}
 use Rattle.text_bytes.specs.Bytes.{bytes}
 use Rattle.text.specs.Lines.{coded}

@@ -1,7 +1,6 @@
 -- `tally_rows::with_cell` meets its contract: the count goes to its counter, and nothing to the others. Assumes nothing.
 use mathlib.Core.Path.{refl}
 use native.Mathlib.Omega.{arith}
-use borrow.Author.Rules.{rules}
 use Rattle.tally.specs.Tally.{sums}
 use Rattle.tally_rows.specs.Counts.{numbers, count_list}
 use Rattle.tally_rows.proofs.Laws.Adding.{nine_same, sums_at}

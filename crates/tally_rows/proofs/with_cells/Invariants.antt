@@ -1,14 +1,11 @@
 -- `tally_rows::with_cells` meets its contract. The invariant: what was added and what the cells left will add is what all cells add. Assumes nothing.
-use mathlib.Core.Path.{◌≡◌, refl}
-use Prim.Native.Nat.{ℕ, ◌+◌, ◌-◌, ◌≤◌, ◌<◌}
-use native.Mathlib.Omega.{arith}
-use borrow.Author.Rules.{rules}
+use mathlib.Core.Path.{◌≡◌}
+use Prim.Native.Nat.{ℕ, ◌+◌, ◌-◌, ◌≤◌}
 use lib.ListN.{length, drop, get_or}
 use Rattle.text_bytes.specs.Bytes.{Bytes}
 use Rattle.text.specs.Lines.{cells}
 use Rattle.column_marks.specs.Sums.{sum_cells}
 use Rattle.tally_rows.specs.Counts.{nine, cell_adds, row_adds}
-use Rattle.tally_rows.proofs.Laws.Adding.{cell_room, turn_next, turn_last, turn_none}
 use Rattle.tally_rows.proofs.with_cells.Given as goal
 
 abbrev pub invariant-loop-k : goal.invariant-loop-k

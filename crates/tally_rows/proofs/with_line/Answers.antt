@@ -1,5 +1,4 @@
 -- `tally_rows::with_line` meets its contract: the section of a line is found first, and only a protein row's cells are counted. Assumes nothing.
-use borrow.Author.Rules.{rules}
 use Rattle.tally_rows.specs.Counts.{nine}
 use Rattle.tally_rows.proofs.Laws.Adding.{row_room, row_done, cells_room, cells_done}
 use Rattle.tally_rows.proofs.with_line.Goals as goal

@@ -1,5 +1,4 @@
 -- `test_book::run` ends and is safe: each name begins after the one before. Assumes nothing.
-use borrow.Author.Rules.{rules}
 use mathlib.Core.Path.{◌≡◌}
 use Prim.Native.Nat.{◌≤◌, ◌-◌}
 use lib.ListN.{length}

@@ -1,7 +1,6 @@
 -- `test_book::show` ends and is safe: the book that it is lent is one. Assumes nothing.
 use native.Mathlib.Omega.{arith}
 use lib.ListN.{length-take}
-use borrow.Author.Rules.{rules}
 use Rattle.test_book.proofs.show.Goals as goal
 
 pub slice_bounds-write_all-end-2 : goal.slice_bounds-write_all-end-2

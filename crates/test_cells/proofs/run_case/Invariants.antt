@@ -1,7 +1,6 @@
 -- `test_cells::run_case` is safe and ends: every place stays within its slice. Assumes nothing.
 use Prim.Native.Nat.{◌-◌, ◌≤◌}
 use lib.ListN.{length}
-use borrow.Author.Rules.{rules}
 use Rattle.test_cells.proofs.run_case.Given as goal
 
 abbrev pub invariant-loop-at : goal.invariant-loop-at

@@ -1,6 +1,5 @@
 -- `test_faults::print_records` ends and is safe: it prints no record past the list. Assumes nothing.
 use Prim.Native.Nat.{◌-◌, ◌≤◌}
-use borrow.Author.Rules.{rules}
 use Rattle.test_faults.proofs.print_records.Given as goal
 
 abbrev pub invariant-loop-k : goal.invariant-loop-k

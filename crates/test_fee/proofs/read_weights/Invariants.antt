@@ -2,7 +2,6 @@
 use mathlib.Core.Path.{◌≡◌}
 use Prim.Native.Nat.{◌-◌, ◌≤◌}
 use lib.ListN.{length}
-use borrow.Author.Rules.{rules}
 use Rattle.test_fee.proofs.read_weights.Given as goal
 
 abbrev pub invariant-loop-n : goal.invariant-loop-n

@@ -1,6 +1,5 @@
 -- `test_fee::same_amounts` is safe and ends: every place stays within the list and the slice. Assumes nothing.
 use Prim.Native.Nat.{◌-◌, ◌≤◌}
-use borrow.Author.Rules.{rules}
 use Rattle.test_fee.proofs.same_amounts.Given as goal
 
 abbrev pub invariant-loop-k : goal.invariant-loop-k

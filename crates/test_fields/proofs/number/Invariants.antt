@@ -1,5 +1,5 @@
 -- `test_fields::number` is safe and ends: every place stays within its slice. Assumes nothing.
-use Rattle.std.proofs.Common.{◌-◌, ◌≤◌, length, rules}
+use Rattle.std.proofs.Common.{◌-◌, ◌≤◌, length}
 use Rattle.test_fields.proofs.number.Given as goal
 
 abbrev pub invariant-loop-i : goal.invariant-loop-i

@@ -1,6 +1,5 @@
 -- `test_judges::run_all` ends and is safe: each file begins after the one before. Assumes nothing.
-use Prim.Native.Nat.{◌-◌, ◌≤◌}
-use lib.ListN.{length}
+use Prim.Native.Nat.{◌-◌}
 use borrow.Author.Rules.{rules}
 use Rattle.test_judges.proofs.run_all.Reads as reads
 use Rattle.test_judges.proofs.run_all.Lts as lts

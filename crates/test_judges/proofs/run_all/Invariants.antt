@@ -1,7 +1,6 @@
 -- `test_judges::run_all` ends and is safe: each file begins after the one before. Assumes nothing.
 use Prim.Native.Nat.{◌-◌, ◌≤◌}
 use lib.ListN.{length}
-use borrow.Author.Rules.{rules}
 use Rattle.test_judges.proofs.run_all.Reads as reads
 use Rattle.test_judges.proofs.run_all.Lts as lts
 use Rattle.io.proofs.write_all.Reads as write-all-reads

@@ -1,6 +1,5 @@
 -- `test_kinds::lines` is safe and ends: each turn starts past a line. Assumes nothing.
 use Prim.Native.Nat.{◌≤◌, ◌-◌}
-use native.Mathlib.Omega.{arith}
 use lib.ListN.{length}
 use Rattle.test_kinds.proofs.lines.Given as goal
 

@@ -1,7 +1,6 @@
 -- `test_kinds_c::is_kind` meets its contract: each number has the kind that the definition gives it. Assumes nothing.
 use borrow.Author.Tests.{ne_eqb}
 use Rattle.test_kinds_c.specs.Kinds.{is_kind}
-use borrow.Author.Rules.{rules}
 use Rattle.test_kinds_c.proofs.is_kind.Goals as goal
 
 pub returns-then-kind-eq0 : goal.returns-then-kind-eq0

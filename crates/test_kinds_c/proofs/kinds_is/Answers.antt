@@ -1,5 +1,4 @@
 -- `test_kinds_c::kinds_is` meets its contract: 1 stands for true and 0 for false. Assumes nothing.
-use borrow.Author.Rules.{rules}
 use Rattle.test_kinds_c.proofs.kinds_is.Goals as goal
 
 pub returns-then-is_kind : goal.returns-then-is_kind

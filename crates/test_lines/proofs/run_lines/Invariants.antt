@@ -1,6 +1,5 @@
 -- `test_lines::run_lines` is safe and ends: the lines rise to their bound. Assumes nothing.
 use Prim.Native.Nat.{◌-◌, ◌≤◌}
-use borrow.Author.Rules.{rules}
 use Rattle.test_lines.proofs.run_lines.Given as goal
 
 abbrev pub invariant-loop-line : goal.invariant-loop-line

@@ -1,7 +1,6 @@
 -- `test_places::print_places` is safe and ends: every place stays within its slice. Assumes nothing.
 use Prim.Native.Nat.{◌-◌, ◌≤◌}
 use lib.ListN.{length}
-use borrow.Author.Rules.{rules}
 use Rattle.test_places.proofs.print_places.Given as goal
 
 abbrev pub invariant-loop-i : goal.invariant-loop-i

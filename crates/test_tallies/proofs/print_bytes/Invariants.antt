@@ -1,7 +1,6 @@
 -- `test_tallies::print_bytes` is safe and ends: every place stays within its slice, and both halves of a byte are below 16. Assumes nothing.
 use Prim.Native.Nat.{◌-◌, ◌≤◌}
 use lib.ListN.{length}
-use borrow.Author.Rules.{rules}
 use Rattle.test_tallies.proofs.print_bytes.Given as goal
 
 abbrev pub invariant-loop-i : goal.invariant-loop-i

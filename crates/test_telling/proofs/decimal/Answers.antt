@@ -1,6 +1,5 @@
 -- `test_telling::decimal` is safe: a power of 32 bits fits into 64. Assumes nothing.
 use Rattle.test_telling.proofs.Laws.{widened}
-use borrow.Author.Rules.{rules}
 use Rattle.test_telling.proofs.decimal.Goals as goal
 
 pub overflow_cast-power : goal.overflow_cast-power

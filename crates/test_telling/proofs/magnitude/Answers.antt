@@ -2,7 +2,6 @@
 use mir.Syntax.{w64}
 use mir.Val.{to_z, of_z}
 use Rattle.test_telling.proofs.Laws.{kept, sized, minus_fits, minus_sized}
-use borrow.Author.Rules.{rules}
 use Rattle.test_telling.proofs.magnitude.Goals as goal
 
 pub overflow_cast-result : goal.overflow_cast-result

@@ -1,6 +1,5 @@
 -- `test_weights::run_rows` is safe and ends: every place stays within its slice. Assumes nothing.
 use Prim.Native.Nat.{◌-◌, ◌≤◌}
-use borrow.Author.Rules.{rules}
 use Rattle.test_weights.proofs.run_rows.Given as goal
 
 abbrev pub invariant-loop-section : goal.invariant-loop-section

@@ -1,10 +1,8 @@
 -- `text_bytes::begins_with`: what is left of the word decides. Assumes nothing.
-use borrow.Author.Rules.{rules}
-use mathlib.Core.Path.{◌≡◌, refl, sym, ◌∙◌}
+use mathlib.Core.Path.{◌≡◌}
 use Prim.Native.Nat.{◌-◌}
 use lib.ListN.{length, drop}
 use Rattle.text_bytes.specs.Bytes.{begins}
-use Rattle.text_bytes.proofs.Laws.Begins.{begins_more, begins_other, begins_short, begins_end}
 use Rattle.text_bytes.proofs.begins_with.Given as goal
 
 abbrev pub invariant-loop-i : goal.invariant-loop-i

@@ -1,12 +1,9 @@
 -- `text::bytes::in_block` meets its contract. The invariant: unless one was met, b stands in none of the k bytes passed. Assumes nothing.
 use mathlib.Core.Path.{◌≡◌, refl, sym, ◌∙◌}
 use mathlib.Core.Bool.{false}
-use Prim.Native.Nat.{◌+◌, ◌-◌, ◌≤◌}
+use Prim.Native.Nat.{◌-◌}
 use native.Mathlib.Omega.{arith}
-use borrow.Author.Rules.{rules}
-use lib.ListN.{length, drop}
-use Rattle.text_bytes.specs.Places.{up_to}
-use Rattle.text_bytes.proofs.Laws.Blocks.{Clear, clear_none, clear_more}
+use Rattle.text_bytes.proofs.Laws.Blocks.{clear_none, clear_more}
 use Rattle.text_bytes.proofs.Laws.Tests.{absurd_bool}
 use Rattle.text_bytes.proofs.in_block.Goals as goal
 use Rattle.text_bytes.proofs.in_block.Goals.{then-s-at, else-s-at}

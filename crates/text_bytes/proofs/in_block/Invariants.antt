@@ -1,14 +1,8 @@
 -- `text::bytes::in_block` meets its contract. The invariant: unless one was met, b stands in none of the k bytes passed. Assumes nothing.
-use mathlib.Core.Path.{◌≡◌, refl, sym, ◌∙◌}
+use mathlib.Core.Path.{◌≡◌}
 use mathlib.Core.Bool.{false}
-use mathlib.Core.Logic.{⊎_elim}
-use Prim.Native.Nat.{◌+◌, ◌-◌, ◌≤◌}
-use native.Mathlib.Omega.{arith}
-use borrow.Author.Rules.{rules}
-use lib.ListN.{length, drop}
-use Rattle.text_bytes.specs.Places.{up_to}
-use Rattle.text_bytes.proofs.Laws.Blocks.{Clear, clear_none, clear_more}
-use Rattle.text_bytes.proofs.Laws.Tests.{absurd_bool}
+use Prim.Native.Nat.{◌-◌, ◌≤◌}
+use Rattle.text_bytes.proofs.Laws.Blocks.{Clear}
 use Rattle.text_bytes.proofs.in_block.Given as goal
 
 abbrev pub invariant-loop-k : goal.invariant-loop-k

@@ -1,10 +1,8 @@
 -- `text::bytes::same_bytes` meets its contract. The invariant: the two are the same just where they are from i on. Assumes nothing.
-use mathlib.Core.Path.{◌≡◌, sym, ◌∙◌}
+use mathlib.Core.Path.{◌≡◌}
 use Prim.Native.Nat.{◌-◌, ◌≤◌}
-use borrow.Author.Rules.{rules}
 use lib.ListN.{length, drop}
 use Rattle.text_bytes.specs.Bytes.{same}
-use Rattle.text_bytes.proofs.Laws.Same.{same_length, same_hit, same_miss, same_end}
 use Rattle.text_bytes.proofs.same_bytes.Given as goal
 
 abbrev pub invariant-loop-i : goal.invariant-loop-i

@@ -1,9 +1,7 @@
 -- `text::bytes::seek` meets its contract. The invariant of both loops: the first b from `from` on is the first from i on. Assumes nothing.
-use mathlib.Core.Path.{◌≡◌}
-use Prim.Native.Nat.{◌+◌, ◌-◌, ◌≤◌}
+use Prim.Native.Nat.{◌-◌}
 use native.Mathlib.Omega.{arith}
-use lib.ListN.{length, drop, length-drop}
-use Rattle.text_bytes.specs.Places.{up_to}
+use lib.ListN.{drop, length-drop}
 use Rattle.text_bytes.proofs.Laws.Pieces.{up_to_hit, up_to_miss, up_to_le}
 use Rattle.text_bytes.proofs.Laws.Blocks.{Clear, clear_one, clear_more, clear_ends}
 use Rattle.text_bytes.proofs.seek.Goals as goal

@@ -1,7 +1,6 @@
 -- `text::bytes::seek_far` meets its contract: b stands at the first of eight places where it is met; else what seek finds from the place on is the first from
 -- `from` on. Assumes nothing.
 use native.Mathlib.Omega.{arith}
-use borrow.Author.Rules.{rules}
 use Rattle.text_bytes.proofs.Laws.Pieces.{up_to_hit}
 use Rattle.text_bytes.proofs.Laws.Blocks.{Clear, clear_one, clear_more, clear_ends}
 use Rattle.text_bytes.proofs.seek_far.Goals as goal

@@ -1,5 +1,4 @@
 -- `value_cases::double_of` meets its contract, case by case. Assumes nothing.
-use borrow.Author.Rules.{rules}
 use Rattle.value_cases.proofs.double_of.Goals as goal
 
 pub returns-in-Missing : goal.returns-in-Missing

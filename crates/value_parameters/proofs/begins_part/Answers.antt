@@ -1,6 +1,5 @@
 -- `value_parameters::begins_part` meets its contract: past the end stands no bracket. Assumes nothing.
 use Rattle.value_parameters.proofs.Laws.Walks.{past}
-use borrow.Author.Rules.{rules}
 use Rattle.value_parameters.proofs.begins_part.Goals as goal
 
 pub returns : goal.returns

@@ -8,7 +8,6 @@ use Rattle.value_parameters.specs.Scan.{state, run}
 use Rattle.text_bytes.specs.Places.{part}
 use Rattle.value_parameters.proofs.Laws.Scans.{block_same}
 use Rattle.value_parameters.proofs.Laws.Walks.{block_read, block_open}
-use borrow.Author.Rules.{rules}
 use Rattle.value_parameters.proofs.block.Goals as goal
 
 pub returns-then-st : goal.returns-then-st

@@ -1,6 +1,5 @@
 -- `value_parameters::counted` meets its contract: four commas are as many as more, since three are asked for. Assumes nothing.
 use borrow.Author.Tests.{ne_eqb, lt-ltb, le-ltb}
-use borrow.Author.Rules.{rules}
 use Rattle.value_parameters.proofs.counted.Goals as goal
 
 pub returns-then-b-ne-COMMA : goal.returns-then-b-ne-COMMA

@@ -3,7 +3,6 @@ use borrow.Author.Tests.{ne_eqb}
 use mathlib.Core.Path.{sym, ◌∙◌}
 use lib.Dec.{eqb}
 use mathlib.Core.Bool.{and-false}
-use borrow.Author.Rules.{rules}
 use Rattle.value_parameters.proofs.is_whole_part.Goals as goal
 
 pub returns-then-w-wide : goal.returns-then-w-wide

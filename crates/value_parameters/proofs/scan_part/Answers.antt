@@ -1,14 +1,14 @@
 -- `value_parameters::scan_part` meets its contract. The invariant: the run over what follows `at` is the run over what is left, from the state so far, and the
 -- byte read last is known outside marks. Assumes nothing.
 use Rattle.value_parameters.proofs.Laws.Scans.{block_end, block_goes, block_stands, run_done}
-use Rattle.value_parameters.proofs.Laws.Walks.{shut, shut_none, stays, block_shut}
+use Rattle.value_parameters.proofs.Laws.Walks.{shut_none, stays, block_shut}
 use mathlib.Core.Path.{◌≡◌, sym, ap, ◌∙◌}
 use mathlib.Core.Bool.{false}
-use Prim.Native.Nat.{◌-◌, ◌≤◌}
+use Prim.Native.Nat.{◌-◌}
 use native.Mathlib.Omega.{arith}
 use lib.Dec.{eqb}
-use lib.ListN.{length, drop}
-use Rattle.value_parameters.specs.Scan.{start, run}
+use lib.ListN.{drop}
+use Rattle.value_parameters.specs.Scan.{run}
 use Rattle.value_parameters.specs.declared.Scan.{Scan}
 use Rattle.value_parameters.proofs.scan_part.Goals as goal
 

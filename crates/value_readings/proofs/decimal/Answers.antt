@@ -13,7 +13,6 @@ use mir.ValLaws.{to_z-of_z}
 use Rattle.value_readings.specs.Reading.{scale_of}
 use Rattle.value_readings.proofs.Laws.Numbers.{ten_le}
 use Rattle.value_readings.proofs.Laws.Readings.{long_digits, long_power, short_decimal}
-use borrow.Author.Rules.{rules}
 use Rattle.value_readings.proofs.decimal.Goals as goal
 
 pub returns-then-a-gt-DECIMAL_DIGITS : goal.returns-then-a-gt-DECIMAL_DIGITS

@@ -4,7 +4,6 @@ use mathlib.Core.Bool.{Bool}
 use lib.Ieee.{neg}
 use Rattle.value_readings.specs.Reading.{times, double}
 use Rattle.value_readings.proofs.Laws.Powers.{back_is}
-use borrow.Author.Rules.{rules}
 use Rattle.value_readings.proofs.double_of.Goals as goal
 
 pub returns-then-minus : goal.returns-then-minus

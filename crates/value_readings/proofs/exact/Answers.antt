@@ -3,7 +3,6 @@ use mathlib.Core.Path.{ap}
 use native.Mathlib.Omega.{arith}
 use lib.Ieee.{binary64, of_int}
 use Rattle.value_readings.proofs.Laws.Numbers.{as_i64, in_float_lem}
-use borrow.Author.Rules.{rules}
 use Rattle.value_readings.proofs.exact.Goals as goal
 
 pub int_to_float-result : goal.int_to_float-result

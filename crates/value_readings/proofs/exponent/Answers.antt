@@ -11,7 +11,6 @@ use Rattle.value_readings.specs.Reading.{signed}
 use Rattle.value_readings.proofs.Laws.Numbers.{three_le}
 use Rattle.value_readings.proofs.Laws.Powers.{signed_small, small_fits}
 use Rattle.value_readings.proofs.Laws.Readings.{exponent_zero, exponent_digits, exponent_some}
-use borrow.Author.Rules.{rules}
 use Rattle.value_readings.proofs.exponent.Goals as goal
 
 pub returns-then-x-eq0 : goal.returns-then-x-eq0

@@ -2,7 +2,6 @@
 use mathlib.Core.Path.{refl, sym}
 use Rattle.value_readings.proofs.Laws.Readings.{minus_none}
 use Rattle.value_readings.specs.Reading.{has_minus}
-use borrow.Author.Rules.{rules}
 use Rattle.value_readings.proofs.has_minus.Goals as goal
 
 pub returns-then-s-eq0 : goal.returns-then-s-eq0

@@ -1,6 +1,5 @@
 -- `value_readings::less` meets its contract: both are small, so the difference fits. Assumes nothing.
 use Rattle.value_readings.proofs.Laws.Powers.{less_fits, less_is}
-use borrow.Author.Rules.{rules}
 use Rattle.value_readings.proofs.less.Goals as goal
 
 pub overflow_sub-result : goal.overflow_sub-result

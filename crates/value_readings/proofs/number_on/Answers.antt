@@ -1,11 +1,8 @@
 -- `value_readings::number_on` meets its contract. The invariant: the number is that of the digits left after m, which k + i digits wrote. Assumes nothing.
 use mathlib.Core.Path.{◌≡◌, refl, sym, ◌∙◌}
-use Prim.Native.Nat.{◌+◌, ◌-◌, ◌≤◌, ◌<◌, ◌^◌}
+use Prim.Native.Nat.{◌+◌, ◌-◌}
 use native.Mathlib.Omega.{arith}
-use mathlib.Core.Bool.{true}
-use lib.ListN.{length, drop, get_or}
-use Rattle.text_bytes.specs.Bytes.{all}
-use Rattle.value_references.specs.Index.{is_digit, number}
+use lib.ListN.{length, get_or}
 use Rattle.value_readings.proofs.Laws.Numbers.{digit_here, digits_on, number_next, number_end, grow, ten_le}
 use Rattle.value_readings.proofs.number_on.Goals as goal
 

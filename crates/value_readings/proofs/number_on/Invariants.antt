@@ -1,12 +1,10 @@
 -- `value_readings::number_on` meets its contract. The invariant: the number is that of the digits left after m, which k + i digits wrote. Assumes nothing.
-use mathlib.Core.Path.{◌≡◌, refl, sym, ◌∙◌}
+use mathlib.Core.Path.{◌≡◌}
 use Prim.Native.Nat.{◌+◌, ◌-◌, ◌≤◌, ◌<◌, ◌^◌}
-use native.Mathlib.Omega.{arith}
 use mathlib.Core.Bool.{true}
-use lib.ListN.{length, drop, get_or}
+use lib.ListN.{length, drop}
 use Rattle.text_bytes.specs.Bytes.{all}
 use Rattle.value_references.specs.Index.{is_digit, number}
-use Rattle.value_readings.proofs.Laws.Numbers.{digit_here, digits_on, number_next, number_end, grow, ten_le}
 use Rattle.value_readings.proofs.number_on.Given as goal
 
 abbrev pub invariant-loop-i : goal.invariant-loop-i

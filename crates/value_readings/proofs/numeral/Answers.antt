@@ -4,7 +4,6 @@ use lib.Seq.{length-take-le}
 use mir.Syntax.{w32}
 use mir.ValLaws.{to_z-of_z}
 use Rattle.value_readings.proofs.Laws.Readings.{cut_exponent, cut_before, cut_after, cut_read}
-use borrow.Author.Rules.{rules}
 use Rattle.value_readings.proofs.numeral.Goals as goal
 
 pub exponent-x-requires : goal.exponent-x-requires

@@ -1,6 +1,6 @@
 -- `value_readings::power` meets its contract. The invariant: n is ten to the k. Assumes nothing.
 use mathlib.Core.Path.{◌≡◌, ap, ◌∙◌}
-use Prim.Native.Nat.{ℕ, ◌-◌, ◌≤◌, ◌^◌}
+use Prim.Native.Nat.{ℕ, ◌-◌, ◌^◌}
 use native.Mathlib.Omega.{arith}
 use Rattle.value_readings.proofs.Laws.Numbers.{ten_le, ten_more}
 use Rattle.value_readings.proofs.power.Goals as goal

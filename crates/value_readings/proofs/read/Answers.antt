@@ -2,7 +2,6 @@
 use mathlib.Core.Path.{◌≡◌, ap, sym, ◌∙◌}
 use Rattle.values.specs.Values.{is_unsigned, is_numeral}
 use Rattle.value_readings.proofs.Laws.Readings.{value_missing, value_whole, value_numeral, value_word, whole_digits}
-use borrow.Author.Rules.{rules}
 use Rattle.value_readings.proofs.read.Goals as goal
 
 pub returns-then-is_null : goal.returns-then-is_null

@@ -1,6 +1,5 @@
 -- `value_readings::scaled` meets its contract: a power below 0 turned round divides, any other multiplies. Assumes nothing.
 use Rattle.value_readings.proofs.Laws.Powers.{up_cast, up_le, turned_fits, turned, times_below, kept, times_up}
-use borrow.Author.Rules.{rules}
 use Rattle.value_readings.proofs.scaled.Goals as goal
 
 pub overflow_sub-p : goal.overflow_sub-p

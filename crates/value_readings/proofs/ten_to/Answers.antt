@@ -3,7 +3,6 @@ use Prim.Native.Nat.{◌-◌}
 use native.Mathlib.Omega.{arith}
 use Rattle.value_readings.proofs.Laws.Numbers.{ten_le}
 use Rattle.value_readings.proofs.Laws.Tens.{cast_ten, tens_product}
-use borrow.Author.Rules.{rules}
 use Rattle.value_readings.proofs.ten_to.Goals as goal
 
 pub exact-requires : goal.exact-requires

@@ -8,7 +8,6 @@ use Rattle.value_readings.specs.declared.Value.TheVariants.{Whole}
 use mathlib.Core.Path.{ap, ◌∙◌}
 use native.Mathlib.Omega.{arith}
 use Rattle.value_readings.proofs.Laws.Numbers.{ten_le}
-use borrow.Author.Rules.{rules}
 use Rattle.value_readings.proofs.whole.Goals as goal
 
 pub with_sign-requires : goal.with_sign-requires

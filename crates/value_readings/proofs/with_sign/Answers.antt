@@ -8,7 +8,6 @@ use mir.Val.{to_z}
 use mir.ValLaws.{to_z-of_z}
 use Rattle.value_readings.specs.Reading.{signed}
 use Rattle.value_readings.proofs.Laws.Numbers.{minus_fits, minus_is, as_i64}
-use borrow.Author.Rules.{rules}
 use Rattle.value_readings.proofs.with_sign.Goals as goal
 
 pub overflow_sub-result : goal.overflow_sub-result

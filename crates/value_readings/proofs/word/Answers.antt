@@ -1,6 +1,5 @@
 -- `value_readings::word` meets its contract: each word has the case that the definition gives it. Assumes nothing.
 use Rattle.text_bytes.specs.Bytes.{bytes}
-use borrow.Author.Rules.{rules}
 use Rattle.value_readings.proofs.word.Goals as goal
 
 pub returns-then-same_bytes : goal.returns-then-same_bytes

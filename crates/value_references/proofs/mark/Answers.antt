@@ -2,7 +2,6 @@
 use native.Mathlib.Omega.{arith}
 use borrow.Author.Tests.{ne_eqb}
 use mathlib.Core.Path.{◌≡◌}
-use borrow.Author.Rules.{rules}
 use Rattle.value_references.proofs.mark.Goals as goal
 
 pub returns-then-i-gt0 : goal.returns-then-i-gt0

@@ -1,6 +1,5 @@
 -- `value_references::reference` meets its contract: it is the index that is read there, 0 where that is bad or none. Assumes nothing.
 use mathlib.Core.Path.{ap, ◌∙◌}
-use borrow.Author.Rules.{rules}
 use Rattle.value_references.specs.Index.{index_in}
 use Rattle.value_references.specs.References.{ref_to}
 use Rattle.value_references.proofs.reference.Goals as goal

@@ -2,13 +2,11 @@
 use mathlib.Core.Path.{◌≡◌, ap, ◌∙◌}
 use mathlib.Core.Bool.{Bool, ◌&&◌}
 use Rattle.text_bytes.specs.Places.{part}
-use Prim.Native.Nat.{◌-◌, ◌≤◌}
+use Prim.Native.Nat.{◌-◌}
 use native.Mathlib.Omega.{arith}
-use borrow.Author.Rules.{rules}
-use lib.ListN.{length}
 use Rattle.value_references.specs.Index.{index_in, sooner}
 use Rattle.value_references.specs.References.{ref_to}
-use Rattle.value_references.proofs.Laws.Names.{SoFar, told_start, told_next, told_last, ref_le}
+use Rattle.value_references.proofs.Laws.Names.{told_start, told_next, told_last, ref_le}
 use Rattle.value_references.proofs.references.Goals as goal
 
 pub loop-flaw-init : goal.loop-flaw-init

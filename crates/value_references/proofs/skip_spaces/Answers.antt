@@ -1,9 +1,7 @@
 -- `value_references::skip_spaces` meets its contract. The invariant: what is left without its spaces is as from `from` on. Assumes nothing.
-use mathlib.Core.Path.{◌≡◌, refl, sym, ◌∙◌}
-use Prim.Native.Nat.{◌-◌, ◌≤◌}
+use mathlib.Core.Path.{refl, sym, ◌∙◌}
+use Prim.Native.Nat.{◌-◌}
 use native.Mathlib.Omega.{arith}
-use lib.ListN.{length, drop}
-use Rattle.value_references.specs.References.{trimmed}
 use Rattle.value_references.proofs.Laws.Names.{trim_next, trim_stop, trim_end}
 use Rattle.value_references.proofs.skip_spaces.Goals as goal
 

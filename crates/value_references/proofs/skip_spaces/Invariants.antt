@@ -1,10 +1,8 @@
 -- `value_references::skip_spaces` meets its contract. The invariant: what is left without its spaces is as from `from` on. Assumes nothing.
-use mathlib.Core.Path.{◌≡◌, refl, sym, ◌∙◌}
+use mathlib.Core.Path.{◌≡◌}
 use Prim.Native.Nat.{◌-◌, ◌≤◌}
-use native.Mathlib.Omega.{arith}
 use lib.ListN.{length, drop}
 use Rattle.value_references.specs.References.{trimmed}
-use Rattle.value_references.proofs.Laws.Names.{trim_next, trim_stop, trim_end}
 use Rattle.value_references.proofs.skip_spaces.Given as goal
 
 abbrev pub invariant-loop-i : goal.invariant-loop-i

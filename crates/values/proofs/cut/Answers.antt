@@ -2,7 +2,6 @@
 use Prim.Native.Nat.{◌≤◌, ◌<◌}
 use mathlib.Core.Path.{◌≡◌, sym, ◌∙◌}
 use native.Mathlib.Omega.{arith}
-use borrow.Author.Rules.{rules}
 use lib.ListN.{length, get_or}
 use Rattle.value_references.proofs.Laws.Indices.{present}
 use Rattle.values.proofs.Laws.Mantissas.{run_within, cut_plain, cut_dotted}

@@ -2,7 +2,6 @@
 use mathlib.Core.Path.{sym, ◌∙◌}
 use Rattle.values.proofs.Laws.Decimals.{decimal_numeral, decimal_inf, decimal_nan}
 use Rattle.text_bytes.specs.Bytes.{bytes}
-use borrow.Author.Rules.{rules}
 use Rattle.values.proofs.is_decimal.Goals as goal
 
 pub returns-then-numeral : goal.returns-then-numeral

@@ -1,13 +1,9 @@
 -- `values::is_decimals` meets its contract. The invariant: all pieces are decimals just where those from `at` on are. Assumes nothing.
-use mathlib.Core.Path.{◌≡◌, refl, sym, ◌∙◌}
+use mathlib.Core.Path.{◌≡◌}
 use Prim.Native.Nat.{◌-◌, ◌≤◌}
-use native.Mathlib.Omega.{arith}
-use borrow.Author.Rules.{rules}
-use borrow.Author.Tests.{not-true, not-false}
 use lib.ListN.{length, drop}
 use Rattle.text_bytes.specs.Bytes.{all, split_on, BAR}
 use Rattle.values.specs.Values.{is_decimal, is_decimals}
-use Rattle.text_bytes.proofs.Laws.Each.{each_good, each_bad, each_last}
 use Rattle.values.proofs.is_decimals.Given as goal
 
 abbrev pub invariant-loop-at : goal.invariant-loop-at

@@ -1,15 +1,12 @@
 -- `values::is_digits` meets its contract. The invariant: there are digits just where all from i on are. Assumes nothing.
 use borrow.Author.Tests.{not-true, not-false}
-use mathlib.Core.Path.{◌≡◌, sym, ◌∙◌}
-use Prim.Native.Nat.{◌-◌, ◌≤◌}
+use mathlib.Core.Path.{sym, ◌∙◌}
+use Prim.Native.Nat.{◌-◌}
 use native.Mathlib.Omega.{arith}
 use borrow.Author.Rules.{rules}
-use lib.ListN.{length, drop}
-use Rattle.text_bytes.specs.Bytes.{all}
 use Rattle.values.proofs.Laws.Digits.{digits_none, digits_some}
 use Rattle.text_bytes.proofs.Laws.Each.{all_hit, all_miss, all_end}
 use Rattle.value_references.specs.Index.{is_digit}
-use Rattle.values.specs.Values.{are_digits}
 use Rattle.values.proofs.is_digits.Goals as goal
 
 pub returns-then-s-lt-FEWEST_DIGITS : goal.returns-then-s-lt-FEWEST_DIGITS

@@ -2,7 +2,6 @@
 use mathlib.Core.Path.{sym, ◌∙◌}
 use borrow.Author.Tests.{not-true, not-false}
 use Rattle.values.proofs.Laws.Mantissas.{exponent_none, exponent_other, exponent_long, exponent_short}
-use borrow.Author.Rules.{rules}
 use Rattle.values.proofs.is_exponent.Goals as goal
 
 pub returns-then-s-eq0 : goal.returns-then-s-eq0

@@ -1,7 +1,6 @@
 -- `values::is_whole` meets its contract: after the minus there are 1 to 9 bytes, all of them digits. Assumes nothing.
 use mathlib.Core.Path.{sym, ◌∙◌}
 use Rattle.values.proofs.Laws.Digits.{whole_long, whole_short}
-use borrow.Author.Rules.{rules}
 use Rattle.values.proofs.is_whole.Goals as goal
 
 pub returns-then-u-gt-WHOLE_DIGITS : goal.returns-then-u-gt-WHOLE_DIGITS

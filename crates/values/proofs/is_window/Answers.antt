@@ -3,7 +3,6 @@ use mathlib.Core.Path.{sym, ◌∙◌}
 use native.Mathlib.Omega.{arith}
 use lib.Seq.{length-take-le}
 use Rattle.values.proofs.Laws.Decimals.{window_none, window_more, window_good, window_bad}
-use borrow.Author.Rules.{rules}
 use Rattle.values.proofs.is_window.Goals as goal
 
 pub returns-then-e-s : goal.returns-then-e-s

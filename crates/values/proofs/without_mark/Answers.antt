@@ -1,7 +1,6 @@
 -- `values::without_mark` meets its contract: where a plus or a minus stands first, the digits begin after it. Assumes nothing.
 use native.Mathlib.Omega.{arith}
 use Rattle.values.proofs.Laws.Digits.{unmarked_none, unmarked_plus, unmarked_minus, unmarked_plain}
-use borrow.Author.Rules.{rules}
 use Rattle.values.proofs.without_mark.Goals as goal
 
 pub returns-then-s-eq0 : goal.returns-then-s-eq0

@@ -1,7 +1,6 @@
 -- `values::without_minus` meets its contract: where a minus stands first, the digits begin after it. Assumes nothing.
 use native.Mathlib.Omega.{arith}
 use Rattle.values.proofs.Laws.Digits.{unsigned_none, unsigned_minus, unsigned_plain}
-use borrow.Author.Rules.{rules}
 use Rattle.values.proofs.without_minus.Goals as goal
 
 pub returns-then-s-eq0 : goal.returns-then-s-eq0

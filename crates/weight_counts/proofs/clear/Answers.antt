@@ -1,9 +1,8 @@
 -- `weight_counts::clear` meets its contract. The invariant: the places passed hold 0. Assumes nothing.
-use mathlib.Core.Path.{◌≡◌, refl}
-use Prim.Native.Nat.{ℕ, ◌-◌, ◌≤◌, ◌<◌}
+use mathlib.Core.Path.{refl}
+use Prim.Native.Nat.{◌-◌}
 use native.Mathlib.Omega.{arith}
 use borrow.Author.Rules.{rules}
-use lib.ListN.{length, get_or}
 use Rattle.weight_counts.proofs.Laws.Raising.{zero_next, zero_all}
 use Rattle.weight_counts.proofs.clear.Goals as goal
 

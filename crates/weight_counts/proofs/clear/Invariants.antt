@@ -1,10 +1,7 @@
 -- `weight_counts::clear` meets its contract. The invariant: the places passed hold 0. Assumes nothing.
-use mathlib.Core.Path.{◌≡◌, refl}
+use mathlib.Core.Path.{◌≡◌}
 use Prim.Native.Nat.{ℕ, ◌-◌, ◌≤◌, ◌<◌}
-use native.Mathlib.Omega.{arith}
-use borrow.Author.Rules.{rules}
 use lib.ListN.{length, get_or}
-use Rattle.weight_counts.proofs.Laws.Raising.{zero_next, zero_all}
 use Rattle.weight_counts.proofs.clear.Given as goal
 
 abbrev pub invariant-loop-i : goal.invariant-loop-i

@@ -1,6 +1,5 @@
 -- `weight_counts::count_cell` meets its contract: at each `return` the tests say whether the cell counts. Assumes nothing.
 use mathlib.Core.Path.{sym, ◌∙◌}
-use borrow.Author.Rules.{rules}
 use Rattle.text_bytes.specs.Bytes.{bytes}
 use Rattle.weight_counts.proofs.Laws.Raising.{cell_unmarked, cell_null, cell_counts}
 use Rattle.weight_counts.proofs.count_cell.Goals as goal

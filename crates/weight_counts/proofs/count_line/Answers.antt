@@ -1,6 +1,5 @@
 -- `weight_counts::count_line` meets its contract: a line that is no protein row adds nothing. Assumes nothing.
 use mathlib.Core.Path.{sym, ◌∙◌}
-use borrow.Author.Rules.{rules}
 use Rattle.text_bytes.specs.Bytes.{bytes}
 use Rattle.book.specs.Book.{is_section, mz_tab, section_of}
 use Rattle.weight_counts.proofs.Laws.Raising.{row_room, row_counted, other_line}

@@ -1,12 +1,9 @@
 -- `weight_counts::count_lines` meets its contract. The invariant: what was added and what the lines left will add is what all lines add. Assumes nothing.
-use mathlib.Core.Path.{◌≡◌, refl, ◌∙◌}
+use mathlib.Core.Path.{◌≡◌}
 use Prim.Native.Nat.{ℕ, suc, ◌+◌, ◌-◌, ◌≤◌, ◌<◌}
-use native.Mathlib.Omega.{arith}
-use borrow.Author.Rules.{rules}
 use lib.ListN.{length, drop, get_or}
 use Rattle.text.specs.Lines.{lines}
 use Rattle.weight_counts.specs.Counts.{lines_add}
-use Rattle.weight_counts.proofs.Laws.Raising.{line_room, line_counted, lines_none}
 use Rattle.weight_counts.proofs.count_lines.Given as goal
 
 abbrev pub invariant-loop-at : goal.invariant-loop-at

@@ -1,12 +1,9 @@
 -- `weight_counts::count_row` meets its contract. The invariant: what was added and what the cells left will add is what all cells add. Assumes nothing.
-use mathlib.Core.Path.{◌≡◌, refl, ◌∙◌}
+use mathlib.Core.Path.{◌≡◌}
 use Prim.Native.Nat.{ℕ, suc, ◌+◌, ◌-◌, ◌≤◌, ◌<◌}
-use native.Mathlib.Omega.{arith}
-use borrow.Author.Rules.{rules}
 use lib.ListN.{length, drop, get_or}
 use Rattle.text.specs.Lines.{cells}
 use Rattle.weight_counts.specs.Counts.{adds, marks as marked}
-use Rattle.weight_counts.proofs.Laws.Raising.{turn_next, turn_last, turn_none}
 use Rattle.weight_counts.proofs.count_row.Given as goal
 
 abbrev pub invariant-loop-k : goal.invariant-loop-k

@@ -1,9 +1,7 @@
 -- `weight_marks::marks_in` meets its contract. The invariant: the cells before k are marked, and the cells from `at` on are left. Assumes nothing.
 use Prim.Native.Nat.{◌-◌, ◌≤◌}
-use native.Mathlib.Omega.{arith}
-use borrow.Author.Rules.{rules}
 use lib.ListN.{length}
-use Rattle.weight_marks.proofs.Laws.Columning.{SoFar, marks_start, marks_next, marks_last, marks_full}
+use Rattle.weight_marks.proofs.Laws.Columning.{SoFar}
 use Rattle.weight_marks.proofs.marks_in.Given as goal
 
 abbrev pub invariant-loop-k : goal.invariant-loop-k

@@ -1,6 +1,5 @@
 -- `weight_marks::variable_of` meets its contract: a column's name is the word and an index, as a reference is. Assumes nothing.
 use native.Mathlib.Omega.{arith}
-use borrow.Author.Rules.{rules}
 use Rattle.text_bytes.specs.Bytes.{bytes}
 use Rattle.value_references.proofs.Laws.Names.{ref_le}
 use Rattle.weight_counts.specs.Variables.{WORD}

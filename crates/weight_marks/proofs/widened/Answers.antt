@@ -1,5 +1,4 @@
 -- `weight_marks::widened` meets its contract: a cell without a mark needs nothing. Assumes nothing.
-use borrow.Author.Rules.{rules}
 use borrow.Author.Tests.{eq-eqb, ne_eqb}
 use Rattle.weight_marks.proofs.widened.Goals as goal
 

@@ -1,5 +1,4 @@
 -- `weights::refusal_of` meets its contract: the refusals are tried in the order of the table, and each test is that of the definition. Assumes nothing.
-use borrow.Author.Rules.{rules}
 use Rattle.weights.proofs.Laws.Refusing.{refuse_long, refuse_broken, refuse_places, refuse_none}
 use Rattle.weights.proofs.refusal_of.Goals as goal
 

@@ -1,5 +1,4 @@
 -- `book::demands::count_demands` meets its contract: the number stands in the last entry of the directory. Assumes nothing.
-use borrow.Author.Rules.{rules}
 use native.Mathlib.Omega.{arith}
 use mathlib.Core.Path.{ap, ◌∙◌}
 use Prim.Native.Nat.{ℕ, ◌+◌, ◌*◌, ◌≤◌}

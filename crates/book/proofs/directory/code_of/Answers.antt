@@ -1,5 +1,4 @@
 -- `book::directory::code_of`: the line codes of a section stand in its entry of the directory. Assumes nothing.
-use borrow.Author.Rules.{rules}
 use native.Mathlib.Omega.{arith}
 use mathlib.Core.Path.{ap, ◌∙◌}
 use mathlib.Core.Bool.{not}

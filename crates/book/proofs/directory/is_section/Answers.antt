@@ -1,5 +1,4 @@
 -- `book::directory::is_section`: the directory has the number of the first section and how many there are. Assumes nothing.
-use borrow.Author.Rules.{rules}
 use native.Mathlib.Omega.{arith}
 use mathlib.Core.Path.{◌≡◌, ap, sym, ◌∙◌}
 use Prim.Native.Nat.{◌+◌}

@@ -1,5 +1,4 @@
 -- `book::directory::number_at`: two bytes are below 65,536 together. Assumes nothing.
-use borrow.Author.Rules.{rules}
 use native.Mathlib.Omega.{arith}
 use Prim.Native.Nat.{◌+◌}
 use Rattle.book.proofs.directory.number_at.Goals as goal

@@ -1,10 +1,9 @@
 -- `book::directory::section_of`: none of the sections before j has the code, so that the first that has it is the first of those from j on. Assumes nothing.
 use borrow.Author.Rules.{rules}
 use native.Mathlib.Omega.{arith}
-use mathlib.Core.Path.{◌≡◌, ap, sym, ◌∙◌}
+use mathlib.Core.Path.{ap, sym, ◌∙◌}
 use Prim.Native.Nat.{ℕ, ◌+◌, ◌*◌, ◌-◌, ◌≤◌}
-use lib.ListN.{length, drop}
-use Rattle.book.specs.Book.{coded_from, section_by}
+use lib.ListN.{length}
 use Rattle.book.specs.Text.{book_in}
 use Rattle.book.proofs.Laws.Sized.{book_sized}
 use Rattle.book.proofs.Laws.Directing.{code_fits, coded_here, coded_next, coded_start, coded_none}

@@ -1,5 +1,4 @@
 -- `book::slots::start_of`: the numbers behind the required columns are where the slots of the keys begin. Assumes nothing.
-use borrow.Author.Rules.{rules}
 use native.Mathlib.Omega.{arith}
 use mathlib.Core.Path.{◌≡◌, ap, ◌∙◌}
 use Prim.Native.Nat.{ℕ, ◌+◌, ◌*◌}

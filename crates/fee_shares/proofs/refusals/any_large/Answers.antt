@@ -1,9 +1,7 @@
 -- `fee_shares::refusals::any_large` meets its contract. The invariant: what is left decides. Assumes nothing.
-use mathlib.Core.Path.{sym, ◌≡◌, refl, ◌∙◌}
-use Prim.Native.Nat.{◌≤◌, ◌-◌}
+use mathlib.Core.Path.{sym, refl, ◌∙◌}
+use Prim.Native.Nat.{◌-◌}
 use native.Mathlib.Omega.{arith}
-use lib.ListN.{length, drop}
-use Rattle.fee_shares.specs.Refusals.{any_large}
 use Rattle.fee_shares.proofs.Laws.Rounds.{large_here, large_next, large_end}
 use Rattle.fee_shares.proofs.refusals.any_large.Goals as goal
 

@@ -1,7 +1,6 @@
 -- `fee_shares::refusals::refusal_of` meets its contract: the refusals are tried in the order of the table, and each test is that of the definition. Assumes nothing.
 use mathlib.Core.Path.{◌≡◌, sym, ◌∙◌}
 use mathlib.Core.Bool.{true, false}
-use borrow.Author.Rules.{rules}
 use borrow.Author.Tests.{not-true, not-false}
 use lib.ListN.{length}
 use Rattle.fee_shares.specs.Refusals.{as_many, any_large}

@@ -1,6 +1,6 @@
 -- `fee_shares::refusals::total_of` meets its contract. The invariant: the sum of the weights passed. Assumes nothing.
 use mathlib.Core.Path.{ap, ◌≡◌, refl, ◌∙◌}
-use Prim.Native.Nat.{ℕ, ◌≤◌, ◌-◌, ◌*◌}
+use Prim.Native.Nat.{ℕ, ◌-◌}
 use native.Mathlib.Omega.{arith}
 use lib.ListN.{length}
 use Rattle.fee_shares.specs.Sums.{sum_to, at}

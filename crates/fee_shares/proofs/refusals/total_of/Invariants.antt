@@ -1,10 +1,8 @@
 -- `fee_shares::refusals::total_of` meets its contract. The invariant: the sum of the weights passed. Assumes nothing.
-use mathlib.Core.Path.{ap, ◌≡◌, refl, ◌∙◌}
-use Prim.Native.Nat.{ℕ, ◌≤◌, ◌-◌, ◌*◌}
-use native.Mathlib.Omega.{arith}
+use mathlib.Core.Path.{◌≡◌}
+use Prim.Native.Nat.{◌≤◌, ◌-◌, ◌*◌}
 use lib.ListN.{length}
 use Rattle.fee_shares.specs.Sums.{sum_to, at}
-use Rattle.fee_shares.proofs.Laws.Rounds.{sum_next}
 use Rattle.fee_shares.proofs.refusals.total_of.Given as goal
 
 abbrev pub invariant-loop-i : goal.invariant-loop-i

@@ -1,6 +1,6 @@
 -- `fee_shares::shares::ahead_of` meets its contract. The invariant: how many of those passed come before i. Assumes nothing.
 use mathlib.Core.Path.{ap, ◌≡◌, refl, ◌∙◌}
-use Prim.Native.Nat.{ℕ, ◌≤◌, ◌-◌}
+use Prim.Native.Nat.{ℕ, ◌-◌}
 use native.Mathlib.Omega.{arith}
 use Rattle.fee_shares.specs.Shares.{ahead}
 use Rattle.fee_shares.specs.Sums.{sum_to, at}

@@ -1,10 +1,10 @@
 -- `fee_shares::shares::divide` meets its contract. The invariant: the remainders and the cents given out, of the weights passed. Assumes nothing.
 use mathlib.Core.Path.{ap, ◌≡◌, refl, ◌∙◌}
-use Prim.Native.Nat.{ℕ, ◌≤◌, ◌<◌, ◌-◌}
+use Prim.Native.Nat.{ℕ, ◌-◌}
 use native.Mathlib.Omega.{arith}
 use lib.ListN.{length-set, length}
 use Rattle.fee_shares.specs.Shares.{floor, rest}
-use Rattle.fee_shares.specs.Sums.{sum_to, at}
+use Rattle.fee_shares.specs.Sums.{sum_to}
 use Rattle.fee_shares.proofs.Laws.Rounds.{places_next, rest_at, floors_next, floors_fit}
 use Rattle.fee_shares.proofs.shares.divide.Goals as goal
 

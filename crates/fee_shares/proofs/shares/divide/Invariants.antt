@@ -1,11 +1,9 @@
 -- `fee_shares::shares::divide` meets its contract. The invariant: the remainders and the cents given out, of the weights passed. Assumes nothing.
-use mathlib.Core.Path.{ap, ◌≡◌, refl, ◌∙◌}
+use mathlib.Core.Path.{◌≡◌}
 use Prim.Native.Nat.{ℕ, ◌≤◌, ◌<◌, ◌-◌}
-use native.Mathlib.Omega.{arith}
-use lib.ListN.{length-set, length}
+use lib.ListN.{length}
 use Rattle.fee_shares.specs.Shares.{floor, rest}
 use Rattle.fee_shares.specs.Sums.{sum_to, at}
-use Rattle.fee_shares.proofs.Laws.Rounds.{places_next, rest_at, floors_next, floors_fit}
 use Rattle.fee_shares.proofs.shares.divide.Given as goal
 
 abbrev pub invariant-loop-i : goal.invariant-loop-i

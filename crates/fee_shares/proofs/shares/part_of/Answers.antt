@@ -2,7 +2,6 @@
 use mathlib.Core.Path.{refl}
 use Prim.Native.Nat.{◌*◌, ◌^◌, ◌<◌}
 use native.Mathlib.Omega.{arith}
-use borrow.Author.Rules.{rules}
 use Rattle.fee_shares.proofs.Laws.Rounds.{product_fits}
 use Rattle.fee_shares.proofs.shares.part_of.Goals as goal
 

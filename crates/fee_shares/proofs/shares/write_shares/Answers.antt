@@ -1,8 +1,8 @@
 -- `fee_shares::shares::write_shares` meets its contract. The invariant: the places passed hold their shares. Assumes nothing.
 use mathlib.Core.Path.{◌≡◌, refl, sym, ap, ◌∙◌}
-use Prim.Native.Nat.{◌+◌, ℕ, ◌≤◌, ◌-◌}
+use Prim.Native.Nat.{◌+◌, ℕ, ◌-◌}
 use native.Mathlib.Omega.{arith}
-use lib.ListN.{length, take, length-set}
+use lib.ListN.{length, length-set}
 use lib.Seq.{take_all}
 use Rattle.fee_shares.specs.Shares.{share}
 use Rattle.fee_shares.specs.Sums.{list_to}

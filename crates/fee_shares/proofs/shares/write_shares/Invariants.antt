@@ -1,12 +1,9 @@
 -- `fee_shares::shares::write_shares` meets its contract. The invariant: the places passed hold their shares. Assumes nothing.
-use mathlib.Core.Path.{◌≡◌, refl, sym, ap, ◌∙◌}
-use Prim.Native.Nat.{◌+◌, ℕ, ◌≤◌, ◌-◌}
-use native.Mathlib.Omega.{arith}
-use lib.ListN.{length, take, length-set}
-use lib.Seq.{take_all}
+use mathlib.Core.Path.{◌≡◌}
+use Prim.Native.Nat.{◌≤◌, ◌-◌}
+use lib.ListN.{length, take}
 use Rattle.fee_shares.specs.Shares.{share}
 use Rattle.fee_shares.specs.Sums.{list_to}
-use Rattle.fee_shares.proofs.Laws.Rounds.{list_next, floor_at, floor_small, share_at_lem}
 use Rattle.fee_shares.proofs.shares.write_shares.Given as goal
 
 abbrev pub invariant-loop-i : goal.invariant-loop-i

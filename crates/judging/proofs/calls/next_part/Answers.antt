@@ -1,6 +1,5 @@
 -- `judging::calls::next_part` meets its contract: what is carried is handed to the part and taken back from it. Assumes nothing.
 use mathlib.Core.Path.{refl}
-use borrow.Author.Rules.{rules}
 use Rattle.judging.proofs.calls.next_part.Goals as goal
 
 pub judge_part-stand-requires : goal.judge_part-stand-requires

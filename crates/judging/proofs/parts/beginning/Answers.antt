@@ -1,5 +1,4 @@
 -- `judging::parts::beginning` meets its contract: it is the record of the definition, field by field. Assumes nothing.
-use borrow.Author.Rules.{rules}
 use Rattle.judging.proofs.parts.beginning.Goals as goal
 
 pub returns : goal.returns

@@ -1,24 +1,22 @@
 -- `judging::parts::judge_lines` meets its contract. The invariant: what is carried stands for the lines passed, and what was put are the breaks ahead of where
 -- it began, up to those of the lines left. Assumes nothing.
-use mathlib.Core.Path.{◌≡◌, refl, sym, subst⁻¹}
+use mathlib.Core.Path.{refl, sym, subst⁻¹}
 use mathlib.Core.Logic.{inl}
-use Prim.Native.Nat.{ℕ, ◌+◌, ◌-◌, ◌≤◌, ◌<◌}
+use Prim.Native.Nat.{ℕ, ◌+◌, ◌-◌, ◌≤◌}
 use native.Mathlib.Omega.{arith}
 use borrow.Author.Rules.{rules}
-use lib.ListN.{length, drop, length-replicate, length-take, length-drop}
+use lib.ListN.{drop, length-replicate, length-take, length-drop}
 use Rattle.text.specs.Lines.{lines}
 use Rattle.text_bytes.proofs.Laws.Tests.{absurd_bool}
 use Rattle.book.specs.Text.{book_in}
 use Rattle.book.proofs.Laws.Sized.{book_sized}
 use Rattle.book_facts.specs.Asked.{AskingOf}
-use Rattle.scan.specs.Machine.{FIRSTS}
-use Rattle.scan.specs.Places.{FILE_MOST, LINE_MOST}
-use Rattle.scan.specs.Carried.{Scan}
+use Rattle.scan.specs.Places.{FILE_MOST}
 use Rattle.scan.proofs.Laws.Following.{asking_kept}
 use Rattle.scan.proofs.Laws.Scanning.{scan_step, scan_left, left_bound}
 use Rattle.line_head_stamps.specs.Stamps.{ROOM}
-use Rattle.judging.specs.Parts.{Parted, ahead}
-use Rattle.judging.proofs.Laws.Parting.{parted_start, parted_next, Alone, alone_next, alone_full, alone_done}
+use Rattle.judging.specs.Parts.{ahead}
+use Rattle.judging.proofs.Laws.Parting.{parted_start, parted_next, alone_next, alone_full, alone_done}
 use Rattle.judging.proofs.Laws.Knowing.{flags_know}
 use Rattle.judging.proofs.parts.judge_lines.Goals as goal
 

@@ -1,7 +1,6 @@
 -- `mztab::cells::cell` meets its contract: `locate` gives the number and the part, which begins where the cell does. Assumes nothing.
 use mathlib.Core.Path.{refl}
 use native.Mathlib.Omega.{arith}
-use borrow.Author.Rules.{rules}
 use Rattle.mztab.proofs.Laws.Locating.{placed_shown, part_stands}
 use Rattle.mztab.proofs.cells.cell.Goals as goal
 

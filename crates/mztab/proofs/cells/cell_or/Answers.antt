@@ -1,6 +1,5 @@
 -- `mztab::cells::cell_or` meets its contract: what `cell` shows decides. Assumes nothing.
 use mathlib.Core.Path.{refl, sym, ◌∙◌}
-use borrow.Author.Rules.{rules}
 use Rattle.text_bytes.specs.Bytes.{bytes}
 use Rattle.mztab.proofs.Laws.Locating.{or_null, or_kept, points_other, points_kept}
 use Rattle.mztab.proofs.cells.cell_or.Goals as goal

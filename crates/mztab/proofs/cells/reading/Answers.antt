@@ -1,5 +1,4 @@
 -- `mztab::cells::reading` meets its contract: `locate` gives the place, and `read` what its bytes say. Assumes nothing.
-use borrow.Author.Rules.{rules}
 use Rattle.mztab.proofs.Laws.Locating.{placed_unread, placed_read}
 use Rattle.mztab.proofs.cells.reading.Goals as goal
 

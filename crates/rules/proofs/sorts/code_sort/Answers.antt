@@ -1,7 +1,6 @@
 -- `rules::sorts::code_sort` meets its contract: the tests that led to each `return` say which sort it is. Assumes nothing.
 use mathlib.Core.Path.{◌≡◌, sym, ◌∙◌}
 use mathlib.Core.Bool.{false}
-use borrow.Author.Rules.{rules}
 use Rattle.text_bytes.specs.Bytes.{bytes, is}
 use Rattle.rules.proofs.Laws.Sorting.{sort_row, sort_header, sort_meta, sort_silent, sort_unknown}
 use Rattle.rules.proofs.sorts.code_sort.Goals as goal

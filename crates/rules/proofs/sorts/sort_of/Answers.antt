@@ -1,6 +1,5 @@
 -- `rules::sorts::sort_of` meets its contract: the bytes up to the first tab are cell 1. Assumes nothing.
 use mathlib.Core.Path.{sym}
-use borrow.Author.Rules.{rules}
 use lib.Seq.{length-take-le}
 use Rattle.text_bytes.proofs.Laws.Pieces.{first_piece}
 use Rattle.text.specs.Lines.{cell}

@@ -1,7 +1,6 @@
 -- `scan::places::put_first` meets its contract: a break is counted in any case, and written where its four places are there. Assumes nothing.
 use Prim.Native.Nat.{◌+◌, ◌*◌}
 use native.Mathlib.Omega.{arith}
-use borrow.Author.Rules.{rules}
 use borrow.Author.Tests.{le-leb, lt-leb, not-true, not-false}
 use lib.ListN.{length, length-set}
 use mathlib.Core.Path.{◌≡◌, sym, ap}

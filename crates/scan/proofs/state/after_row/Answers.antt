@@ -1,5 +1,4 @@
 -- `scan::state::after_row` meets its contract: the definition has the same test. Assumes nothing.
-use borrow.Author.Rules.{rules}
 use Rattle.scan.proofs.state.after_row.Goals as goal
 
 pub returns-then-present-section : goal.returns-then-present-section

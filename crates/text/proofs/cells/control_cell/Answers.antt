@@ -1,6 +1,5 @@
 -- `text::cells::control_cell` meets its contract: with no control byte no cell has one. Assumes nothing.
 use mathlib.Core.Path.{sym, ◌∙◌}
-use borrow.Author.Rules.{rules}
 use Rattle.text.proofs.Laws.Runs.{control_free}
 use Rattle.text.proofs.cells.control_cell.Goals as goal
 

@@ -1,10 +1,8 @@
 -- `text::cells::count_cells` meets its contract. The invariant: the cells of the line are those counted and those of what is left. Assumes nothing.
 use mathlib.Core.Path.{◌≡◌}
 use Prim.Native.Nat.{◌+◌, ◌-◌, ◌≤◌}
-use native.Mathlib.Omega.{arith}
 use lib.ListN.{length, drop}
 use Rattle.text.specs.Lines.{cells}
-use Rattle.text.proofs.Laws.Runs.{tabs_end}
 use Rattle.text.proofs.cells.count_cells.Given as goal
 
 abbrev pub invariant-loop-i : goal.invariant-loop-i

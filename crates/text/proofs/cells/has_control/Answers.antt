@@ -1,10 +1,7 @@
 -- `text::cells::has_control` meets its contract. The invariant: the line has one where one was met or what is left has one. Assumes nothing.
-use mathlib.Core.Path.{◌≡◌, refl, sym, ◌∙◌}
-use mathlib.Core.Bool.{◌||◌}
-use Prim.Native.Nat.{◌-◌, ◌≤◌}
+use mathlib.Core.Path.{refl, sym, ◌∙◌}
+use Prim.Native.Nat.{◌-◌}
 use borrow.Author.Rules.{rules}
-use lib.ListN.{length, drop}
-use Rattle.text_bytes.specs.Bytes.{any}
 use Rattle.text.specs.Lines.{control}
 use Rattle.text_bytes.proofs.Laws.Blocks.{met_more, met_end}
 use Rattle.text.proofs.cells.has_control.Goals as goal

@@ -1,12 +1,11 @@
 -- `text::cells::nth_cell` meets its contract. The invariant: cell n of the line is cell `left` of what stands from `at` on. Assumes nothing.
 use mathlib.Core.Path.{◌≡◌, refl, ◌∙◌}
-use Prim.Native.Nat.{ℕ, ◌+◌, ◌-◌, ◌≤◌}
+use Prim.Native.Nat.{ℕ, ◌+◌, ◌-◌}
 use native.Mathlib.Omega.{arith}
 use borrow.Author.Rules.{rules}
-use lib.ListN.{length, drop, get_elem?}
 use Rattle.text_bytes.specs.Bytes.{Bytes}
 use Rattle.text_bytes.specs.Places.{after}
-use Rattle.text.specs.Lines.{TAB, cells}
+use Rattle.text.specs.Lines.{TAB}
 use Rattle.text_bytes.proofs.Laws.Starts.{after_next}
 use Rattle.text_bytes.proofs.Laws.Pieces.{nth_here, nth_next, nth_none}
 use Rattle.text.proofs.cells.nth_cell.Goals as goal

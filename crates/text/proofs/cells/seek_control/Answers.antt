@@ -1,10 +1,8 @@
 -- `text::cells::seek_control` meets its contract. The invariant: the cell of the whole line is that of what is left, counted from k. Assumes nothing.
-use mathlib.Core.Path.{◌≡◌, sym, ◌∙◌}
-use Prim.Native.Nat.{◌+◌, ◌-◌, ◌≤◌}
+use mathlib.Core.Path.{sym, ◌∙◌}
+use Prim.Native.Nat.{◌-◌}
 use native.Mathlib.Omega.{arith}
 use borrow.Author.Rules.{rules}
-use lib.ListN.{length, drop}
-use Rattle.text.specs.Lines.{cells, first_control}
 use Rattle.text.proofs.Laws.Control.{control_here, control_tab, control_next, control_none}
 use Rattle.text.proofs.cells.seek_control.Goals as goal
 use Rattle.text.proofs.cells.seek_control.Goals.{then-x-eq-TAB, else-x-eq-TAB}

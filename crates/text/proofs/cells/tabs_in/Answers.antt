@@ -1,10 +1,7 @@
 -- `text::cells::tabs_in` meets its contract. The invariant: the cells from the first place on are the tabs met and the cells of what is left. Assumes nothing.
 use mathlib.Core.Path.{◌≡◌}
-use Prim.Native.Nat.{◌+◌, ◌-◌, ◌≤◌}
+use Prim.Native.Nat.{◌-◌}
 use native.Mathlib.Omega.{arith}
-use borrow.Author.Rules.{rules}
-use lib.ListN.{length, drop}
-use Rattle.text.specs.Lines.{cells}
 use Rattle.text.proofs.Laws.Runs.{tab_here, tab_else}
 use Rattle.text.proofs.cells.tabs_in.Goals as goal
 use Rattle.text.proofs.cells.tabs_in.Goals.{then-line-i-eq-TAB, else-line-i-eq-TAB}

@@ -1,8 +1,7 @@
 -- `text::lines::ends_in` meets its contract. The invariant: the LF met are the lines passed with the k bytes passed. Assumes nothing.
 use mathlib.Core.Path.{◌≡◌, subst⁻¹}
-use Prim.Native.Nat.{ℕ, ◌+◌, ◌-◌, ◌≤◌}
+use Prim.Native.Nat.{ℕ, ◌+◌, ◌-◌}
 use native.Mathlib.Omega.{arith}
-use borrow.Author.Rules.{rules}
 use Rattle.text.proofs.Laws.Openings.{Counted, counted_none, counted_end, counted_other}
 use Rattle.text.proofs.lines.ends_in.Goals as goal
 use Rattle.text.proofs.lines.ends_in.Goals.{then-file-at-eq-LF, else-file-at-eq-LF}

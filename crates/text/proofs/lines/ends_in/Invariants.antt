@@ -1,10 +1,6 @@
 -- `text::lines::ends_in` meets its contract. The invariant: the LF met are the lines passed with the k bytes passed. Assumes nothing.
-use mathlib.Core.Path.{◌≡◌, subst⁻¹}
-use mathlib.Core.Logic.{⊎_elim}
-use Prim.Native.Nat.{ℕ, ◌+◌, ◌-◌, ◌≤◌}
-use native.Mathlib.Omega.{arith}
-use borrow.Author.Rules.{rules}
-use Rattle.text.proofs.Laws.Openings.{Counted, counted_none, counted_end, counted_other}
+use Prim.Native.Nat.{◌-◌, ◌≤◌}
+use Rattle.text.proofs.Laws.Openings.{Counted}
 use Rattle.text.proofs.lines.ends_in.Given as goal
 
 abbrev pub invariant-loop-k : goal.invariant-loop-k

@@ -1,6 +1,5 @@
 -- `text::lines::line_at` meets its contract: a line that begins with its LF is empty. Assumes nothing.
 use native.Mathlib.Omega.{arith}
-use borrow.Author.Rules.{rules}
 use Rattle.text_bytes.proofs.Laws.Pieces.{up_to_hit}
 use Rattle.text.proofs.Laws.Lines.{line_empty}
 use Rattle.text.proofs.lines.line_at.Goals as goal

@@ -1,5 +1,4 @@
 -- `text::lines::line_on` meets its contract, by the laws of where a line ends. Assumes nothing.
-use borrow.Author.Rules.{rules}
 use Rattle.text.proofs.Laws.Lines.{line_cr, line_lf, line_empty, line_end}
 use Rattle.text.proofs.lines.line_on.Goals as goal
 use Rattle.text.proofs.lines.line_on.Goals.{then-at-e+else-file-e-eq-CR, else-at-e}

@@ -2,7 +2,6 @@
 use mathlib.Core.Path.{subst⁻¹}
 use Prim.Native.Nat.{ℕ, ◌+◌, ◌-◌, ◌<◌}
 use native.Mathlib.Omega.{arith}
-use borrow.Author.Rules.{rules}
 use lib.ListN.{length}
 use Rattle.text.specs.Openings.{Passes}
 use Rattle.text.proofs.Laws.Openings.{passes_end, passes_other, reaches_opening, reaches_end}

@@ -1,12 +1,7 @@
 -- `text::lines::next_opening` meets its contract: blocks are passed over, then byte by byte up to the first LF before b. Assumes nothing.
-use mathlib.Core.Path.{subst⁻¹}
-use mathlib.Core.Logic.{⊎_elim}
-use Prim.Native.Nat.{ℕ, ◌+◌, ◌-◌, ◌<◌}
-use native.Mathlib.Omega.{arith}
-use borrow.Author.Rules.{rules}
+use Prim.Native.Nat.{◌-◌}
 use lib.ListN.{length}
 use Rattle.text.specs.Openings.{Passes}
-use Rattle.text.proofs.Laws.Openings.{passes_end, passes_other, reaches_opening, reaches_end}
 use Rattle.text.proofs.lines.next_opening.Given as goal
 
 abbrev pub invariant-loop-at : goal.invariant-loop-at

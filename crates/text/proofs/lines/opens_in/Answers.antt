@@ -1,11 +1,9 @@
 -- `text::lines::opens_in` meets its contract. The invariant: unless one was met, none of the k bytes passed is an LF before b. Assumes nothing.
 use mathlib.Core.Path.{◌≡◌}
-use mathlib.Core.Bool.{false}
-use Prim.Native.Nat.{◌-◌, ◌≤◌}
+use Prim.Native.Nat.{◌-◌}
 use native.Mathlib.Nat.{not-suc-le-zero}
 use native.Mathlib.Omega.{arith}
-use borrow.Author.Rules.{rules}
-use Rattle.text.proofs.Laws.Openings.{Still, still_more}
+use Rattle.text.proofs.Laws.Openings.{still_more}
 use Rattle.text.proofs.lines.opens_in.Goals as goal
 
 pub loop-k-init : goal.loop-k-init

@@ -2,10 +2,7 @@
 use mathlib.Core.Path.{◌≡◌}
 use mathlib.Core.Bool.{false}
 use Prim.Native.Nat.{◌-◌, ◌≤◌}
-use native.Mathlib.Nat.{not-suc-le-zero}
-use native.Mathlib.Omega.{arith}
-use borrow.Author.Rules.{rules}
-use Rattle.text.proofs.Laws.Openings.{Still, still_more}
+use Rattle.text.proofs.Laws.Openings.{Still}
 use Rattle.text.proofs.lines.opens_in.Given as goal
 
 abbrev pub invariant-loop-k : goal.invariant-loop-k

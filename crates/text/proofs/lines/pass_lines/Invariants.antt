@@ -1,10 +1,7 @@
 -- `text::lines::pass_lines` meets its contract: block by block, what was passed so far. Assumes nothing.
 use Prim.Native.Nat.{◌-◌}
-use native.Mathlib.Omega.{arith}
-use borrow.Author.Rules.{rules}
 use lib.ListN.{length}
 use Rattle.text.specs.Openings.{Passes}
-use Rattle.text.proofs.Laws.Openings.{passes_none, passes_block}
 use Rattle.text.proofs.lines.pass_lines.Given as goal
 
 abbrev pub invariant-loop-at : goal.invariant-loop-at

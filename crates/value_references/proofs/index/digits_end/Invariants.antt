@@ -1,12 +1,8 @@
 -- `value_references::index::digits_end`: the digits passed and those left are all. Assumes nothing.
-use borrow.Author.Rules.{rules}
-use native.Mathlib.Omega.{arith}
-use mathlib.Core.Path.{◌≡◌, sym, ◌∙◌, ap}
+use mathlib.Core.Path.{◌≡◌}
 use Prim.Native.Nat.{◌+◌, ◌-◌, ◌≤◌}
 use lib.ListN.{length, drop}
-use borrow.Author.Tests.{not-true, not-false}
 use Rattle.value_references.specs.Index.{digits}
-use Rattle.value_references.proofs.Laws.Indices.{digits_end, digits_stop, digits_more}
 use Rattle.value_references.proofs.index.digits_end.Given as goal
 
 abbrev pub invariant-loop-end : goal.invariant-loop-end

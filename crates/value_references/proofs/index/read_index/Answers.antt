@@ -5,7 +5,6 @@ use mathlib.Core.List.{List}
 use Prim.Native.Nat.{ℕ}
 use lib.ListN.{get_or}
 use Rattle.value_references.specs.Index.{Run}
-use borrow.Author.Rules.{rules}
 use Rattle.value_references.proofs.Laws.Indices.{present, index_unopened, index_undigited, index_unclosed, index_zero, index_over, index_is}
 use Rattle.value_references.proofs.index.read_index.Goals as goal
 

@@ -1,5 +1,4 @@
 -- `value_references::index::small_number`: one digit, two, or more of them. Assumes nothing.
-use borrow.Author.Rules.{rules}
 use native.Mathlib.Omega.{arith}
 use mathlib.Core.Path.{◌≡◌}
 use mathlib.Core.List.{List}

@@ -1,7 +1,6 @@
 -- `value_references::words::word`: each word stands in the text where the code cuts it out. Assumes nothing.
 use mathlib.Core.Path.{◌≡◌, refl, sym, ap, ◌∙◌}
 use native.Mathlib.Omega.{arith}
-use borrow.Author.Rules.{rules}
 use lib.ListN.{length}
 use Rattle.text_bytes.specs.Bytes.{bytes}
 use Rattle.value_references.proofs.Laws.Words.{words_length, word_at, no_word}
