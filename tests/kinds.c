@@ -1,7 +1,7 @@
 /* Tests and measures the kinds through libtest_kinds_c.a, on a stack of 2 MB.
  *
- *   rt staticlib test_kinds_c
- *   gcc -O2 -Wall -Wextra tests/kinds.c target/staticlib/libtest_kinds_c.a -o target/kinds_test && target/kinds_test
+ *   (cd crates/test_kinds_c && rt lib)
+ *   gcc -O2 -Wall -Wextra tests/kinds.c crates/test_kinds_c/out/libtest_kinds_c.a -o target/kinds_test && target/kinds_test
  *
  * The archive is for x86-64. Under an emulator the answers count, and that time is linear; the nanoseconds say nothing.
  *
