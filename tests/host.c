@@ -2188,15 +2188,26 @@ static void lists_refused(const uint8_t *f, size_t n, size_t lists, uint32_t num
     }
 }
 
-/* The metadata of an accepted file of each section, 64 runs and 64 study variables. */
+/* The metadata of an accepted file of proteins, peptides and small molecules, and 64 study variables. */
 static void put_metadata(void) {
-    char line[128];
-    put("MTD\tmzTab-version\t1.0\nMTD\tmzTab-mode\tSummary\nMTD\tmzTab-type\tQuantification\nMTD\tdescription\td\n"
-        "MTD\tprotein_search_engine_score[1]\t[, , s, ]\nMTD\tpeptide_search_engine_score[1]\t[, , s, ]\nMTD\tpsm_search_engine_score[1]\t[, , s, ]\n"
-        "MTD\tsmallmolecule_search_engine_score[1]\t[, , s, ]\nMTD\tfixed_mod[1]\t[, , m, ]\nMTD\tvariable_mod[1]\t[, , m, ]\n"
+    char line[64];
+    put("MTD\tmzTab-version\t1.0\nMTD\tmzTab-mode\tSummary\nMTD\tmzTab-type\tQuantification\nMTD\tdescription\td\nMTD\tms_run[1]-location\tfile:///a.mzML\n"
+        "MTD\tprotein_search_engine_score[1]\t[, , s, ]\nMTD\tpeptide_search_engine_score[1]\t[, , s, ]\nMTD\tsmallmolecule_search_engine_score[1]\t[, , s, ]\n"
+        "MTD\tfixed_mod[1]\t[, , m, ]\nMTD\tvariable_mod[1]\t[, , m, ]\n"
         "MTD\tprotein-quantification_unit\t[, , u, ]\nMTD\tpeptide-quantification_unit\t[, , u, ]\nMTD\tsmall_molecule-quantification_unit\t[, , u, ]\n");
     for (uint32_t i = 1; i <= 64; i++) {
-        sprintf(line, "MTD\tms_run[%u]-location\tfile:///a.mzML\nMTD\tstudy_variable[%u]-description\tv\n", i, i);
+        sprintf(line, "MTD\tstudy_variable[%u]-description\tv\n", i);
+        put(line);
+    }
+}
+
+/* The same of each section, with 64 runs. */
+static void put_runs(void) {
+    char line[64];
+    put_metadata();
+    put("MTD\tpsm_search_engine_score[1]\t[, , s, ]\n");
+    for (uint32_t i = 2; i <= 64; i++) {
+        sprintf(line, "MTD\tms_run[%u]-location\tfile:///a.mzML\n", i);
         put(line);
     }
 }
@@ -2429,7 +2440,7 @@ static const struct { const char *text; uint32_t number; uint64_t totals[TOTALS]
 static void tallies(void) {
     for (size_t i = 0; i < COUNT(TALLIED); i++) {
         begin(LIMIT);
-        put_metadata();
+        put_runs();
         put(TALLIED[i].text);
         tallies_to(TALLIED[i].number, TALLIED[i].totals, "tally");
     }
@@ -2443,7 +2454,7 @@ static void one_cell(char *s, uint32_t k) { strcpy(s, k < COUNTS ? "1" : k == 25
 
 /* A table of so many such rows; answers where the first of them begins. */
 static size_t put_ones(uint32_t rows) {
-    put_metadata();
+    put_runs();
     put(line_of("PRH", 255, known_name));
     size_t start = at;
     for (; rows > 0; rows--) put(line_of("PRT", 255, one_cell));
@@ -2569,7 +2580,7 @@ static int put_table(uint64_t *totals) {
 /* A drawn file; answers the number with which it is tallied, and adds up its totals. */
 static uint32_t draw_tallied(uint64_t *totals) {
     begin(LIMIT);
-    put_metadata();
+    put_runs();
     int below = draw(8) && put_table(totals);
     put(PEPTIDE_COLUMNS "\n");
     put_rows(PEPTIDE_ROW, &totals[PEPTIDE_ROWS]);
@@ -2609,7 +2620,7 @@ static void drawn_tallies(void) {
 static void long_tallies(void) {
     static const char last[] = "\n" PROTEIN "\t1\t20\t03";
     begin(LIMIT + 1);
-    put_metadata();
+    put_runs();
     put(PROTEINS "\t" PSMS_OF("1") "\t" DISTINCT_OF("2") "\t" UNIQUE_OF("64") "\n");
     /* more rows than 16 bits count, and more PSMs than 32 bits */
     uint32_t pairs = over(PROTEIN "\t999999999\tnull\t0\n" PROTEIN "\t999999999\t1\tnull\n", LIMIT / 2);
@@ -2877,24 +2888,24 @@ static void wide_cell(char *s, uint32_t k) {
 static void weigh_accepted(void) {
     uint32_t weights[64] = {0};
     begin(most);
-    put_metadata();
+    put_runs();
     fill('\n', most);
     weights_are(file, most, 0, weights, "metadata and LF alone");
     begin(most);
-    put_metadata();
+    put_runs();
     put(REQUIRED_COLUMNS "\t" VARIABLE "[64]\nPRT\ta\tb\tc\tnull\t");
     fill('7', most);
     weights[63] = 1;
     weights_are(file, most, 0, weights, "an abundance of digits");
     begin(most);
-    put_metadata();
+    put_runs();
     put(line_of("PRH", 255, wide_name));
     uint32_t rows = over(line_of("PRT", 255, wide_cell), most);
     fill('\n', most);
     for (uint32_t i = 0; i < 64; i++) weights[i] = i % 2 ? 0 : rows;
     weights_are(file, most, 0, weights, "rows of 256 cells");
     begin(most);
-    put_metadata();
+    put_runs();
     put(REQUIRED_COLUMNS "\t" VARIABLE "[1]\n");
     rows = over("PRT\ta\ta\ta\tnull\t1\n", most);
     fill('\n', most);
@@ -2931,11 +2942,11 @@ static void tally_accepted(void) {
     put_ones(0);
     rows_tally(line_of("PRT", 255, largest_cell), large, "rows of the largest counts, tallied");
     begin(most);
-    put_metadata();
+    put_runs();
     put(PROTEINS "\t" DISTINCT_OF("64") "\n");
     rows_tally(PROTEIN "\t9\n", nine, "short rows, tallied");
     begin(most);
-    put_metadata();
+    put_runs();
     put(SPECTRA "\n");
     rows_tally("PSM\ta\ta\ta\t1\ta\n", spectrum, "rows of PSMs, tallied");
 }

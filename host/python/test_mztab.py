@@ -762,7 +762,8 @@ class Readme(unittest.TestCase):
         self.addCleanup(os.chdir, folder)
         os.chdir(ROOT)  # the calls name examples/
         calls = [line for line in (ROOT / "README.md").read_text().splitlines() if line.startswith("    mztab.")]
-        self.assertEqual(len(calls), 5)
+        self.assertEqual(len(calls), 4)
+        calls += [line for line in (ROOT / "docs" / "tally.md").read_text().splitlines() if line.startswith("    mztab.")]
         for call in calls:
             code, answer = call.strip().split("  # ")
             found = repr(eval(code, {"mztab": mztab, "open": open}))

@@ -55,7 +55,7 @@ fn run(given: Vec<OsString>) -> Result<u8, Failure> {
         "" | "help" | "-h" | "--help" => print(help::of(&words.next_as_text())),
         "-V" | "--version" | "version" => print(help::VERSION),
         other => Err(Failure::usage(format!(
-            "there is no command `{other}`: use check, rows, cell, read, edit, mend, fee, tally or explain (`bolfrake --help` tells more)"
+            "there is no command `{other}`: use check, rows, cell, read, edit, mend, fee or explain (`bolfrake --help` tells more)"
         ))),
     }
 }

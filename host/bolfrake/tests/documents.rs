@@ -11,6 +11,7 @@ use mztab::RULES;
 const RULES_PAGE: &str = include_str!("../../../docs/rules.md");
 const MANDATORY: &str = include_str!("../../../docs/mandatory.md");
 const README: &str = include_str!("../../../README.md");
+const TALLY_PAGE: &str = include_str!("../../../docs/tally.md");
 
 /// The part of a text between two marks, without them.
 fn between<'a>(text: &'a str, before: &str, after: &str) -> &'a str {
@@ -286,7 +287,15 @@ fn runs_of_the_readme() {
             tried += 1;
         }
     }
-    assert_eq!(tried, 7);
+    assert_eq!(tried, 6);
+}
+
+/// The one run of the page on tallies.
+#[test]
+fn run_of_the_tally_page() {
+    let (words, shown) = between(TALLY_PAGE, "    $ ./bolfrake ", "\n\n").split_once('\n').unwrap();
+    let shown: Vec<&str> = shown.lines().map(|line| &line[4..]).collect();
+    assert_eq!(run(words).out, shown.join("\n") + "\n", "{words}");
 }
 
 /// The commands without an output are ones that the tool takes: it refuses a use that it does not know with 2.

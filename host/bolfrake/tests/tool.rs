@@ -848,7 +848,7 @@ fn help() {
 #[test]
 fn wrong_uses() {
     let folder = Folder::new("wrong");
-    let every = "use check, rows, cell, read, edit, mend, fee, tally or explain";
+    let every = "use check, rows, cell, read, edit, mend, fee or explain";
     assert!(folder.run(&["frob"]).error.contains(every));
     for words in [
         &["frob"][..],

@@ -84,7 +84,7 @@ pub enum Refusal {
     NoRow,
     /// The row has no such cell.
     NoCell,
-    /// The copy or the record has no room in the buffer that is lent, or the copy would be longer than [`LIMIT`].
+    /// The copy has no room in the buffer that is lent, or would be longer than [`LIMIT`].
     NoRoom,
     /// The file breaks a rule, and the answer is only of a file that breaks none. [`judge`] says which, and where.
     NotAccepted,
@@ -130,7 +130,7 @@ impl fmt::Display for Refusal {
             Refusal::NoRow => "there is no such row, or no such line",
             Refusal::NoCell => "the row has no such cell",
             Refusal::NoRoom => {
-                "there is no room in the buffer, or the copy would be longer than 16,777,216 bytes"
+                "the copy has no room in the buffer, or would be longer than 16,777,216 bytes"
             }
             Refusal::NotAccepted => "the file breaks a rule",
             Refusal::BelowZero => "a count is below zero",

@@ -839,6 +839,6 @@ fn refusals_have_their_numbers_and_words() {
     // One number for both.
     let words = "there is no such row, or no such line";
     assert_eq!(Refusal::NoRow.to_string(), words);
-    let words = "there is no room in the buffer, or the copy would be longer than 16,777,216 bytes";
+    let words = "the copy has no room in the buffer, or would be longer than 16,777,216 bytes";
     assert_eq!(Refusal::NoRoom.to_string(), words);
 }
