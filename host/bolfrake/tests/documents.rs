@@ -293,7 +293,9 @@ fn runs_of_the_readme() {
 /// The one run of the page on tallies.
 #[test]
 fn run_of_the_tally_page() {
-    let (words, shown) = between(TALLY_PAGE, "    $ ./bolfrake ", "\n\n").split_once('\n').unwrap();
+    let (words, shown) = between(TALLY_PAGE, "    $ ./bolfrake ", "\n\n")
+        .split_once('\n')
+        .unwrap();
     let shown: Vec<&str> = shown.lines().map(|line| &line[4..]).collect();
     assert_eq!(run(words).out, shown.join("\n") + "\n", "{words}");
 }
@@ -352,7 +354,7 @@ fn the_floors_of_the_readme() {
         let names = |floor: &Vec<String>| floor.iter().any(|one| stands_for(one, name));
         floors.iter().position(names)
     };
-    let beside = ["numbers", "walks", "io"];
+    let beside = ["numbers", "walks", "io", "libc"];
     let crates = include_str!("../../../crates.txt").lines();
     let crates = crates.filter(|line| !line.starts_with('#') && !line.starts_with("test_"));
     for (name, below) in crates.filter_map(|line| line.split_once(':')) {
