@@ -6,9 +6,6 @@ use mathlib.Core.Path.{◌∙◌}
 use borrow.Author.Rules.{rules}
 use Rattle.value_cases.proofs.whole_of.Goals as goal
 
-pub returns-in-Missing : goal.returns-in-Missing
-returns-in-Missing c = rw c.in-Missing.is
-
 pub returns-in-Whole : goal.returns-in-Whole
 returns-in-Whole c =
     let f : SFits w64 c.in-Whole.n = search rules in
@@ -18,15 +15,3 @@ pub returns-in-Decimal : goal.returns-in-Decimal
 returns-in-Decimal c =
     let f : SFits w64 c.in-Decimal.numerals = search rules in
     to_z-of_z w64 c.in-Decimal.numerals f ∙ rw c.in-Decimal.is
-
-pub returns-in-Infinite : goal.returns-in-Infinite
-returns-in-Infinite c = rw c.in-Infinite.is
-
-pub returns-in-NotANumber : goal.returns-in-NotANumber
-returns-in-NotANumber c = rw c.in-NotANumber.is
-
-pub returns-in-LongDecimal : goal.returns-in-LongDecimal
-returns-in-LongDecimal c = rw c.in-LongDecimal.is
-
-pub returns-in-Text : goal.returns-in-Text
-returns-in-Text c = rw c.in-Text.is
