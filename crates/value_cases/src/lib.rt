@@ -13,11 +13,7 @@ pub fn number_of(value: Value) -> u32
     match value {
         Value::Missing => 0,
         Value::Whole(_) => 1,
-        Value::Decimal {
-            numerals: _,
-            power: _,
-            double: _,
-        } => 2,
+        Value::Decimal { .. } => 2,
         Value::Infinite => 3,
         Value::NotANumber => 4,
         Value::LongDecimal => 5,
@@ -30,17 +26,9 @@ pub fn whole_of(value: Value) -> i64
     ensures { result ≡ whole_of value }
 {
     match value {
-        Value::Missing => 0,
         Value::Whole(n) => n,
-        Value::Decimal {
-            numerals,
-            power: _,
-            double: _,
-        } => numerals,
-        Value::Infinite => 0,
-        Value::NotANumber => 0,
-        Value::LongDecimal => 0,
-        Value::Text => 0,
+        Value::Decimal { numerals, .. } => numerals,
+        _ => 0,
     }
 }
 
@@ -49,17 +37,8 @@ pub fn power_of(value: Value) -> i32
     ensures { result ≡ power_of value }
 {
     match value {
-        Value::Missing => 0,
-        Value::Whole(_) => 0,
-        Value::Decimal {
-            numerals: _,
-            power,
-            double: _,
-        } => power,
-        Value::Infinite => 0,
-        Value::NotANumber => 0,
-        Value::LongDecimal => 0,
-        Value::Text => 0,
+        Value::Decimal { power, .. } => power,
+        _ => 0,
     }
 }
 
@@ -68,16 +47,7 @@ pub fn double_of(value: Value) -> f64
     ensures { result ≡ double_of value }
 {
     match value {
-        Value::Missing => 0.0,
-        Value::Whole(_) => 0.0,
-        Value::Decimal {
-            numerals: _,
-            power: _,
-            double,
-        } => double,
-        Value::Infinite => 0.0,
-        Value::NotANumber => 0.0,
-        Value::LongDecimal => 0.0,
-        Value::Text => 0.0,
+        Value::Decimal { double, .. } => double,
+        _ => 0.0,
     }
 }

@@ -7,7 +7,7 @@ ghost use Rattle.text_bytes.specs.Bytes.{BAR as bar, COMMA as comma, SPACE as sp
 ghost use Rattle.value_parameters.specs.Parameters.{OPENS as opens, CLOSES as closes, is_parameter, is_parameters};
 ghost use Rattle.value_parameters.specs.Scan.{state, start, one_more, held, run, good};
 
-use text_bytes::{BAR, COMMA, SPACE, wide};
+use text_bytes::{BAR, COMMA, SPACE};
 
 pub const MARK: u8 = b'"';
 
@@ -117,12 +117,11 @@ fn outside_scan(s: &[u8], at: usize, end: usize, bars: bool, commas: u32, filled
     ensures { (result.scan ≡ run bars (state at commas false filled) (part at end s.now))
         × (result.scan.quoted ≡ false → eqb result.last closes ≡ eqb (get_or (part at result.scan.at s.now) (result.scan.at - at - 1) 0) closes) }
 {
-    let mut i = at;
     let mut n = commas;
     let mut f = filled;
     let mut gap = at;
     let mut last = 0;
-    while i < end {
+    for i in at..end {
         let b = s[i];
         if b > COMMA {
             if ends_part(bars, b) {
@@ -140,10 +139,9 @@ fn outside_scan(s: &[u8], at: usize, end: usize, bars: bool, commas: u32, filled
                 gap = i + 1;
             }
         }
-        last = wide(b);
-        i += 1;
+        last = usize::from(b);
     }
-    stands(i, n, false, fills_from(n, f, gap, i), last)
+    stands(end, n, false, fills_from(n, f, gap, end), last)
 }
 
 // The same, where a quotation is open at `at`: the next mark closes it.
@@ -153,17 +151,15 @@ fn inside_scan(s: &[u8], at: usize, end: usize, bars: bool, commas: u32, filled:
     ensures { (result.scan ≡ run bars (state at commas true filled) (part at end s.now))
         × (result.scan.quoted ≡ false → eqb result.last closes ≡ eqb (get_or (part at result.scan.at s.now) (result.scan.at - at - 1) 0) closes) }
 {
-    let mut i = at;
     let mut f = filled;
-    while i < end {
+    for i in at..end {
         let b = s[i];
         f = fills(commas, f, b);
         if b == MARK {
             return outside_scan(s, i + 1, end, bars, commas, f);
         }
-        i += 1;
     }
-    stands(i, commas, true, f, 0)
+    stands(end, commas, true, f, 0)
 }
 
 // The end of the block that starts at i: at most 1,024 bytes on, so that the scans nest at most that deep.
@@ -199,14 +195,12 @@ fn scan_part(s: &[u8], at: usize, bars: bool) -> Walk
         × (result.scan.quoted ≡ false → eqb result.last closes ≡ eqb (get_or (part at result.scan.at s.now) (result.scan.at - at - 1) 0) closes) }
 {
     let mut w = stands(at, 0, false, false, 0);
-    let mut i = at;
-    while i < s.len() {
-        let e = block_end(i, s.len());
+    while w.scan.at < s.len() {
+        let e = block_end(w.scan.at, s.len());
         w = block(s, e, bars, w);
         if w.scan.at < e {
             return w;
         }
-        i = e;
     }
     w
 }
@@ -225,7 +219,7 @@ fn begins_part(s: &[u8], at: usize) -> bool
 fn is_whole_part(w: Walk) -> bool
     ensures { result ≡ (eqb w.last closes && good w.scan) }
 {
-    if w.last != wide(CLOSES) {
+    if w.last != usize::from(CLOSES) {
         return false;
     }
     if w.scan.commas != 3 {
@@ -238,6 +232,7 @@ fn is_whole_part(w: Walk) -> bool
 }
 
 // Whether every part is a parameter, between the bars outside marks or, where bars separate nothing, in one piece. Each byte is read once, from left to right.
+// Kept: from part to part; only the walk over one tells where the next begins.
 fn all_parts(s: &[u8], bars: bool) -> bool
     ensures { result ≡ cond bars (is_parameters s.now) (is_parameter s.now) }
 {

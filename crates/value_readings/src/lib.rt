@@ -47,38 +47,16 @@ fn has_minus(s: &[u8]) -> bool
     s[0] == MINUS
 }
 
-fn wide(b: u8) -> u64
-    ensures { result ≡ b }
-{
-    b as u64
-}
-
 // The number that k digits wrote, n, with the digits of s after them: 15 digits at most.
 fn number_on(s: &[u8], n: u64, k: usize) -> u64
     requires { (k + length s.now ≤ 15) × (n < 10 ^ k) × (all is_digit s.now ≡ true) }
     ensures { (result ≡ number n s.now) × (result < 10 ^ (k + length s.now)) }
 {
     let mut m = n;
-    let mut i = 0;
-    while i < s.len() {
-        m = m * 10 + wide(s[i] - b'0');
-        i += 1;
+    for b in s {
+        m = m * 10 + u64::from(*b - b'0');
     }
     m
-}
-
-// Ten to the p, exactly.
-fn power(p: u32) -> u64
-    requires { p ≤ 15 }
-    ensures { result ≡ 10 ^ p }
-{
-    let mut n: u64 = 1;
-    let mut k: u32 = 0;
-    while k < p {
-        n = n * 10;
-        k += 1;
-    }
-    n
 }
 
 // n with its sign.
@@ -108,9 +86,9 @@ fn ten_to(p: u32) -> f64
     ensures { result ≡ ten p }
 {
     if p <= CAST {
-        return exact(power(p));
+        return exact(10u64.pow(p));
     }
-    exact(power(CAST)) * exact(power(p - CAST))
+    exact(10u64.pow(CAST)) * exact(10u64.pow(p - CAST))
 }
 
 // One division or one multiplication of two numbers that are held exactly.

@@ -2,8 +2,6 @@
 ghost use Rattle.std.specs.Prelude.{◌≡◌, ◌+◌, ◌≤◌, ◌<◌, length, get_or, drop};
 ghost use Rattle.value_references.specs.Index.{is_digit, digits, number, index_at, is_read, index_in, flaw_in, is_form, sooner as soonerOf, Run};
 
-use text_bytes::wide;
-
 // The highest index.
 const MOST: usize = 64;
 
@@ -11,6 +9,7 @@ const MOST: usize = 64;
 const LATEST: usize = 3;
 
 // Why a name is not known: no form is like it; an index is zero or begins with zero; an index is over 64.
+// Kept: `Form` stands for no flaw in `flaw_in`, `sooner` and `is_form` of specs/Index.antt, as an Option's None would.
 #[derive(Clone, Copy)]
 pub enum Flaw {
     Form,
@@ -19,6 +18,7 @@ pub enum Flaw {
 }
 
 // What stands at the front of a text: no index, a bad one with its flaw and the number of its bytes, or an index with the number of its bytes.
+// Kept: three cases, of `index_at` in specs/Index.antt; a Result in an Option would name them no better.
 #[derive(Clone, Copy)]
 pub enum Index {
     Not,
@@ -30,17 +30,14 @@ pub enum Index {
 pub fn byte_at(s: &[u8], i: usize) -> usize
     ensures { result ≡ get_or s.now i 0 }
 {
-    if i < s.len() { wide(s[i]) } else { 0 }
+    if i < s.len() { usize::from(s[i]) } else { 0 }
 }
 
 // Whether a byte is `0` to `9`.
 pub fn is_digit(b: u8) -> bool
     ensures { result ≡ is_digit b }
 {
-    if b < b'0' {
-        return false;
-    }
-    b <= b'9'
+    b.is_ascii_digit()
 }
 
 // The first place from `from` on where no digit stands, or the length.
@@ -48,14 +45,12 @@ pub fn digits_end(s: &[u8], from: usize) -> usize
     requires { from ≤ length s.now }
     ensures { result ≡ from + length (digits (drop from s.now)) }
 {
-    let mut end = from;
-    while end < s.len() {
+    for end in from..s.len() {
         if !is_digit(s[end]) {
             return end;
         }
-        end += 1;
     }
-    end
+    s.len()
 }
 
 // The number of the digits from the second byte of `s` up to `end`, or some number over 64 where it is over: of three digits or more it is, since the first is not zero.
@@ -66,11 +61,11 @@ fn small_number(s: &[u8], end: usize) -> usize
     if LATEST < end {
         return MOST + 1;
     }
-    let first = wide(s[1]) - 48;
+    let first = usize::from(s[1]) - 48;
     if end < LATEST {
         return first;
     }
-    first * 10 + (wide(s[2]) - 48)
+    first * 10 + (usize::from(s[2]) - 48)
 }
 
 // The index at the front of `s`. One that begins with zero is bad, else one over 64; brackets that are empty or hold more than digits are none.
@@ -102,11 +97,7 @@ pub fn read_index(s: &[u8]) -> Index
 pub fn is_read(found: Index) -> bool
     ensures { result ≡ is_read found }
 {
-    match found {
-        Index::Not => false,
-        Index::Bad(_, _) => true,
-        Index::Is(_, _) => true,
-    }
+    !matches!(found, Index::Not)
 }
 
 // The index that was read, 0 for none.
@@ -115,7 +106,7 @@ pub fn index_in(found: Index) -> usize
 {
     match found {
         Index::Not => 0,
-        Index::Bad(_, _) => 0,
+        Index::Bad(..) => 0,
         Index::Is(i, _) => i,
     }
 }
@@ -125,9 +116,8 @@ pub fn flaw_in(found: Index) -> Flaw
     ensures { result ≡ flaw_in found }
 {
     match found {
-        Index::Not => Flaw::Form,
         Index::Bad(flaw, _) => flaw,
-        Index::Is(_, _) => Flaw::Form,
+        _ => Flaw::Form,
     }
 }
 
@@ -135,11 +125,7 @@ pub fn flaw_in(found: Index) -> Flaw
 pub fn is_form(flaw: Flaw) -> bool
     ensures { result ≡ is_form flaw }
 {
-    match flaw {
-        Flaw::Form => true,
-        Flaw::Zero => false,
-        Flaw::Over => false,
-    }
+    matches!(flaw, Flaw::Form)
 }
 
 // The first of two flaws, `Form` for none.
@@ -148,7 +134,6 @@ pub fn sooner(first: Flaw, second: Flaw) -> Flaw
 {
     match first {
         Flaw::Form => second,
-        Flaw::Zero => Flaw::Zero,
-        Flaw::Over => Flaw::Over,
+        _ => first,
     }
 }

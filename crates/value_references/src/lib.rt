@@ -9,7 +9,7 @@ ghost use Rattle.value_references.specs.declared.index.Flaw.TheVariants.{Form};
 ghost use Rattle.value_references.specs.References.{ref_in, ref_to, trimmed, Tells};
 
 use crate::index::{Flaw, Index, flaw_in, index_in, is_form, is_read, read_index, sooner};
-use text_bytes::{COMMA, SPACE, begins_with, both, seek};
+use text_bytes::{COMMA, SPACE, begins_with, seek};
 
 // How many families of ids there are, and how many indices a family has.
 pub const FAMILIES: usize = 4;
@@ -18,6 +18,7 @@ pub const INDICES: usize = 64;
 
 // What a list of references says: whether it is one; the flaw for which it is none, `Form` where another index in each place would not make it one; and at
 // place i - 1 whether it names the index i.
+// Kept: `Tells` in specs/References.antt says what is named in a list that is none too, which a Result would not hand out.
 #[derive(Clone, Copy)]
 pub struct Named {
     pub good: bool,
@@ -54,14 +55,12 @@ fn skip_spaces(s: &[u8], from: usize) -> usize
     requires { from ≤ length s.now }
     ensures { (from ≤ result) × (result ≤ length s.now) × (drop result s.now ≡ trimmed (drop from s.now)) }
 {
-    let mut i = from;
-    while i < s.len() {
+    for i in from..s.len() {
         if s[i] != SPACE {
             return i;
         }
-        i += 1;
     }
-    i
+    s.len()
 }
 
 // Marks the index i as named; 0 is none.
@@ -92,12 +91,12 @@ pub fn references(word: &[u8], s: &[u8]) -> Named
     loop {
         let e = seek(s, at, COMMA);
         let found = read_reference(word, &s[at..e]);
-        like = both(like, is_read(found));
+        like &= is_read(found);
         flaw = sooner(flaw, flaw_in(found));
         mark(&mut named, index_in(found));
         if e == s.len() {
             return Named {
-                good: both(like, is_form(flaw)),
+                good: like & is_form(flaw),
                 flaw: flaw_where(like, flaw),
                 named,
             };

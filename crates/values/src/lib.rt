@@ -4,7 +4,7 @@
 ghost use Rattle.std.specs.Prelude.{◌≡◌};
 ghost use Rattle.values.specs.Values.{are_digits, unsigned, unmarked, is_e, is_exponent, CutAt, is_text, is_whole, is_decimal, is_decimals, is_window, is_null};
 
-use text_bytes::{BAR, both, same_bytes, seek};
+use text_bytes::{BAR, same_bytes, seek};
 use value_references::index::{byte_at, digits_end, is_digit};
 
 pub const MINUS: u8 = b'-';
@@ -23,6 +23,7 @@ pub const EXPONENT_DIGITS: usize = 3;
 
 // Where a numeral without its minus is cut: its digits before a dot end at `whole`, those after it stand from `from` to `to`, and from there on its exponent.
 // And whether it is a numeral.
+// Kept: `CutAt` in specs/Values.antt bounds these places in what is no numeral too, of which an Option would say nothing.
 #[derive(Clone, Copy)]
 pub struct Cuts {
     pub good: bool,
@@ -49,17 +50,7 @@ pub fn is_null(s: &[u8]) -> bool
 pub fn is_digits(s: &[u8]) -> bool
     ensures { result ≡ are_digits s.now }
 {
-    if s.len() < FEWEST_DIGITS {
-        return false;
-    }
-    let mut i = 0;
-    while i < s.len() {
-        if !is_digit(s[i]) {
-            return false;
-        }
-        i += 1;
-    }
-    true
+    s.len() >= FEWEST_DIGITS && s.iter().all(|b| is_digit(*b))
 }
 
 // What stands after one leading minus; all of it where there is none.
@@ -124,7 +115,7 @@ pub fn cut(u: &[u8]) -> Cuts
 {
     let whole = digits_end(u, 0);
     if byte_at(u, whole) != DOT {
-        let good = both(0 < whole, is_exponent(&u[whole..]));
+        let good = (0 < whole) & is_exponent(&u[whole..]);
         return Cuts {
             good,
             whole,
@@ -134,8 +125,8 @@ pub fn cut(u: &[u8]) -> Cuts
     }
     let from = whole + 1;
     let to = digits_end(u, from);
-    let sides = both(0 < whole, from < to);
-    let good = both(sides, is_exponent(&u[to..]));
+    let sides = (0 < whole) & (from < to);
+    let good = sides & is_exponent(&u[to..]);
     Cuts {
         good,
         whole,
@@ -170,6 +161,7 @@ pub fn is_decimal(s: &[u8]) -> bool
 }
 
 // Whether every piece between bars is a decimal. An empty piece is none.
+// Kept: from piece to piece by `seek`; `split` looks at one byte to a turn, the form that `seek` is faster than.
 pub fn is_decimals(s: &[u8]) -> bool
     ensures { result ≡ is_decimals s.now }
 {

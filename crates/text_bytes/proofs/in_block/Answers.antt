@@ -1,21 +1,12 @@
--- `text::bytes::in_block` meets its contract. The invariant: unless one was met, b stands in none of the k bytes passed. Assumes nothing.
-use mathlib.Core.Path.{◌≡◌, refl, sym, ◌∙◌}
-use mathlib.Core.Bool.{false}
-use Prim.Native.Nat.{◌-◌}
+-- `text_bytes::in_block` meets its contract. The invariant: the block has one where one was met or what is left has one. Assumes nothing.
+use mathlib.Core.Path.{refl, sym, ◌∙◌}
 use native.Mathlib.Omega.{arith}
-use Rattle.text_bytes.proofs.Laws.Blocks.{clear_none, clear_more}
-use Rattle.text_bytes.proofs.Laws.Tests.{absurd_bool}
+use lib.Dec.{eqb}
+use Rattle.text_bytes.proofs.Laws.Blocks.{met_more, met_end}
 use Rattle.text_bytes.proofs.in_block.Goals as goal
-use Rattle.text_bytes.proofs.in_block.Goals.{then-s-at, else-s-at}
 
-pub loop-k-init : goal.loop-k-init
-loop-k-init c = (omega arith, λ _. clear_none c.args.b c.args.s.now c.args.at 0 refl)
-
-pub loop-k-preserved : goal.loop-k-preserved
-loop-k-preserved c =
-    elim c.if-s-at.branch [ then-s-at w ↦ (omega arith, λ h. absurd_bool (sym h ∙ w.hit-is)) | else-s-at w ↦ (omega arith, λ h. clear_more c.args.b c.args.s.now c.args.at c.loop-k.k (omega arith) w.if-s-at.false (c.loop-k.invariant.1 (sym w.hit-is ∙ h))) ]
+pub loop-x-preserved : goal.loop-x-preserved
+loop-x-preserved c = c.loop-x.invariant ∙ met_more (λ y. eqb y c.args.b) c.args.block.now c.loop-x.x-index c.loop-x.hit _ (omega (arith, c.loop-x-test.true)) refl
 
 pub returns : goal.returns
-returns c =
-    let z : c.loop-k.k ≡ 16 = omega arith in
-    λ h. rw z at (c.loop-k.invariant.1 h)
+returns c = sym (c.loop-x.invariant ∙ met_end (λ y. eqb y c.args.b) c.args.block.now c.loop-x.x-index c.loop-x.hit (omega (arith, c.loop-x-test.false)))

@@ -1,12 +1,10 @@
--- `text::bytes::in_block` meets its contract. The invariant: unless one was met, b stands in none of the k bytes passed. Assumes nothing.
+-- `text_bytes::in_block` meets its contract. The invariant: the block has one where one was met or what is left has one. Assumes nothing.
 use mathlib.Core.Path.{◌≡◌}
-use mathlib.Core.Bool.{false}
-use Prim.Native.Nat.{◌-◌, ◌≤◌}
-use Rattle.text_bytes.proofs.Laws.Blocks.{Clear}
+use mathlib.Core.Bool.{◌||◌}
+use lib.Dec.{eqb}
+use lib.ListN.{drop}
+use Rattle.text_bytes.specs.Bytes.{any}
 use Rattle.text_bytes.proofs.in_block.Given as goal
 
-abbrev pub invariant-loop-k : goal.invariant-loop-k
-invariant-loop-k l = (l.k ≤ 16) × (l.hit ≡ false → Clear l.b l.s l.at l.k)
-
-abbrev pub decreases-loop-k : goal.decreases-loop-k
-decreases-loop-k l = 16 - l.k
+abbrev pub invariant-loop-x : goal.invariant-loop-x
+invariant-loop-x l = any (λ y. eqb y l.b) l.block ≡ (l.hit || any (λ y. eqb y l.b) (drop l.x-index l.block))

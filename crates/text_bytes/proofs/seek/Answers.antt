@@ -1,5 +1,4 @@
 -- `text::bytes::seek` meets its contract. The invariant of both loops: the first b from `from` on is the first from i on. Assumes nothing.
-use Prim.Native.Nat.{◌-◌}
 use native.Mathlib.Omega.{arith}
 use lib.ListN.{drop, length-drop}
 use Rattle.text_bytes.proofs.Laws.Pieces.{up_to_hit, up_to_miss, up_to_le}

@@ -18,17 +18,10 @@ decreases-outside_scan l = l.end - l.at
 
 abbrev pub invariant-inside_scan-loop-i : goal.invariant-inside_scan-loop-i
 invariant-inside_scan-loop-i l =
-    (l.at ≤ l.i) × (l.i ≤ l.end)
-    × (run l.bars (state l.at l.commas true l.filled) (part l.at l.end l.s) ≡ run l.bars (state l.i l.commas true l.f) (part l.i l.end l.s))
-
-abbrev pub decreases-inside_scan-loop-i : goal.decreases-inside_scan-loop-i
-decreases-inside_scan-loop-i l = l.end - l.i
+    run l.bars (state l.at l.commas true l.filled) (part l.at l.end l.s) ≡ run l.bars (state l.i l.commas true l.f) (part l.i l.end l.s)
 
 abbrev pub invariant-outside_scan-loop-i : goal.invariant-outside_scan-loop-i
 invariant-outside_scan-loop-i l =
-    (l.at ≤ l.i) × (l.i ≤ l.end) × (l.gap ≤ l.i)
+    (l.gap ≤ l.i)
     × (run l.bars (state l.at l.commas false l.filled) (part l.at l.end l.s) ≡ run l.bars (state l.i l.n false (filled_at l.n l.f l.gap l.i)) (part l.i l.end l.s))
     × (eqb l.last 93 ≡ shut l.s l.at l.i)
-
-abbrev pub decreases-outside_scan-loop-i : goal.decreases-outside_scan-loop-i
-decreases-outside_scan-loop-i l = l.end - l.i

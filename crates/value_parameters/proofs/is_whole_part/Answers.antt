@@ -5,8 +5,8 @@ use lib.Dec.{eqb}
 use mathlib.Core.Bool.{and-false}
 use Rattle.value_parameters.proofs.is_whole_part.Goals as goal
 
-pub returns-then-w-wide : goal.returns-then-w-wide
-returns-then-w-wide c = rw (ne_eqb c.args.w.last 93 (λ z. c.if-w-wide.true (z ∙ sym c.wide.ensures)))
+pub returns-then-w-from : goal.returns-then-w-from
+returns-then-w-from c = rw (ne_eqb c.args.w.last 93 (λ z. c.if-w-from.true (z ∙ sym c.from.ensures)))
 
 pub returns-then-w-ne3 : goal.returns-then-w-ne3
 returns-then-w-ne3 c = rw (ne_eqb c.args.w.scan.commas 3 c.if-w-ne3.true, and-false (eqb c.args.w.last 93))
@@ -15,4 +15,4 @@ pub returns-then-w : goal.returns-then-w
 returns-then-w c = rw (c.if-w.true, and-false (eqb c.args.w.scan.commas 3), and-false (eqb c.args.w.last 93))
 
 pub returns : goal.returns
-returns c = rw (c.if-w-wide.false, c.wide.ensures, c.if-w-ne3.false, c.if-w.false)
+returns c = rw (c.if-w-from.false, c.from.ensures, c.if-w-ne3.false, c.if-w.false)

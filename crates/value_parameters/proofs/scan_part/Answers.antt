@@ -12,25 +12,30 @@ use Rattle.value_parameters.specs.Scan.{run}
 use Rattle.value_parameters.specs.declared.Scan.{Scan}
 use Rattle.value_parameters.proofs.scan_part.Goals as goal
 
-pub loop-i-init : goal.loop-i-init
-loop-i-init c =
+pub loop-w-init : goal.loop-w-init
+loop-w-init c =
     let at : c.stands-w.result.scan.at ≡ c.args.at = ap (λ (x : Scan). x.at) c.stands-w.ensures.0 in
-    (at, omega arith, omega arith, ap (λ (x : Scan). run c.args.bars x (drop x.at c.args.s.now)) (sym c.stands-w.ensures.0), λ q. stays c.args.s.now c.args.at c.args.at 0 c.stands-w.result.last c.stands-w.result.scan at c.stands-w.ensures.1 (sym (shut_none c.args.s.now c.args.at)))
+    (omega (arith, at), omega (arith, at), ap (λ (x : Scan). run c.args.bars x (drop x.at c.args.s.now)) (sym c.stands-w.ensures.0), λ q. stays c.args.s.now c.args.at c.args.at 0 c.stands-w.result.last c.stands-w.result.scan at c.stands-w.ensures.1 (sym (shut_none c.args.s.now c.args.at)))
 
 pub returns-then-w-e : goal.returns-then-w-e
 returns-then-w-e c =
-    let shuts = block_shut c.args.bars c.args.s.now c.loop-i.w.scan c.block-w.result.scan c.block_end-e.result (omega arith) (omega arith) c.block-w.ensures.0 c.args.at (eqb c.loop-i.w.last 93) (eqb c.block-w.result.last 93) (omega arith) c.loop-i.invariant.4 c.block-w.ensures.1 in
-    (sym (c.loop-i.invariant.3 ∙ block_stands c.args.bars c.args.s.now c.loop-i.w.scan c.block-w.result.scan c.block_end-e.result (omega arith) (omega arith) c.block-w.ensures.0 c.if-w-e.true), shuts)
+    let shuts = block_shut c.args.bars c.args.s.now c.loop-w.w.scan c.block-w.result.scan c.block_end-e.result (omega arith) (omega arith) c.block-w.ensures.0 c.args.at (eqb c.loop-w.w.last 93) (eqb c.block-w.result.last 93) (omega arith) c.loop-w.invariant.3 c.block-w.ensures.1 in
+    (sym (c.loop-w.invariant.2 ∙ block_stands c.args.bars c.args.s.now c.loop-w.w.scan c.block-w.result.scan c.block_end-e.result (omega arith) (omega arith) c.block-w.ensures.0 c.if-w-e.true), shuts)
 
-pub loop-i-preserved : goal.loop-i-preserved
-loop-i-preserved c =
-    let shuts = block_shut c.args.bars c.args.s.now c.loop-i.w.scan c.block-w.result.scan c.block_end-e.result (omega arith) (omega arith) c.block-w.ensures.0 c.args.at (eqb c.loop-i.w.last 93) (eqb c.block-w.result.last 93) (omega arith) c.loop-i.invariant.4 c.block-w.ensures.1 in (
-      block_end c.args.bars c.args.s.now c.loop-i.w.scan c.block-w.result.scan c.block_end-e.result (omega arith) (omega arith) c.block-w.ensures.0 c.if-w-e.false,
-      omega arith,
-      omega arith,
-      c.loop-i.invariant.3 ∙ block_goes c.args.bars c.args.s.now c.loop-i.w.scan c.block-w.result.scan c.block_end-e.result (omega arith) (omega arith) c.block-w.ensures.0 c.if-w-e.false,
+pub loop-w-smaller : goal.loop-w-smaller
+loop-w-smaller c =
+    let ends = block_end c.args.bars c.args.s.now c.loop-w.w.scan c.block-w.result.scan c.block_end-e.result (omega arith) (omega arith) c.block-w.ensures.0 c.if-w-e.false in
+    omega (arith, ends)
+
+pub loop-w-preserved : goal.loop-w-preserved
+loop-w-preserved c =
+    let ends = block_end c.args.bars c.args.s.now c.loop-w.w.scan c.block-w.result.scan c.block_end-e.result (omega arith) (omega arith) c.block-w.ensures.0 c.if-w-e.false in
+    let shuts = block_shut c.args.bars c.args.s.now c.loop-w.w.scan c.block-w.result.scan c.block_end-e.result (omega arith) (omega arith) c.block-w.ensures.0 c.args.at (eqb c.loop-w.w.last 93) (eqb c.block-w.result.last 93) (omega arith) c.loop-w.invariant.3 c.block-w.ensures.1 in (
+      omega (arith, ends),
+      omega (arith, ends),
+      c.loop-w.invariant.2 ∙ block_goes c.args.bars c.args.s.now c.loop-w.w.scan c.block-w.result.scan c.block_end-e.result (omega arith) (omega arith) c.block-w.ensures.0 c.if-w-e.false,
       shuts,
     )
 
 pub returns : goal.returns
-returns c = (sym (c.loop-i.invariant.3 ∙ run_done c.args.bars c.args.s.now c.loop-i.w.scan (omega arith)), c.loop-i.invariant.4)
+returns c = (sym (c.loop-w.invariant.2 ∙ run_done c.args.bars c.args.s.now c.loop-w.w.scan (omega arith)), c.loop-w.invariant.3)

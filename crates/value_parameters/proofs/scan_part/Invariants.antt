@@ -9,9 +9,9 @@ use lib.ListN.{length, drop}
 use Rattle.value_parameters.specs.Scan.{start, run}
 use Rattle.value_parameters.proofs.scan_part.Given as goal
 
-abbrev pub invariant-loop-i : goal.invariant-loop-i
-invariant-loop-i l = (l.w.scan.at ≡ l.i) × (l.at ≤ l.i) × (l.i ≤ length l.s) × (run l.bars (start l.at) (drop l.at l.s) ≡ run l.bars l.w.scan (drop l.w.scan.at l.s))
+abbrev pub invariant-loop-w : goal.invariant-loop-w
+invariant-loop-w l = (l.at ≤ l.w.scan.at) × (l.w.scan.at ≤ length l.s) × (run l.bars (start l.at) (drop l.at l.s) ≡ run l.bars l.w.scan (drop l.w.scan.at l.s))
     × (l.w.scan.quoted ≡ false → eqb l.w.last 93 ≡ shut l.s l.at l.w.scan.at)
 
-abbrev pub decreases-loop-i : goal.decreases-loop-i
-decreases-loop-i l = length l.s - l.i
+abbrev pub decreases-loop-w : goal.decreases-loop-w
+decreases-loop-w l = length l.s - l.w.scan.at

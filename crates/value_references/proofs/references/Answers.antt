@@ -22,17 +22,17 @@ mark-requires c =
 pub returns-then-e-s : goal.returns-then-e-s
 returns-then-e-s c =
     told_last c.loop-flaw.invariant.1 c.seek-e.ensures c.read_reference-found.result c.read_reference-found.ensures c.index_in.result c.index_in.ensures _ _ _
-    (c.both-like.ensures ∙ ap (λ (t : Bool). c.loop-flaw.like && t) c.is_read.ensures)
+    (ap (λ (t : Bool). c.loop-flaw.like && t) c.is_read-like.ensures)
     (c.sooner-flaw.ensures ∙ ap (sooner c.loop-flaw.flaw) c.flaw_in.ensures)
     c.mark.ensures c.if-e-s.true _ _
-    (c.both.ensures ∙ ap (λ (t : Bool). c.both-like.result && t) c.is_form.ensures)
+    (ap (λ (t : Bool). (c.loop-flaw.like && c.is_read-like.result) && t) c.is_form.ensures)
     c.flaw_where.ensures
 
 pub loop-flaw-preserved : goal.loop-flaw-preserved
 loop-flaw-preserved c = (
   omega arith,
   told_next c.loop-flaw.invariant.1 c.seek-e.ensures c.read_reference-found.result c.read_reference-found.ensures c.index_in.result c.index_in.ensures _ _ _
-      (c.both-like.ensures ∙ ap (λ (t : Bool). c.loop-flaw.like && t) c.is_read.ensures)
+      (ap (λ (t : Bool). c.loop-flaw.like && t) c.is_read-like.ensures)
       (c.sooner-flaw.ensures ∙ ap (sooner c.loop-flaw.flaw) c.flaw_in.ensures)
       c.mark.ensures c.skip_spaces-at.result (omega arith) c.skip_spaces-at.ensures.2,
 )

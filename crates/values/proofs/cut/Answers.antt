@@ -1,6 +1,6 @@
 -- `values::cut` meets its contract: the digits, a dot and the digits after it are found from left to right, and with what ends them they make a numeral or none. Assumes nothing.
 use Prim.Native.Nat.{◌≤◌, ◌<◌}
-use mathlib.Core.Path.{◌≡◌, sym, ◌∙◌}
+use mathlib.Core.Path.{◌≡◌, refl, sym, ◌∙◌}
 use native.Mathlib.Omega.{arith}
 use lib.ListN.{length, get_or}
 use Rattle.value_references.proofs.Laws.Indices.{present}
@@ -18,7 +18,7 @@ slice_bounds-is_exponent-start c =
     omega (arith, whole_ends)
 
 pub returns-then-byte_at-ne-DOT : goal.returns-then-byte_at-ne-DOT
-returns-then-byte_at-ne-DOT c = cut_plain c.args.u.now c.digits_end-whole.ensures (λ e. c.if-byte_at-ne-DOT.true (c.byte_at.ensures ∙ e)) _ _ c.is_exponent.ensures c.both-good.ensures
+returns-then-byte_at-ne-DOT c = cut_plain c.args.u.now c.digits_end-whole.ensures (λ e. c.if-byte_at-ne-DOT.true (c.byte_at.ensures ∙ e)) _ _ c.is_exponent.ensures refl
 
 pub overflow_add-from : goal.overflow_add-from
 overflow_add-from c =
@@ -49,4 +49,4 @@ slice_bounds-is_exponent-start-2 c =
 pub returns : goal.returns
 returns c =
     let dot_stands : get_or c.args.u.now c.digits_end-whole.result 0 ≡ 46 = sym c.byte_at.ensures ∙ c.if-byte_at-ne-DOT.false in
-    cut_dotted c.args.u.now c.digits_end-whole.ensures dot_stands c.digits_end-to.ensures _ _ _ c.both-sides.ensures c.is_exponent-2.ensures c.both-good-2.ensures
+    cut_dotted c.args.u.now c.digits_end-whole.ensures dot_stands c.digits_end-to.ensures _ _ _ refl c.is_exponent-2.ensures refl

@@ -1,6 +1,6 @@
 -- `text::lines::next_opening` meets its contract: blocks are passed over, then byte by byte up to the first LF before b. Assumes nothing.
 use mathlib.Core.Path.{subst⁻¹}
-use Prim.Native.Nat.{ℕ, ◌+◌, ◌-◌, ◌<◌}
+use Prim.Native.Nat.{ℕ, ◌+◌, ◌<◌}
 use native.Mathlib.Omega.{arith}
 use lib.ListN.{length}
 use Rattle.text.specs.Openings.{Passes}
@@ -10,9 +10,6 @@ use Rattle.text.proofs.lines.next_opening.Goals.{then-file-at-eq-LF+else-file-at
 
 pub loop-at-init : goal.loop-at-init
 loop-at-init c = c.pass_lines-passed.ensures
-
-pub overflow_sub-file : goal.overflow_sub-file
-overflow_sub-file c = omega (arith, c.loop-at.invariant.within)
 
 pub bounds-file-at : goal.bounds-file-at
 bounds-file-at c = omega (arith, c.loop-at.invariant.within)
@@ -46,16 +43,6 @@ pub overflow_add-n : goal.overflow_add-n
 overflow_add-n c =
     let few : c.loop-at.n + 1 < 4294967296 = omega (arith, c.loop-at.invariant.few, c.loop-at.invariant.within, c.requires) in
     omega (arith, few)
-
-pub overflow_add-at-in-loop-at : goal.overflow_add-at-in-loop-at
-overflow_add-at-in-loop-at c =
-    let follows : c.loop-at.at + 1 < length c.args.file.now = omega (arith, c.loop-at.invariant.within, c.loop-at-test.true) in
-    omega (arith, follows, c.requires)
-
-pub loop-at-smaller : goal.loop-at-smaller
-loop-at-smaller c =
-    let follows : c.loop-at.at + 1 < length c.args.file.now = omega (arith, c.loop-at.invariant.within, c.loop-at-test.true) in
-    omega (arith, follows)
 
 pub loop-at-preserved : goal.loop-at-preserved
 loop-at-preserved c =

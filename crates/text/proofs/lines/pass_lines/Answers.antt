@@ -1,5 +1,4 @@
 -- `text::lines::pass_lines` meets its contract: block by block, what was passed so far. Assumes nothing.
-use Prim.Native.Nat.{◌-◌}
 use native.Mathlib.Omega.{arith}
 use Rattle.text.proofs.Laws.Openings.{passes_none, passes_block}
 use Rattle.text.proofs.lines.pass_lines.Goals as goal
@@ -29,7 +28,7 @@ pub loop-at-smaller : goal.loop-at-smaller
 loop-at-smaller c = omega (arith, c.loop-at.invariant.within, c.loop-at-test.true)
 
 pub loop-at-preserved : goal.loop-at-preserved
-loop-at-preserved c = passes_block c.loop-at.invariant c.ends_in-ends.result (omega (arith, c.loop-at.invariant.within, c.loop-at-test.true)) c.ends_in-ends.ensures.0 (c.ends_in-ends.ensures.1 _ (c.opens_in.ensures c.if-opens_in.false))
+loop-at-preserved c = rw c.from-n.ensures (passes_block c.loop-at.invariant c.ends_in-ends.result (omega (arith, c.loop-at.invariant.within, c.loop-at-test.true)) c.ends_in-ends.ensures.0 (c.ends_in-ends.ensures.1 _ (c.opens_in.ensures c.if-opens_in.false)))
 
 pub returns : goal.returns
 returns c = c.loop-at.invariant

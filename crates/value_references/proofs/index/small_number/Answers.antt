@@ -23,8 +23,8 @@ overflow_sub-first c =
     let text : List ℕ = c.args.s.now in
     let end : ℕ = c.args.end in
     let run : Run text end = c.requires in
-    let first : (48 ≤ c.wide-first.result) × (c.wide-first.result ≤ 57) × (c.wide-first.result ≡ get_or text 1 0) = let r = run_first text end run in
-    (omega (arith, r.1, c.wide-first.ensures), omega (arith, r.2, c.wide-first.ensures), c.wide-first.ensures) in
+    let first : (48 ≤ c.from-first.result) × (c.from-first.result ≤ 57) × (c.from-first.result ≡ get_or text 1 0) = let r = run_first text end run in
+    (omega (arith, r.1, c.from-first.ensures), omega (arith, r.2, c.from-first.ensures), c.from-first.ensures) in
     omega (arith, first.0)
 
 pub returns-then-end-lt-LATEST : goal.returns-then-end-lt-LATEST
@@ -32,8 +32,8 @@ returns-then-end-lt-LATEST c =
     let text : List ℕ = c.args.s.now in
     let end : ℕ = c.args.end in
     let run : Run text end = c.requires in
-    let first : (48 ≤ c.wide-first.result) × (c.wide-first.result ≤ 57) × (c.wide-first.result ≡ get_or text 1 0) = let r = run_first text end run in
-    (omega (arith, r.1, c.wide-first.ensures), omega (arith, r.2, c.wide-first.ensures), c.wide-first.ensures) in
+    let first : (48 ≤ c.from-first.result) × (c.from-first.result ≤ 57) × (c.from-first.result ≡ get_or text 1 0) = let r = run_first text end run in
+    (omega (arith, r.1, c.from-first.ensures), omega (arith, r.2, c.from-first.ensures), c.from-first.ensures) in
     let n = run_one text end run c.if-end-lt-LATEST.true in
     ((λ h. omega (arith, n, first.2)), (λ h. omega (arith, n, h, first.2)))
 
@@ -42,8 +42,8 @@ overflow_mul-result c =
     let text : List ℕ = c.args.s.now in
     let end : ℕ = c.args.end in
     let run : Run text end = c.requires in
-    let first : (48 ≤ c.wide-first.result) × (c.wide-first.result ≤ 57) × (c.wide-first.result ≡ get_or text 1 0) = let r = run_first text end run in
-    (omega (arith, r.1, c.wide-first.ensures), omega (arith, r.2, c.wide-first.ensures), c.wide-first.ensures) in
+    let first : (48 ≤ c.from-first.result) × (c.from-first.result ≤ 57) × (c.from-first.result ≡ get_or text 1 0) = let r = run_first text end run in
+    (omega (arith, r.1, c.from-first.ensures), omega (arith, r.2, c.from-first.ensures), c.from-first.ensures) in
     omega (arith, first.1)
 
 pub bounds-s-2 : goal.bounds-s-2
@@ -58,8 +58,8 @@ overflow_sub-result c =
     let text : List ℕ = c.args.s.now in
     let end : ℕ = c.args.end in
     let run : Run text end = c.requires in
-    let second : (48 ≤ c.wide.result) × (c.wide.result ≤ 57) × (c.wide.result ≡ get_or text 2 0) = let r = run_second text end run c.if-end-lt-LATEST.false in
-    (omega (arith, r.1, c.wide.ensures), omega (arith, r.2, c.wide.ensures), c.wide.ensures) in
+    let second : (48 ≤ c.from.result) × (c.from.result ≤ 57) × (c.from.result ≡ get_or text 2 0) = let r = run_second text end run c.if-end-lt-LATEST.false in
+    (omega (arith, r.1, c.from.ensures), omega (arith, r.2, c.from.ensures), c.from.ensures) in
     omega (arith, second.0)
 
 pub overflow_add-result-2 : goal.overflow_add-result-2
@@ -67,10 +67,10 @@ overflow_add-result-2 c =
     let text : List ℕ = c.args.s.now in
     let end : ℕ = c.args.end in
     let run : Run text end = c.requires in
-    let first : (48 ≤ c.wide-first.result) × (c.wide-first.result ≤ 57) × (c.wide-first.result ≡ get_or text 1 0) = let r = run_first text end run in
-    (omega (arith, r.1, c.wide-first.ensures), omega (arith, r.2, c.wide-first.ensures), c.wide-first.ensures) in
-    let second : (48 ≤ c.wide.result) × (c.wide.result ≤ 57) × (c.wide.result ≡ get_or text 2 0) = let r = run_second text end run c.if-end-lt-LATEST.false in
-    (omega (arith, r.1, c.wide.ensures), omega (arith, r.2, c.wide.ensures), c.wide.ensures) in
+    let first : (48 ≤ c.from-first.result) × (c.from-first.result ≤ 57) × (c.from-first.result ≡ get_or text 1 0) = let r = run_first text end run in
+    (omega (arith, r.1, c.from-first.ensures), omega (arith, r.2, c.from-first.ensures), c.from-first.ensures) in
+    let second : (48 ≤ c.from.result) × (c.from.result ≤ 57) × (c.from.result ≡ get_or text 2 0) = let r = run_second text end run c.if-end-lt-LATEST.false in
+    (omega (arith, r.1, c.from.ensures), omega (arith, r.2, c.from.ensures), c.from.ensures) in
     omega (arith, first.1, second.1)
 
 pub returns : goal.returns
@@ -78,9 +78,9 @@ returns c =
     let text : List ℕ = c.args.s.now in
     let end : ℕ = c.args.end in
     let run : Run text end = c.requires in
-    let first : (48 ≤ c.wide-first.result) × (c.wide-first.result ≤ 57) × (c.wide-first.result ≡ get_or text 1 0) = let r = run_first text end run in
-    (omega (arith, r.1, c.wide-first.ensures), omega (arith, r.2, c.wide-first.ensures), c.wide-first.ensures) in
-    let second : (48 ≤ c.wide.result) × (c.wide.result ≤ 57) × (c.wide.result ≡ get_or text 2 0) = let r = run_second text end run c.if-end-lt-LATEST.false in
-    (omega (arith, r.1, c.wide.ensures), omega (arith, r.2, c.wide.ensures), c.wide.ensures) in
+    let first : (48 ≤ c.from-first.result) × (c.from-first.result ≤ 57) × (c.from-first.result ≡ get_or text 1 0) = let r = run_first text end run in
+    (omega (arith, r.1, c.from-first.ensures), omega (arith, r.2, c.from-first.ensures), c.from-first.ensures) in
+    let second : (48 ≤ c.from.result) × (c.from.result ≤ 57) × (c.from.result ≡ get_or text 2 0) = let r = run_second text end run c.if-end-lt-LATEST.false in
+    (omega (arith, r.1, c.from.ensures), omega (arith, r.2, c.from.ensures), c.from.ensures) in
     let n = run_two text end run c.if-end-lt-LATEST.false c.if-end-gt-LATEST.false in
     ((λ h. omega (arith, n, first.2, second.2)), (λ h. omega (arith, n, h, first.2, second.2)))
