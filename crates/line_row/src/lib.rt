@@ -28,8 +28,7 @@ fn row_cell(places: &mut [u32], count: u32, cell: &[u8], c: u32, tag: Tag, kind:
     put_if(places, k2, !empty & !good, 20, tag.line, c)
 }
 
-// The cells of a row from cell 2 on, which begins at `from`: the kind of cell c stands at place c - 1, and a cell is left for each turn, as there are no more
-// than kinds.
+// The cells of a row from cell 2 on, which begins at `from`. Cell i + 1 has the kind at place i, and there are no more cells than kinds.
 fn row_cells(
     places: &mut [u32],
     count: u32,
