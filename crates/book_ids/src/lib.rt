@@ -37,13 +37,11 @@ pub fn id_of(name: &[u8]) -> Id
     ensures { result ≡ id_of name.now }
 {
     let all = words();
-    let mut f = 0;
-    while f < FAMILIES {
+    for f in 0..FAMILIES {
         let i = index_after(word(&all, f), name);
         if i != 0 {
             return Id::Of(f, i);
         }
-        f += 1;
     }
     Id::Nothing
 }
@@ -102,12 +100,5 @@ pub fn any_marked(slots: &[bool], from: usize, to: usize) -> bool
     requires { (from ≤ to) × (to ≤ length slots.now) }
     ensures { result ≡ is_marked slots.now from to }
 {
-    let mut i = from;
-    while i < to {
-        if slots[i] {
-            return true;
-        }
-        i += 1;
-    }
-    false
+    slots[from..to].contains(&true)
 }
