@@ -1,6 +1,6 @@
 -- Worked examples of a file's facts, computed. Assumes nothing.
 use Rattle.std.specs.Prelude.{◌≡◌, refl}
-use Rattle.text_bytes.specs.Bytes.{bytes, same, begins, on_first, split_on}
+use Rattle.text_bytes.specs.Bytes.{bytes, same, on_first, split_on}
 use Rattle.text.specs.Lines.{starts_lf, lines, coded, cell, is_field}
 use Rattle.book_kinds.specs.Kinds.{is_fixed, of_kind}
 use Rattle.book_facts.specs.Facts.{earliest, mode_of, type_of, version_of}

@@ -1,5 +1,5 @@
 -- Facts of a file: its mode and its type, which decide what is demanded of it, and its version line. Assumes nothing.
-use Rattle.std.specs.Prelude.{ℕ, ◌+◌, ◌≡◌, Bool, cond, ◌&&◌, List, [], ◌∷◌, eqb, get_or}
+use Rattle.std.specs.Prelude.{ℕ, ◌+◌, ◌≡◌, cond, ◌&&◌, List, [], ◌∷◌, eqb, get_or}
 use Prim.Native.String.{String}
 use Rattle.text_bytes.specs.Bytes.{Bytes, bytes, same}
 use Rattle.text.specs.Lines.{cell, is_field}

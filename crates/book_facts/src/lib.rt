@@ -8,14 +8,14 @@ ghost use Rattle.book.specs.Text.{book_in, IsBook};
 ghost use Rattle.book.specs.Letters.{NONE};
 ghost use Rattle.book_kinds.specs.Kinds.{of_kind};
 ghost use Rattle.book_ids.specs.Ids.{Flags, line_id, marked, Declared};
-ghost use Rattle.book_facts.specs.Facts.{earlier, noted, noted_field, FactsOf};
+ghost use Rattle.book_facts.specs.Facts.{noted, noted_field, FactsOf};
 ghost use Rattle.book_facts.specs.Asked.{asks, asking_by};
 
 use book_ids::{any_marked, mark_line};
 use book_kinds::of_kind;
 use text::cells::{count_cells, has_code, nth_cell};
 use text::lines::{line_at, next_opening};
-use text_bytes::{begins_with, both, either, same_bytes};
+use text_bytes::{begins_with, same_bytes};
 use value_references::{FAMILIES, INDICES};
 
 // The first valid mode, C or S, the first valid type, I or Q, and the number of the first version line; 0 where there is none.
@@ -40,31 +40,21 @@ const ASSAYS: usize = 1;
 // The first byte of a metadata line.
 const FIRST: u8 = b'M';
 
-// The first of two letters, where 0 is none.
-fn earlier_letter(a: u8, b: u8) -> u8
-    ensures { result ≡ earlier a b }
+// The first of two letters or of two numbers of lines, of which one stands for none.
+fn earlier<T: Copy + PartialEq>(a: T, b: T, none: T) -> T
+    ensures { result ≡ cond (T.eq a none) b a }
 {
-    if a == 0 { b } else { a }
-}
-
-// The first of two numbers of lines, where 0 is none.
-fn earlier_line(a: u32, b: u32) -> u32
-    ensures { result ≡ earlier a b }
-{
-    if a == 0 { b } else { a }
+    if a == none { b } else { a }
 }
 
 // The first letter of a value of the kind, where the key is the one that is sought; 0 where it is not.
 fn letter_in(kind: u8, sought: &[u8], key: &[u8], value: &[u8]) -> u8
     ensures { result ≡ cond (same key.now sought.now && of_kind kind NONE value.now) (get_or value.now 0 0) 0 }
 {
-    if !same_bytes(key, sought) {
+    if !(same_bytes(key, sought) && of_kind(kind, b'-', value)) {
         return 0;
     }
-    if !of_kind(kind, b'-', value) {
-        return 0;
-    }
-    if 0 < value.len() { value[0] } else { 0 }
+    value.first().copied().unwrap_or(0)
 }
 
 // The number of a line with the key that is sought; 0 where it is not.
@@ -82,9 +72,9 @@ fn note_field(facts: Facts, key: &[u8], value: &[u8], n: u32) -> Facts
     let typed = letter_in(b't', b"mzTab-type", key, value);
     let version = line_with(b"mzTab-version", key, n);
     Facts {
-        mode: earlier_letter(facts.mode, mode),
-        typed: earlier_letter(facts.typed, typed),
-        version: earlier_line(facts.version, version),
+        mode: earlier(facts.mode, mode, 0),
+        typed: earlier(facts.typed, typed, 0),
+        version: earlier(facts.version, version, 0),
     }
 }
 
@@ -148,6 +138,7 @@ pub fn survey(flags: &mut [[bool; INDICES]; FAMILIES], book: &[u8], file: &[u8])
     };
     let mut at = 0;
     let mut n: u32 = 0;
+    // Kept: a turn takes a line, or passes all lines up to the next metadata line at once, so that no range has its places.
     while at < file.len() {
         if file[at] == FIRST {
             let line = line_at(file, at);
@@ -189,10 +180,7 @@ pub fn is_asked(asked: u8, asking: Asking) -> bool
     if asked == b'*' {
         return true;
     }
-    if mode == 0 {
-        return false;
-    }
-    if typed == 0 {
+    if mode == 0 || typed == 0 {
         return false;
     }
     let complete = mode == b'C';
@@ -201,8 +189,8 @@ pub fn is_asked(asked: u8, asking: Asking) -> bool
         b'+' => true,
         b'C' => complete,
         b'q' => quantified,
-        b'Q' => both(quantified, complete),
-        b'A' => both(quantified, either(complete, asking.assay)),
+        b'Q' => quantified & complete,
+        b'A' => quantified & (complete | asking.assay),
         _ => false,
     }
 }

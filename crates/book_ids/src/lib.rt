@@ -36,8 +36,7 @@ pub fn id_of(name: &[u8]) -> Option<Id>
     ensures { result ≡ id_of name.now }
 {
     let all = words();
-    let mut f = 0;
-    while f < FAMILIES {
+    for f in 0..FAMILIES {
         let i = index_after(word(&all, f), name);
         if i != 0 {
             return Some(Id {
@@ -45,7 +44,6 @@ pub fn id_of(name: &[u8]) -> Option<Id>
                 index: i,
             });
         }
-        f += 1;
     }
     None
 }
@@ -98,12 +96,5 @@ pub fn any_marked(slots: &[bool], from: usize, to: usize) -> bool
     requires { (from ≤ to) × (to ≤ length slots.now) }
     ensures { result ≡ is_marked slots.now from to }
 {
-    let mut i = from;
-    while i < to {
-        if slots[i] {
-            return true;
-        }
-        i += 1;
-    }
-    false
+    slots[from..to].contains(&true)
 }

@@ -43,33 +43,26 @@ pub fn references_to(family: u8, s: &[u8]) -> Named
 }
 
 // Whether the value is text and not `null`.
+#[tactic(auto, unfolding(crate::specs::Kinds::is_kept))]
 fn is_kept(s: &[u8]) -> bool
     ensures { result ≡ is_kept s.now }
 {
-    if is_null(s) {
-        return false;
-    }
-    is_text(s)
+    !is_null(s) && is_text(s)
 }
 
 // Whether the value is one of two.
 fn is_either(s: &[u8], a: &[u8], b: &[u8]) -> bool
     ensures { result ≡ (same s.now a.now || same s.now b.now) }
 {
-    if same_bytes(s, a) {
-        return true;
-    }
-    same_bytes(s, b)
+    same_bytes(s, a) || same_bytes(s, b)
 }
 
 // Whether the value is a reliability of sections 1 to 3.
+#[tactic(auto, unfolding(crate::specs::Kinds::is_fixed, text_bytes::specs::Bytes::bytes))]
 fn is_reliability(s: &[u8]) -> bool
     ensures { result ≡ is_fixed 82 s.now }
 {
-    if is_either(s, b"1", b"2") {
-        return true;
-    }
-    same_bytes(s, b"3")
+    is_either(s, b"1", b"2") || same_bytes(s, b"3")
 }
 
 // Whether the value is of the kind. A letter that stands for no kind is that of text.

@@ -54,10 +54,7 @@ pub fn kind_in(found: Found) -> u8
 fn last_index(i: usize, j: usize) -> usize
     ensures { result ≡ last_index i j }
 {
-    if j == 0 {
-        return i;
-    }
-    j
+    if j == 0 { i } else { j }
 }
 
 // Whether a known column names an assay, study variable or run that the file does not declare (15).

@@ -29,12 +29,10 @@ pub fn learn_kinds(
         return;
     }
     let mut end = cell_end(line, 0);
-    let mut c: usize = 1;
-    while end < line.len() {
+    for c in 1..width {
         let at = end + 1;
         end = cell_end(line, at);
         let found = column(book, section as usize, &line[at..end]);
         kinds[c] = kind_in(found);
-        c += 1;
     }
 }

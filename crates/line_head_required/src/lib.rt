@@ -13,7 +13,7 @@ ghost use Rattle.line_head_required.specs.Wanted.{is_line};
 use book::directory::wanted_at;
 use book_facts::{Asking, is_asked};
 use text::cells::cell_end;
-use text_bytes::{same_bytes, wide};
+use text_bytes::same_bytes;
 
 // A header of 256 cells has so many names.
 const NAMES: usize = 255;
@@ -27,8 +27,7 @@ fn named_before(line: &[u8], from: usize, count: usize, name: &[u8]) -> bool
     ensures { result ≡ any (same name.now) (take count (cells (drop from line.now))) }
 {
     let mut at = from;
-    let mut left = count;
-    while 0 < left {
+    for _ in 0..count {
         let e = cell_end(line, at);
         if same_bytes(name, &line[at..e]) {
             return true;
@@ -37,7 +36,6 @@ fn named_before(line: &[u8], from: usize, count: usize, name: &[u8]) -> bool
             return false;
         }
         at = e + 1;
-        left -= 1;
     }
     false
 }
@@ -81,7 +79,7 @@ pub fn lacks(book: &[u8], line: &[u8], from: usize, section: u32, asking: Asking
     requires line_len_bound { length (cells (drop from line.now)) ≤ 255 }
     ensures { result ≡ lacks_column (book_in book.now) (asked_by asking) section (cells (drop from line.now)) }
 {
-    let k = section as usize - wide(book[0]) + 1;
+    let k = section as usize - usize::from(book[0]) + 1;
     let at = wanted_at(book, k);
     let end = wanted_at(book, k + 1);
     lacks_any(line, from, &book[at..end], asking)

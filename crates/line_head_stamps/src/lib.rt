@@ -10,8 +10,6 @@ ghost use Rattle.text.specs.Lines.{LIMIT};
 ghost use Rattle.line_head_stamps.specs.Stamps.{ROOM as room, SAME as same, IsDoor, BRANCHES as branches, hash_of, byte_code, side_of, covered, entered, forked};
 ghost use Rattle.line_head_stamps.specs.Ways.{PartsAt, Guessed, Astray, Doors, Goes, FindsDoor, Noted, Adds};
 
-use text_bytes::{both, wide};
-
 // The list that is lent has so many places: the stamps, and from the places below on their doors, the doors of each fork, what each fork asks, where each
 // name begins and ends, and the guess of each fork.
 pub const ROOM: usize = 13312;
@@ -51,49 +49,33 @@ const NAMES: u32 = 2;
 // What no fork asks.
 const SAME: u32 = 4294967295;
 
-// A number of the list as an index.
-fn index(x: u32) -> usize
-    ensures { result ≡ x }
-{
-    x as usize
-}
-
 // The place of a name's stamp.
 fn hash(name: &[u8]) -> usize
     ensures { result ≡ hash_of name.now }
 {
     let mut h = 0;
-    let mut i = 0;
-    while i < name.len() {
-        h = (h * 33 + wide(name[i])) % BITS;
-        i += 1;
+    for x in name {
+        h = (h * 33 + usize::from(*x)) % BITS;
     }
     h % STAMPS
 }
 
-// A byte and one more.
-fn code(x: u8) -> u32
-    ensures { (result ≡ x + 1) × (result ≤ 256) }
-{
-    (x as u32) + 1
-}
-
-// The code of the byte at a place; 0 past the end.
+// The code of the byte at a place, the byte and one more; 0 past the end.
 fn code_at(name: &[u8], place: usize) -> u32
     ensures { (result ≡ byte_code name.now place) × (result ≤ 256) }
 {
-    if place < name.len() {
-        return code(name[place]);
+    match name.get(place) {
+        Some(x) => u32::from(*x) + 1,
+        None => 0,
     }
-    0
 }
 
 // The four bits of the name that a fork asks for: its side there.
 fn side(name: &[u8], ask: u32) -> usize
     ensures { result ≡ side_of ask name.now }
 {
-    let held = code_at(name, index(ask / 16));
-    index((held >> (ask % 16)) % 16)
+    let held = code_at(name, (ask / 16) as usize);
+    ((held >> (ask % 16)) % 16) as usize
 }
 
 // Whether a stamp is of this line, and what its door holds is a number of one of the first `count` names. Else an earlier header left them behind.
@@ -101,13 +83,7 @@ fn is_live(stamp: u32, line_no: u32, held: u32, count: u32) -> bool
     ensures stamp_value { result ≡ true → (stamp ≡ line_no) × IsDoor count held }
     ensures fact { result ≡ false → stamp ≡ line_no → IsDoor count held → ⊥ }
 {
-    if stamp != line_no {
-        return false;
-    }
-    if HELD <= held {
-        return false;
-    }
-    held % FORK < count
+    stamp == line_no && held < HELD && held % FORK < count
 }
 
 // A door on the way of the name, from one on: the way ends there, or four forks are passed. Most ways are no longer, and of these no guess is made: a wrong one
@@ -120,15 +96,13 @@ fn nearby(stamps: &[u32], count: u32, from: usize, name: &[u8]) -> usize
     ensures { Goes stamps.now count name.now from result }
 {
     let mut door = from;
-    let mut passed = 0;
-    while passed < NEAR {
+    for _ in 0..NEAR {
         let held = stamps[door];
         if held < FORK {
             return door;
         }
-        let fork = index(held - FORK);
+        let fork = (held - FORK) as usize;
         door = BRANCHES + SIDES * fork + side(name, stamps[ASKS + fork]);
-        passed += 1;
     }
     door
 }
@@ -145,7 +119,7 @@ fn further(stamps: &mut [u32], count: u32, from: usize, name: &[u8]) -> usize
 {
     let mut held = stamps[from];
     loop {
-        let fork = index(held - FORK);
+        let fork = (held - FORK) as usize;
         let guess = stamps[GUESSES + fork];
         let door = BRANCHES + SIDES * fork + side(name, stamps[ASKS + fork]);
         let there = stamps[door];
@@ -183,17 +157,12 @@ fn last_door(stamps: &mut [u32], line_no: u32, count: u32, h: usize, name: &[u8]
 fn first_difference(a: &[u8], b: &[u8]) -> usize
     ensures { PartsAt a.now b.now result }
 {
-    let mut i = 0;
-    while i < a.len() {
-        if b.len() <= i {
+    for (i, x) in a.iter().enumerate() {
+        if b.get(i) != Some(x) {
             return i;
         }
-        if a[i] != b[i] {
-            return i;
-        }
-        i += 1;
     }
-    i
+    a.len()
 }
 
 // Where the lowest four bits begin in which two codes differ; the highest where they are the same.
@@ -217,7 +186,7 @@ fn question(a: &[u8], b: &[u8]) -> u32
     ensures fact { (result ≡ same → ⊥) → side_of result a.now ≡ side_of result b.now → ⊥ }
 {
     let place = first_difference(a, b);
-    if both(place == a.len(), place == b.len()) {
+    if (place == a.len()) & (place == b.len()) {
         return SAME;
     }
     let shift = differing_bits(code_at(a, place), code_at(b, place));
@@ -230,11 +199,8 @@ fn fill_doors(stamps: &mut [u32], count: usize)
     requires count_bound { count ≤ 254 }
     ensures { stamps.new ≡ covered stamps.old (branches + 16 * count) 16 count }
 {
-    let mut k = 0;
-    while k < SIDES {
-        stamps[BRANCHES + SIDES * count + k] = count as u32;
-        k += 1;
-    }
+    let from = BRANCHES + SIDES * count;
+    stamps[from..from + SIDES].fill(count as u32);
 }
 
 // Name number `count` begins at `at` and ends before `end`. All doors of its fork hold it.
@@ -297,9 +263,9 @@ pub fn came_before(
         return 0;
     }
     let held = stamps[door];
-    let k = index(held);
-    let start = index(stamps[STARTS + k]);
-    let stop = index(stamps[ENDS + k]);
+    let k = held as usize;
+    let start = stamps[STARTS + k] as usize;
+    let stop = stamps[ENDS + k] as usize;
     let other = &line[start..stop];
     let ask = question(name, other);
     let astray = is_astray(stamps, door, other);

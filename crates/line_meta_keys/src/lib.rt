@@ -31,19 +31,12 @@ pub struct Judgement {
     pub value: u32,
 }
 
-// An index counted from 0; 0 for none too.
-fn from_zero(i: usize) -> usize
-    ensures { result ≡ i - 1 }
-{
-    if i == 0 { 0 } else { i - 1 }
-}
-
 // Which of its pattern's names has these indices, 0 for none.
 fn place_among(i: usize, j: usize) -> usize
     requires { among i j < SLOTS }
     ensures { result ≡ among i j }
 {
-    let first = from_zero(i);
+    let first = i.saturating_sub(1);
     if j == 0 {
         return first;
     }
@@ -65,10 +58,7 @@ fn slot_of(book: &[u8], entry: usize, i: usize, j: usize) -> usize
 fn first_of(key: &[u8], line: u32) -> u32
     ensures { result ≡ cond (is_colunit key.now) 0 line }
 {
-    if is_colunit(key) {
-        return 0;
-    }
-    line
+    if is_colunit(key) { 0 } else { line }
 }
 
 // The judgement of a key that the book answers so, and of its value. An unknown key stops all else; a `colunit` one may come again. The slots have the lines of

@@ -8,7 +8,6 @@ ghost use Rattle.scan.specs.Machine.{ids_of, kind_rule};
 
 use book_kinds::{family_number, of_kind, reference_to, references_to};
 use scan::broken::{flaw_rule, rule_if};
-use text_bytes::both;
 use value_references::index::{flaw_in, index_in};
 use value_references::{FAMILIES, INDICES};
 
@@ -50,17 +49,13 @@ fn judge_references(flags: &[[bool; INDICES]; FAMILIES], family: u8, value: &[u8
 {
     let told = references_to(family, value);
     if !told.good {
-        let flaw = told.flaw;
-        return flaw_rule(flaw, WRONG);
+        return flaw_rule(told.flaw, WRONG);
     }
     let number = family_number(family);
-    let named = told.named;
-    let mut i = 1;
-    while i <= INDICES {
-        if both(named[i - 1], !is_declared(flags, number, i)) {
+    for (i, named) in told.named.iter().enumerate() {
+        if *named & !is_declared(flags, number, i + 1) {
             return UNDECLARED;
         }
-        i += 1;
     }
     0
 }

@@ -44,7 +44,7 @@ pub fn sort_of(book: &[u8], line: &[u8]) -> Sort
     requires { HasDirectory book.now }
     ensures { result ≡ sort_of (book_in book.now) line.now }
 {
-    if line.len() == 0 {
+    if line.is_empty() {
         return Sort::Silent;
     }
     let e = cell_end(line, 0);

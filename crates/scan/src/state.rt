@@ -1,5 +1,5 @@
 // What is carried from line to line: the state that stands for the lines above.
-ghost use Rattle.std.specs.Prelude.{◌≡◌, true, cond, ◌<◌, ltb};
+ghost use Rattle.std.specs.Prelude.{◌≡◌, true, ◌<◌};
 ghost use Rattle.text_bytes.specs.Bytes.{first_kept};
 ghost use Rattle.book.specs.Book.{SECTIONS as limit};
 ghost use Rattle.scan.specs.Machine.{header_slot};
@@ -45,13 +45,6 @@ pub fn start(asking: Asking) -> State
     }
 }
 
-// The higher of two numbers.
-fn higher(a: u32, b: u32) -> u32
-    ensures { result ≡ cond (ltb a b) b a }
-{
-    if a < b { b } else { a }
-}
-
 // The slot of a section's headers.
 pub fn header_slot(section: u32) -> usize
     ensures { result ≡ header_slot section }
@@ -73,7 +66,7 @@ pub fn after_header(state: State, section: u32, width: usize) -> State
 {
     let mut next = state;
     next.present[section as usize] = true;
-    next.highest = higher(state.highest, section);
+    next.highest = state.highest.max(section);
     next.section = section;
     next.width = width;
     next.table = true;

@@ -1,8 +1,8 @@
 -- Facts with one line more: what was found before stays, and the lines that are left decide the rest. Assumes nothing.
-use Prim.Native.Nat.{ℕ, zero, suc, ◌+◌, ◌-◌, ◌≤◌}
+use Prim.Native.Nat.{ℕ, zero, suc, ◌+◌, ◌≤◌}
 use Prim.Native.String.{String}
 use mathlib.Core.Path.{◌≡◌, refl, sym, ap, subst, ◌∙◌}
-use mathlib.Core.Bool.{Bool, true, false, cond, ◌&&◌, ◌||◌, and-false}
+use mathlib.Core.Bool.{Bool, true, false, cond, ◌||◌, and-false}
 use mathlib.Core.List.{List, [], ◌∷◌}
 use mathlib.Core.Option.{none as nothing, some}
 use native.Mathlib.Omega.{arith}
@@ -63,24 +63,7 @@ other_opening l h = other_code l (begins_other l (go l h))
     go [] h e = absurd (omega (arith, e))
     go (x ∷ xs) h e = absurd_bool (sym (rw (eq-eqb 77 x (sym e)) at h))
 
--- A VALUE of a kind with the key that is sought
-module _ (p k : Bool) (x : ℕ) where
-  pub letter_key : p ≡ false → 0 ≡ cond (p && k) x 0
-  letter_key h = rw h
-
-  pub letter_kind : k ≡ false → 0 ≡ cond (p && k) x 0
-  letter_kind h = rw (h, and-false p)
-
-  pub letter_both : p ≡ true → k ≡ true → x ≡ cond (p && k) x 0
-  letter_both h m = rw (h, m)
-
 -- THE EARLIER
-pub earlier_first : (a b : ℕ) → (a ≡ 0 → ⊥) → a ≡ earlier a b
-earlier_first a b h = rw (ne_eqb a 0 h)
-
-pub earlier_second : (a b : ℕ) → a ≡ 0 → b ≡ earlier a b
-earlier_second a b h = rw (eq-eqb a 0 h)
-
 earlier_none : (a : ℕ) → earlier a 0 ≡ a
 earlier_none a = go (eqb a 0) refl
   where

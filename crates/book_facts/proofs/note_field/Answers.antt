@@ -4,4 +4,4 @@ use Rattle.book_facts.proofs.note_field.Goals as goal
 
 pub returns : goal.returns
 unfolding bytes
-returns c = rw (c.earlier_line.ensures, c.earlier_letter-2.ensures, c.earlier_letter.ensures, c.line_with-version.ensures, c.letter_in-typed.ensures, c.letter_in-mode.ensures)
+returns c = rw (c.earlier-3.ensures, c.earlier-2.ensures, c.earlier.ensures, c.line_with-version.ensures, c.letter_in-typed.ensures, c.letter_in-mode.ensures)

@@ -1,7 +1,7 @@
 -- `book_ids::id_of` meets its contract. The loop's invariant: the id that the name begins with is the one that the words left find. Assumes nothing.
 use mathlib.Core.Path.{◌≡◌, refl, sym, ap, ◌∙◌}
 use mathlib.Core.List.{List, ◌∷◌, map}
-use Prim.Native.Nat.{ℕ, ◌+◌, ◌-◌}
+use Prim.Native.Nat.{ℕ, ◌+◌}
 use native.Mathlib.Omega.{arith}
 use lib.ListN.{drop}
 use Rattle.text_bytes.specs.Bytes.{bytes}

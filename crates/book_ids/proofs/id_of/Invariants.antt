@@ -1,7 +1,7 @@
 -- `book_ids::id_of` meets its contract. The loop's invariant: the id that the name begins with is the one that the words left find. Assumes nothing.
 use mathlib.Core.Path.{◌≡◌}
 use mathlib.Core.List.{map}
-use Prim.Native.Nat.{◌-◌, ◌≤◌}
+use Prim.Native.Nat.{◌≤◌}
 use lib.ListN.{drop}
 use Rattle.text_bytes.specs.Bytes.{bytes}
 use Rattle.value_references.specs.References.{families}
@@ -10,6 +10,3 @@ use Rattle.book_ids.proofs.id_of.Given as goal
 
 abbrev pub invariant-loop-f : goal.invariant-loop-f
 invariant-loop-f l = (l.f ≤ 4) × (id_of l.name ≡ id_in l.f (drop l.f (map bytes families)) l.name)
-
-abbrev pub decreases-loop-f : goal.decreases-loop-f
-decreases-loop-f l = 4 - l.f

@@ -1,7 +1,7 @@
 -- What the letters of the book stand for, where a letter is none of those asked for. Assumes nothing.
 use Prim.Native.Nat.{ℕ}
 use mathlib.Core.Path.{◌≡◌, refl}
-use mathlib.Core.Bool.{Bool, true, false, cond, ◌||◌, and-false, and-true}
+use mathlib.Core.Bool.{Bool, true, false, cond, ◌||◌}
 use mathlib.Core.List.{[], ◌∷◌}
 use lib.Dec.{eqb}
 use borrow.Author.Tests.{eq-eqb, ne_eqb, eqb-true}
@@ -50,14 +50,6 @@ null_text (x ∷ xs) = go (is_null (x ∷ xs))
 
 -- CELLS
 module _ (b : Bytes) where
-  pub kept_null : is_null b ≡ true → is_kept b ≡ false
-  unfolding is_kept
-  kept_null h = rw (h, and-false (is_text b))
-
-  pub kept_text : is_null b ≡ false → is_kept b ≡ is_text b
-  unfolding is_kept
-  kept_text h = rw (h, and-true (is_text b))
-
   module _ (k : ℕ) where
     pub cell_kept : k ≡ 75 → cell_of_kind k b ≡ is_kept b
     unfolding cell_of_kind

@@ -11,7 +11,7 @@ use Rattle.book.specs.Book.{column_of}
 use Rattle.book.specs.Text.{book_in}
 use Rattle.rules.specs.Rules.{kind_in}
 use Rattle.scan.proofs.Laws.Celling.{cell_here, cells_next, cells_last}
-use Rattle.line_head_kinds.proofs.Laws.Kinds.{KindsTo, kinds_step}
+use Rattle.line_head_kinds.proofs.Laws.Kinds.{KindsTo, kinds_step, unended}
 use Rattle.line_head_kinds.proofs.learn_kinds.Goals as goal
 
 pub returns-then-width-gt-MOST_CELLS : goal.returns-then-width-gt-MOST_CELLS
@@ -21,49 +21,41 @@ returns-then-width-gt-MOST_CELLS c =
       kinds_len_2 = c.requires.kinds_len;
     }
 
-pub loop-end-init : goal.loop-end-init
-loop-end-init c = (c.cell_end-end.ensures.within, omega arith, c.if-width-gt-MOST_CELLS.false, c.requires.kinds_len, cells_next c.cell_end-end.ensures, cells_last c.cell_end-end.ensures, (λ i lt. absurd (omega arith)))
+pub loop-c-init : goal.loop-c-init
+loop-c-init c = (c.cell_end-end.ensures.within, omega arith, c.if-width-gt-MOST_CELLS.false, c.requires.kinds_len, cells_next c.cell_end-end.ensures, cells_last c.cell_end-end.ensures, (λ i lt. absurd (omega arith)))
 
 pub column-found-requires : goal.column-found-requires
 column-found-requires c = c.requires.book
 
-pub bounds-kinds-c : goal.bounds-kinds-c
-bounds-kinds-c c =
-    let ahead : drop c.loop-end.c (cells c.args.line.now) ≡ take (c.cell_end-end-in-loop-end.result - (c.loop-end.end + 1)) (drop (c.loop-end.end + 1) c.args.line.now) ∷ drop 1 (cells (drop (c.loop-end.end + 1) c.args.line.now)) = c.loop-end.invariant.4 c.loop-end-test.true ∙ cell_here c.cell_end-end-in-loop-end.ensures in
-    let below : c.loop-end.c < 256 = omega (arith, ap length ahead, length-drop c.loop-end.c (cells c.args.line.now), c.requires.width_value, c.loop-end.invariant.2) in
-    below
+pub cell_end-end-requires-in-loop-c : goal.cell_end-end-requires-in-loop-c
+cell_end-end-requires-in-loop-c c =
+    let before : c.loop-c.end < length c.args.line.now = unended c.loop-c.c (cells c.args.line.now) c.loop-c.invariant.0 c.loop-c.invariant.5 (omega (arith, c.requires.width_value)) in
+    omega (arith, before)
 
-pub overflow_add-c : goal.overflow_add-c
-overflow_add-c c =
-    let ahead : drop c.loop-end.c (cells c.args.line.now) ≡ take (c.cell_end-end-in-loop-end.result - (c.loop-end.end + 1)) (drop (c.loop-end.end + 1) c.args.line.now) ∷ drop 1 (cells (drop (c.loop-end.end + 1) c.args.line.now)) = c.loop-end.invariant.4 c.loop-end-test.true ∙ cell_here c.cell_end-end-in-loop-end.ensures in
-    let below : c.loop-end.c < 256 = omega (arith, ap length ahead, length-drop c.loop-end.c (cells c.args.line.now), c.requires.width_value, c.loop-end.invariant.2) in
-    omega (arith, below)
-
-pub loop-end-preserved : goal.loop-end-preserved
-loop-end-preserved c =
-    let ahead : drop c.loop-end.c (cells c.args.line.now) ≡ take (c.cell_end-end-in-loop-end.result - (c.loop-end.end + 1)) (drop (c.loop-end.end + 1) c.args.line.now) ∷ drop 1 (cells (drop (c.loop-end.end + 1) c.args.line.now)) = c.loop-end.invariant.4 c.loop-end-test.true ∙ cell_here c.cell_end-end-in-loop-end.ensures in
-    let below : c.loop-end.c < 256 = omega (arith, ap length ahead, length-drop c.loop-end.c (cells c.args.line.now), c.requires.width_value, c.loop-end.invariant.2) in
-    let z : c.loop-end.c + 1 - 1 ≡ c.loop-end.c = omega arith in
-    let y : 1 + (c.loop-end.c + 1 - 2) ≡ c.loop-end.c = omega (arith, c.loop-end.invariant.1) in
-    let x = take (c.cell_end-end-in-loop-end.result - (c.loop-end.end + 1)) (drop (c.loop-end.end + 1) c.args.line.now) in
-    let here : drop (c.loop-end.c + 1 - 2) (drop 1 (cells c.args.line.now)) ≡ x ∷ drop 1 (cells (drop (c.loop-end.end + 1) c.args.line.now)) = drop-drop (c.loop-end.c + 1 - 2) 1 (cells c.args.line.now) ∙ ap (λ (i : ℕ). drop i (cells c.args.line.now)) y ∙ ahead in
-    let tail : drop (c.loop-end.c + 1) (cells c.args.line.now) ≡ drop 1 (cells (drop (c.loop-end.end + 1) c.args.line.now)) = sym (drop-drop 1 c.loop-end.c (cells c.args.line.now)) ∙ ap (drop 1) (c.loop-end.invariant.4 c.loop-end-test.true) in
+pub loop-c-preserved : goal.loop-c-preserved
+loop-c-preserved c =
+    let before : c.loop-c.end < length c.args.line.now = unended c.loop-c.c (cells c.args.line.now) c.loop-c.invariant.0 c.loop-c.invariant.5 (omega (arith, c.requires.width_value)) in
+    let ahead : drop c.loop-c.c (cells c.args.line.now) ≡ take (c.cell_end-end-in-loop-c.result - (c.loop-c.end + 1)) (drop (c.loop-c.end + 1) c.args.line.now) ∷ drop 1 (cells (drop (c.loop-c.end + 1) c.args.line.now)) = c.loop-c.invariant.4 before ∙ cell_here c.cell_end-end-in-loop-c.ensures in
+    let z : c.loop-c.c + 1 - 1 ≡ c.loop-c.c = omega arith in
+    let y : 1 + (c.loop-c.c + 1 - 2) ≡ c.loop-c.c = omega (arith, c.loop-c.invariant.1) in
+    let x = take (c.cell_end-end-in-loop-c.result - (c.loop-c.end + 1)) (drop (c.loop-c.end + 1) c.args.line.now) in
+    let here : drop (c.loop-c.c + 1 - 2) (drop 1 (cells c.args.line.now)) ≡ x ∷ drop 1 (cells (drop (c.loop-c.end + 1) c.args.line.now)) = drop-drop (c.loop-c.c + 1 - 2) 1 (cells c.args.line.now) ∙ ap (λ (i : ℕ). drop i (cells c.args.line.now)) y ∙ ahead in
+    let tail : drop (c.loop-c.c + 1) (cells c.args.line.now) ≡ drop 1 (cells (drop (c.loop-c.end + 1) c.args.line.now)) = sym (drop-drop 1 c.loop-c.c (cells c.args.line.now)) ∙ ap (drop 1) (c.loop-c.invariant.4 before) in
     let kind : c.kind_in.result ≡ kind_in (column_of (book_in c.args.book.now) c.args.section x) = c.kind_in.ensures ∙ ap kind_in c.column-found.ensures in
-    let set-as : set c.loop-end.kinds (c.loop-end.c + 1 - 1) (kind_in (column_of (book_in c.args.book.now) c.args.section x)) ≡ set c.loop-end.kinds c.loop-end.c c.kind_in.result = rw (z, kind) in (
-      c.cell_end-end-in-loop-end.ensures.within,
-      omega (arith, c.loop-end.invariant.1),
-      c.loop-end.invariant.2,
-      length-set c.loop-end.kinds c.loop-end.c c.kind_in.result ∙ c.loop-end.invariant.3,
-      (λ lt. tail ∙ cells_next c.cell_end-end-in-loop-end.ensures lt),
-      (λ e. tail ∙ cells_last c.cell_end-end-in-loop-end.ensures e),
-      subst (KindsTo (book_in c.args.book.now) c.args.section (c.loop-end.c + 1 + 1) (drop 1 (cells c.args.line.now))) set-as
-          (kinds_step (book_in c.args.book.now) (drop 1 (cells c.args.line.now)) (c.loop-end.c + 1) (omega (arith, c.loop-end.invariant.1)) here c.args.section c.loop-end.kinds (omega (arith, below, c.loop-end.invariant.3)) c.loop-end.invariant.6),
+    let set-as : set c.loop-c.kinds (c.loop-c.c + 1 - 1) (kind_in (column_of (book_in c.args.book.now) c.args.section x)) ≡ set c.loop-c.kinds c.loop-c.c c.kind_in.result = rw (z, kind) in (
+      c.cell_end-end-in-loop-c.ensures.within,
+      omega (arith, c.loop-c.invariant.1),
+      c.loop-c.invariant.2,
+      length-set c.loop-c.kinds c.loop-c.c c.kind_in.result ∙ c.loop-c.invariant.3,
+      (λ lt. tail ∙ cells_next c.cell_end-end-in-loop-c.ensures lt),
+      (λ e. tail ∙ cells_last c.cell_end-end-in-loop-c.ensures e),
+      subst (KindsTo (book_in c.args.book.now) c.args.section (c.loop-c.c + 1 + 1) (drop 1 (cells c.args.line.now))) set-as
+          (kinds_step (book_in c.args.book.now) (drop 1 (cells c.args.line.now)) (c.loop-c.c + 1) (omega (arith, c.loop-c.invariant.1)) here c.args.section c.loop-c.kinds (omega arith) c.loop-c.invariant.6),
     )
 
 pub returns : goal.returns
 returns c =
-    let none : drop c.loop-end.c (cells c.args.line.now) ≡ [] = c.loop-end.invariant.5 (omega (arith, c.loop-end-test.false, c.loop-end.invariant.0)) in
     record {
-      kinds_of = (λ few i lt. c.loop-end.invariant.6 i (omega (arith, ap length none, length-drop c.loop-end.c (cells c.args.line.now), length-drop 1 (cells c.args.line.now), lt)));
-      kinds_len_2 = c.loop-end.invariant.3;
+      kinds_of = (λ few i lt. c.loop-c.invariant.6 i (omega (arith, length-drop 1 (cells c.args.line.now), lt, c.requires.width_value)));
+      kinds_len_2 = c.loop-c.invariant.3;
     }

@@ -1,13 +1,17 @@
 -- The hash of a name, the codes of its bytes, and its sides at forks. Assumes nothing.
-use mathlib.Core.Path.{◌≡◌, refl, sym, ◌∙◌}
-use mathlib.Core.Bool.{Bool, true, false, ◌&&◌}
+use mathlib.Core.Path.{◌≡◌, refl, sym, ap, ◌∙◌}
+use mathlib.Core.Bool.{Bool, true, false, not, ◌&&◌}
 use mathlib.Core.List.{[], ◌∷◌}
 use Prim.Native.Nat.{ℕ, zero, suc, ◌+◌, ◌*◌, ◌/◌, ◌%◌, ◌^◌, ◌≤◌, ◌<◌}
 use native.Mathlib.Nat.{mod-lt, not-suc-le-zero, le_of_suc-le-suc}
 use native.Mathlib.Omega.{arith}
 use lib.Dec.{eqb, ltb}
 use lib.ListN.{length, drop, get_or, drop_of_length-le}
-use borrow.Author.Tests.{eqb-true, eq-eqb, ltb-true, ltb-false}
+use borrow.Author.Tests.{eqb-true, eq-eqb, ltb-true, ltb-false, not-true, not-false}
+use denote.Bor.{Bor}
+use Rattle.std.specs.Prelude.{Option, Some, None}
+use Rattle.std.specs.Option.{option_eq}
+use Rattle.std.specs.Slice.{IsItemAt}
 use Rattle.text_bytes.specs.Bytes.{Bytes, same}
 use Rattle.text_bytes.proofs.Laws.Pieces.{drop_step}
 use Rattle.text_bytes.proofs.Laws.Same.{same_equal, same_end}
@@ -43,6 +47,30 @@ unfolding byte_code
 code_past [] place l = refl
 code_past (x ∷ xs) zero l = absurd (not-suc-le-zero l)
 code_past (x ∷ xs) (suc place) l = code_past xs place (le_of_suc-le-suc l)
+
+-- what is read at a place, or nothing past the end
+module _ (name : Bytes) (place : ℕ) where
+  read_here : (x : Bor ℕ) → IsItemAt name place (Some x) → (place < length name) × (x.now ≡ get_or name place 0)
+  read_here x h = (ltb-true place (length name) (sym h.0), h.4 (omega arith) 0)
+
+  pub code_read : (x : Bor ℕ) → IsItemAt name place (Some x) → x.now + 1 ≡ byte_code name place
+  code_read x h = let r = read_here x h in ap (λ (b : ℕ). b + 1) r.1 ∙ sym (code_here name place r.0)
+
+  pub code_none : IsItemAt name place None → 0 ≡ byte_code name place
+  code_none h = sym (code_past name place (ltb-false place (length name) (sym h.0)))
+
+  -- and whether it is a byte
+  pub read_same : (r : Option (Bor ℕ)) (w : Bor ℕ) → IsItemAt name place r → not (option_eq (λ (x y : Bor ℕ). eqb x.now y.now) r (Some w)) ≡ false → (place < length name) × (w.now ≡ get_or name place 0)
+  read_same None w h e = absurd_bool (sym e)
+  read_same (Some x) w h e =
+      let r = read_here x h in
+      (r.0, sym (eqb-true x.now w.now (not-false (eqb x.now w.now) e)) ∙ r.1)
+
+  pub read_other : (r : Option (Bor ℕ)) (w : Bor ℕ) → IsItemAt name place r → not (option_eq (λ (x y : Bor ℕ). eqb x.now y.now) r (Some w)) ≡ true → w.now + 1 ≡ byte_code name place → ⊥
+  read_other None w h e q = omega (arith, q, code_none h)
+  read_other (Some x) w h e q =
+      let same : x.now ≡ w.now = omega (arith, q, code_read x h) in
+      absurd_bool (sym (rw (eq-eqb x.now w.now same) at (not-true (eqb x.now w.now) e)))
 
 -- PARTED: at a place within the first name, where the codes differ
 pub parts_before : (a b : Bytes) (i : ℕ) → i < length a → (byte_code a i ≡ byte_code b i → ⊥) → PartsAt a b i

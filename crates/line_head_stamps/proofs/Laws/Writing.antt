@@ -1,24 +1,31 @@
 -- What stands where in the list after places were filled, after a name was entered, and after a fork was put. Assumes nothing.
-use mathlib.Core.Path.{◌≡◌, refl, ◌∙◌}
+use mathlib.Core.Path.{◌≡◌, refl, sym, ap, ◌∙◌}
 use mathlib.Core.List.{List}
 use mathlib.Core.Logic.{⊎_elim}
 use Prim.Native.Nat.{ℕ, zero, suc, ◌+◌, ◌*◌, ◌≤◌, ◌<◌}
 use native.Mathlib.Nat.{not-suc-le-zero, eq-or-lt_of_le, le_of_suc-le-suc}
-use native.Mathlib.Numerals.{add-one}
 use native.Mathlib.Omega.{arith}
-use lib.Seq.{get_or-set_same, get_or-set_other}
-use lib.ListN.{length, get_or, set, length-set}
+use lib.Seq.{get_or-set_same, get_or-set_other, paste, paste-zero, paste-suc}
+use lib.ListN.{length, get_or, set, replicate, length-set, length-replicate, get_or-replicate}
+use borrow.Rule.Slice.PartMut.{put_mid}
+use Rattle.std.proofs.lemmas.Slice.{put_mid-paste}
 use Rattle.line_head_stamps.specs.Stamps.{BRANCHES, ASKS, STARTS, ENDS, ROOM, branch, covered, entered, forked}
 
 -- PLACES FILLED
 module _ (t : List ℕ) (from held : ℕ) where
-  pub filled_none : covered t from 0 held ≡ t
+  -- as a part of the list that is written at once
+  filled_paste : (n m : ℕ) → from + m ≤ length t → n ≤ m → covered t from n held ≡ paste t from (replicate m held) n
   unfolding covered
-  filled_none = refl
+  filled_paste zero m room few = paste-zero t from (replicate m held)
+  filled_paste (suc n) m room few =
+      let long = length-replicate {A = ℕ} m held in
+      let lt : n < length (replicate m held) = omega arith in
+      rw (filled_paste n m room (omega arith))
+      (ap (λ (x : ℕ). set (paste t from (replicate m held) n) (from + n) x) (sym (get_or-replicate m n held 0 few)) ∙ paste-suc t from (replicate m held) n 0 (omega arith) lt)
 
-  pub filled_next : (n : ℕ) → set (covered t from n held) (from + n) held ≡ covered t from (n + 1) held
-  unfolding covered
-  filled_next n = rw (add-one n)
+  pub filled_part : (m k : ℕ) (ys : List ℕ) → from + m ≤ length t → k ≡ m → ys ≡ replicate m held → put_mid from k t ys ≡ covered t from m held
+  filled_part m k ys room e h =
+      put_mid-paste from k t ys (replicate m held) m h (sym e) (sym (length-replicate {A = ℕ} m held)) ∙ sym (filled_paste m m room (omega arith))
 
   pub filled_length : (n : ℕ) → length (covered t from n held) ≡ length t
   unfolding covered

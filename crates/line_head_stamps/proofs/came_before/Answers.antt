@@ -98,14 +98,14 @@ bounds-stamps-door c =
     let door_below : door < 12288 = omega (arith, (way_range way (omega arith) (omega (arith, hash_below name))).1, few) in
     omega (arith, door_below, noted.places)
 
-pub overflow_add-k : goal.overflow_add-k
-overflow_add-k c =
+pub overflow_add-start : goal.overflow_add-start
+overflow_add-start c =
     let table : List ℕ = c.last_door-door.new.stamps in
     let few : c.args.count ≤ 254 = c.requires.count_bound.0 in
     let door : ℕ = c.last_door-door.result in
     let ends : get_or table door 0 < c.args.count = c.last_door-door.ensures.finds_door.ends c.if-door-eq0.false in
-    let number_below : c.index-k.result < c.args.count = omega (arith, c.index-k.ensures, ends) in
-    let number_few : c.index-k.result < 254 = omega (arith, number_below, few) in
+    let number_below : (get_or c.last_door-door.new.stamps c.last_door-door.result 0) < c.args.count = omega (arith, ends) in
+    let number_few : (get_or c.last_door-door.new.stamps c.last_door-door.result 0) < 254 = omega (arith, number_below, few) in
     omega (arith, number_few)
 
 pub offset_bounds-stamps-k : goal.offset_bounds-stamps-k
@@ -114,8 +114,8 @@ offset_bounds-stamps-k c =
     let few : c.args.count ≤ 254 = c.requires.count_bound.0 in
     let door : ℕ = c.last_door-door.result in
     let ends : get_or table door 0 < c.args.count = c.last_door-door.ensures.finds_door.ends c.if-door-eq0.false in
-    let number_below : c.index-k.result < c.args.count = omega (arith, c.index-k.ensures, ends) in
-    let number_few : c.index-k.result < 254 = omega (arith, number_below, few) in
+    let number_below : (get_or c.last_door-door.new.stamps c.last_door-door.result 0) < c.args.count = omega (arith, ends) in
+    let number_few : (get_or c.last_door-door.new.stamps c.last_door-door.result 0) < 254 = omega (arith, number_below, few) in
     omega (arith, number_few)
 
 pub bounds-stamps-k : goal.bounds-stamps-k
@@ -125,18 +125,18 @@ bounds-stamps-k c =
     let noted : Noted table c.args.line_no c.args.line.now c.args.count = noted_kept c.last_door-door.ensures.guessed few c.args.line_no c.args.line.now c.requires.noted in
     let door : ℕ = c.last_door-door.result in
     let ends : get_or table door 0 < c.args.count = c.last_door-door.ensures.finds_door.ends c.if-door-eq0.false in
-    let number_below : c.index-k.result < c.args.count = omega (arith, c.index-k.ensures, ends) in
-    let number_few : c.index-k.result < 254 = omega (arith, number_below, few) in
+    let number_below : (get_or c.last_door-door.new.stamps c.last_door-door.result 0) < c.args.count = omega (arith, ends) in
+    let number_few : (get_or c.last_door-door.new.stamps c.last_door-door.result 0) < 254 = omega (arith, number_below, few) in
     omega (arith, number_few, noted.places)
 
-pub overflow_add-k-2 : goal.overflow_add-k-2
-overflow_add-k-2 c =
+pub overflow_add-stop : goal.overflow_add-stop
+overflow_add-stop c =
     let table : List ℕ = c.last_door-door.new.stamps in
     let few : c.args.count ≤ 254 = c.requires.count_bound.0 in
     let door : ℕ = c.last_door-door.result in
     let ends : get_or table door 0 < c.args.count = c.last_door-door.ensures.finds_door.ends c.if-door-eq0.false in
-    let number_below : c.index-k.result < c.args.count = omega (arith, c.index-k.ensures, ends) in
-    let number_few : c.index-k.result < 254 = omega (arith, number_below, few) in
+    let number_below : (get_or c.last_door-door.new.stamps c.last_door-door.result 0) < c.args.count = omega (arith, ends) in
+    let number_few : (get_or c.last_door-door.new.stamps c.last_door-door.result 0) < 254 = omega (arith, number_below, few) in
     omega (arith, number_few)
 
 pub offset_bounds-stamps-k-2 : goal.offset_bounds-stamps-k-2
@@ -145,8 +145,8 @@ offset_bounds-stamps-k-2 c =
     let few : c.args.count ≤ 254 = c.requires.count_bound.0 in
     let door : ℕ = c.last_door-door.result in
     let ends : get_or table door 0 < c.args.count = c.last_door-door.ensures.finds_door.ends c.if-door-eq0.false in
-    let number_below : c.index-k.result < c.args.count = omega (arith, c.index-k.ensures, ends) in
-    let number_few : c.index-k.result < 254 = omega (arith, number_below, few) in
+    let number_below : (get_or c.last_door-door.new.stamps c.last_door-door.result 0) < c.args.count = omega (arith, ends) in
+    let number_few : (get_or c.last_door-door.new.stamps c.last_door-door.result 0) < 254 = omega (arith, number_below, few) in
     omega (arith, number_few)
 
 pub bounds-stamps-k-2 : goal.bounds-stamps-k-2
@@ -156,8 +156,8 @@ bounds-stamps-k-2 c =
     let noted : Noted table c.args.line_no c.args.line.now c.args.count = noted_kept c.last_door-door.ensures.guessed few c.args.line_no c.args.line.now c.requires.noted in
     let door : ℕ = c.last_door-door.result in
     let ends : get_or table door 0 < c.args.count = c.last_door-door.ensures.finds_door.ends c.if-door-eq0.false in
-    let number_below : c.index-k.result < c.args.count = omega (arith, c.index-k.ensures, ends) in
-    let number_few : c.index-k.result < 254 = omega (arith, number_below, few) in
+    let number_below : (get_or c.last_door-door.new.stamps c.last_door-door.result 0) < c.args.count = omega (arith, ends) in
+    let number_few : (get_or c.last_door-door.new.stamps c.last_door-door.result 0) < 254 = omega (arith, number_below, few) in
     omega (arith, number_few, noted.places)
 
 pub slice_bounds-other-count : goal.slice_bounds-other-count
@@ -167,10 +167,10 @@ slice_bounds-other-count c =
     let noted : Noted table c.args.line_no c.args.line.now c.args.count = noted_kept c.last_door-door.ensures.guessed few c.args.line_no c.args.line.now c.requires.noted in
     let door : ℕ = c.last_door-door.result in
     let ends : get_or table door 0 < c.args.count = c.last_door-door.ensures.finds_door.ends c.if-door-eq0.false in
-    let number_below : c.index-k.result < c.args.count = omega (arith, c.index-k.ensures, ends) in
-    let stands : (c.index-start.result ≤ c.index-stop.result) × (c.index-stop.result ≤ length c.args.line.now) = let n = noted in
+    let number_below : (get_or c.last_door-door.new.stamps c.last_door-door.result 0) < c.args.count = omega (arith, ends) in
+    let stands : ((get_or c.last_door-door.new.stamps (12544 + get_or c.last_door-door.new.stamps c.last_door-door.result 0) 0) ≤ (get_or c.last_door-door.new.stamps (12800 + get_or c.last_door-door.new.stamps c.last_door-door.result 0) 0)) × ((get_or c.last_door-door.new.stamps (12800 + get_or c.last_door-door.new.stamps c.last_door-door.result 0) 0) ≤ length c.args.line.now) = let n = noted in
     let l = number_below in
-    (omega (arith, c.index-stop.ensures, c.index-start.ensures, n.starts c.index-k.result l), omega (arith, c.index-stop.ensures, n.ends c.index-k.result l)) in
+    (omega (arith, n.starts (get_or c.last_door-door.new.stamps c.last_door-door.result 0) l), omega (arith, n.ends (get_or c.last_door-door.new.stamps c.last_door-door.result 0) l)) in
     stands.0
 
 pub slice_bounds-other-start : goal.slice_bounds-other-start
@@ -180,10 +180,10 @@ slice_bounds-other-start c =
     let noted : Noted table c.args.line_no c.args.line.now c.args.count = noted_kept c.last_door-door.ensures.guessed few c.args.line_no c.args.line.now c.requires.noted in
     let door : ℕ = c.last_door-door.result in
     let ends : get_or table door 0 < c.args.count = c.last_door-door.ensures.finds_door.ends c.if-door-eq0.false in
-    let number_below : c.index-k.result < c.args.count = omega (arith, c.index-k.ensures, ends) in
-    let stands : (c.index-start.result ≤ c.index-stop.result) × (c.index-stop.result ≤ length c.args.line.now) = let n = noted in
+    let number_below : (get_or c.last_door-door.new.stamps c.last_door-door.result 0) < c.args.count = omega (arith, ends) in
+    let stands : ((get_or c.last_door-door.new.stamps (12544 + get_or c.last_door-door.new.stamps c.last_door-door.result 0) 0) ≤ (get_or c.last_door-door.new.stamps (12800 + get_or c.last_door-door.new.stamps c.last_door-door.result 0) 0)) × ((get_or c.last_door-door.new.stamps (12800 + get_or c.last_door-door.new.stamps c.last_door-door.result 0) 0) ≤ length c.args.line.now) = let n = noted in
     let l = number_below in
-    (omega (arith, c.index-stop.ensures, c.index-start.ensures, n.starts c.index-k.result l), omega (arith, c.index-stop.ensures, n.ends c.index-k.result l)) in
+    (omega (arith, n.starts (get_or c.last_door-door.new.stamps c.last_door-door.result 0) l), omega (arith, n.ends (get_or c.last_door-door.new.stamps c.last_door-door.result 0) l)) in
     omega (arith, stands)
 
 pub slice_bounds-other-end : goal.slice_bounds-other-end
@@ -193,10 +193,10 @@ slice_bounds-other-end c =
     let noted : Noted table c.args.line_no c.args.line.now c.args.count = noted_kept c.last_door-door.ensures.guessed few c.args.line_no c.args.line.now c.requires.noted in
     let door : ℕ = c.last_door-door.result in
     let ends : get_or table door 0 < c.args.count = c.last_door-door.ensures.finds_door.ends c.if-door-eq0.false in
-    let number_below : c.index-k.result < c.args.count = omega (arith, c.index-k.ensures, ends) in
-    let stands : (c.index-start.result ≤ c.index-stop.result) × (c.index-stop.result ≤ length c.args.line.now) = let n = noted in
+    let number_below : (get_or c.last_door-door.new.stamps c.last_door-door.result 0) < c.args.count = omega (arith, ends) in
+    let stands : ((get_or c.last_door-door.new.stamps (12544 + get_or c.last_door-door.new.stamps c.last_door-door.result 0) 0) ≤ (get_or c.last_door-door.new.stamps (12800 + get_or c.last_door-door.new.stamps c.last_door-door.result 0) 0)) × ((get_or c.last_door-door.new.stamps (12800 + get_or c.last_door-door.new.stamps c.last_door-door.result 0) 0) ≤ length c.args.line.now) = let n = noted in
     let l = number_below in
-    (omega (arith, c.index-stop.ensures, c.index-start.ensures, n.starts c.index-k.result l), omega (arith, c.index-stop.ensures, n.ends c.index-k.result l)) in
+    (omega (arith, n.starts (get_or c.last_door-door.new.stamps c.last_door-door.result 0) l), omega (arith, n.ends (get_or c.last_door-door.new.stamps c.last_door-door.result 0) l)) in
     omega (arith, stands)
 
 pub is_astray-astray-requires : goal.is_astray-astray-requires
@@ -236,7 +236,7 @@ returns-then-ask c =
     let stamped : get_or table (hash_of name) 0 ≡ c.args.line_no = subst (λ (k : ℕ). get_or table k 0 ≡ c.args.line_no) c.hash-h.ensures (c.last_door-door.ensures.finds_door.stamped c.if-door-eq0.false) in
     let ends : get_or table door 0 < c.args.count = c.last_door-door.ensures.finds_door.ends c.if-door-eq0.false in
     let there : Bytes = name_at table c.args.line.now (get_or table door 0) in
-    let other_name : part c.index-start.result c.index-stop.result c.args.line.now ≡ there = name_there table c.args.line.now door c.index-k.ensures c.index-start.ensures c.index-stop.ensures in
+    let other_name : part (get_or c.last_door-door.new.stamps (12544 + get_or c.last_door-door.new.stamps c.last_door-door.result 0) 0) (get_or c.last_door-door.new.stamps (12800 + get_or c.last_door-door.new.stamps c.last_door-door.result 0) 0) c.args.line.now ≡ there = name_there table c.args.line.now door refl refl refl in
     let equal : c.question-ask.result ≡ SAME → there ≡ name = λ e. sym (c.question-ask.ensures.a_value e ∙ other_name) in
     adds_kept c.last_door-door.ensures.guessed few c.args.line_no c.args.line.now c.enter-2.ensures
     (adds_again noted few c.args.at c.args.end c.requires.count_bound.1 c.requires.count_bound.2 name refl stamped door way ends (equal c.if-ask.true))
@@ -275,7 +275,7 @@ returns-then-astray c =
     let stamped : get_or table (hash_of name) 0 ≡ c.args.line_no = subst (λ (k : ℕ). get_or table k 0 ≡ c.args.line_no) c.hash-h.ensures (c.last_door-door.ensures.finds_door.stamped c.if-door-eq0.false) in
     let ends : get_or table door 0 < c.args.count = c.last_door-door.ensures.finds_door.ends c.if-door-eq0.false in
     let there : Bytes = name_at table c.args.line.now (get_or table door 0) in
-    let other_name : part c.index-start.result c.index-stop.result c.args.line.now ≡ there = name_there table c.args.line.now door c.index-k.ensures c.index-start.ensures c.index-stop.ensures in
+    let other_name : part (get_or c.last_door-door.new.stamps (12544 + get_or c.last_door-door.new.stamps c.last_door-door.result 0) 0) (get_or c.last_door-door.new.stamps (12800 + get_or c.last_door-door.new.stamps c.last_door-door.result 0) 0) c.args.line.now ≡ there = name_there table c.args.line.now door refl refl refl in
     let parted : (c.question-ask.result ≡ SAME → ⊥) → side_of c.question-ask.result name ≡ side_of c.question-ask.result there → ⊥ = λ e q. c.question-ask.ensures.fact e (q ∙ ap (side_of c.question-ask.result) (sym other_name)) in
     let unequal : (c.question-ask.result ≡ SAME → ⊥) → there ≡ name → ⊥ = λ e q. parted e (ap (side_of c.question-ask.result) (sym q)) in
     let astray = subst (λ (b : Bytes). Astray table door b) other_name (c.is_astray-astray.ensures c.if-astray.true) in
@@ -293,7 +293,7 @@ put_fork-requires c =
     let way : Way table c.args.count name door (DOORS + hash_of name) = subst (λ (k : ℕ). Way table c.args.count name door (DOORS + k)) c.hash-h.ensures (c.last_door-door.ensures.finds_door.way c.if-door-eq0.false) in
     let door_below : door < 12288 = omega (arith, (way_range way (omega arith) (omega (arith, hash_below name))).1, few) in
     let there : Bytes = name_at table c.args.line.now (get_or table door 0) in
-    let other_name : part c.index-start.result c.index-stop.result c.args.line.now ≡ there = name_there table c.args.line.now door c.index-k.ensures c.index-start.ensures c.index-stop.ensures in
+    let other_name : part (get_or c.last_door-door.new.stamps (12544 + get_or c.last_door-door.new.stamps c.last_door-door.result 0) 0) (get_or c.last_door-door.new.stamps (12800 + get_or c.last_door-door.new.stamps c.last_door-door.result 0) 0) c.args.line.now ≡ there = name_there table c.args.line.now door refl refl refl in
     let their_side : c.side-their.result ≡ side_of c.question-ask.result there = c.side-their.ensures ∙ ap (side_of c.question-ask.result) other_name in
     record {
       stamps_len = ap length c.enter-2.ensures ∙ entered_room;
@@ -311,7 +311,7 @@ returns c =
     let stamped : get_or table (hash_of name) 0 ≡ c.args.line_no = subst (λ (k : ℕ). get_or table k 0 ≡ c.args.line_no) c.hash-h.ensures (c.last_door-door.ensures.finds_door.stamped c.if-door-eq0.false) in
     let ends : get_or table door 0 < c.args.count = c.last_door-door.ensures.finds_door.ends c.if-door-eq0.false in
     let there : Bytes = name_at table c.args.line.now (get_or table door 0) in
-    let other_name : part c.index-start.result c.index-stop.result c.args.line.now ≡ there = name_there table c.args.line.now door c.index-k.ensures c.index-start.ensures c.index-stop.ensures in
+    let other_name : part (get_or c.last_door-door.new.stamps (12544 + get_or c.last_door-door.new.stamps c.last_door-door.result 0) 0) (get_or c.last_door-door.new.stamps (12800 + get_or c.last_door-door.new.stamps c.last_door-door.result 0) 0) c.args.line.now ≡ there = name_there table c.args.line.now door refl refl refl in
     let parted : (c.question-ask.result ≡ SAME → ⊥) → side_of c.question-ask.result name ≡ side_of c.question-ask.result there → ⊥ = λ e q. c.question-ask.ensures.fact e (q ∙ ap (side_of c.question-ask.result) (sym other_name)) in
     let their_side : c.side-their.result ≡ side_of c.question-ask.result there = c.side-their.ensures ∙ ap (side_of c.question-ask.result) other_name in
     adds_kept c.last_door-door.ensures.guessed few c.args.line_no c.args.line.now (c.put_fork.ensures ∙ fork_written door c.args.count c.question-ask.result c.enter-2.ensures their_side)

@@ -1,24 +1,17 @@
--- `line_head_stamps::fill_doors` meets its contract. The loop's invariant: the first k doors are filled. Assumes nothing.
-use mathlib.Core.Path.{◌≡◌, sym, ap, ◌∙◌}
-use Prim.Native.Nat.{◌+◌, ◌-◌, ◌*◌}
+-- `line_head_stamps::fill_doors` meets its contract: the sixteen doors are a part of the list, all of which is written. Assumes nothing.
+use mathlib.Core.Path.{◌≡◌, ap, ◌∙◌}
+use mathlib.Core.List.{List}
+use Prim.Native.Nat.{ℕ, ◌+◌, ◌-◌, ◌*◌}
 use native.Mathlib.Omega.{arith}
-use lib.ListN.{length}
-use Rattle.line_head_stamps.specs.Stamps.{BRANCHES, ROOM}
-use Rattle.line_head_stamps.proofs.Laws.Writing.{filled_none, filled_next, filled_length}
+use borrow.Rule.Slice.PartMut.{mid_len}
+use lib.ListN.{length, take, drop, replicate}
+use Rattle.line_head_stamps.proofs.Laws.Writing.{filled_part}
 use Rattle.line_head_stamps.proofs.fill_doors.Goals as goal
-
-pub loop-k-init : goal.loop-k-init
-loop-k-init c = (omega arith, sym (filled_none c.args.stamps.now (BRANCHES + 16 * c.args.count) c.args.count))
-
-pub bounds-stamps-count : goal.bounds-stamps-count
-bounds-stamps-count c =
-    let long : length c.loop-k.stamps ≡ ROOM = ap length c.loop-k.invariant.1 ∙ filled_length c.args.stamps.now (BRANCHES + 16 * c.args.count) c.args.count c.loop-k.k ∙ c.requires.stamps_len in
-    omega (arith, long)
-
-pub loop-k-preserved : goal.loop-k-preserved
-loop-k-preserved c = (omega arith, rw c.loop-k.invariant.1 (filled_next c.args.stamps.now (BRANCHES + 16 * c.args.count) c.args.count c.loop-k.k))
 
 pub returns : goal.returns
 returns c =
-    let n : c.loop-k.k ≡ 16 = omega arith in
-    rw n at c.loop-k.invariant.1
+    let from : ℕ = 8192 + 16 * c.args.count in
+    let part : List ℕ = take (from + 16 - from) (drop from c.args.stamps.now) in
+    let sixteen : length part ≡ 16 = mid_len from (from + 16) c.args.stamps.now (omega (arith, c.requires.stamps_len, c.requires.count_bound)) ∙ omega arith in
+    filled_part c.args.stamps.now from c.args.count 16 (from + 16 - from) c.fill.new.self (omega (arith, c.requires.stamps_len, c.requires.count_bound)) (omega arith)
+    (c.fill.ensures.after (λ y e. e) ∙ ap (λ (m : ℕ). replicate m c.args.count) sixteen)

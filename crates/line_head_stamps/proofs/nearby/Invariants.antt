@@ -1,10 +1,7 @@
 -- `line_head_stamps::nearby` meets its contract. The loop's invariant: a way on from the door is a way from the first. Assumes nothing.
-use Prim.Native.Nat.{◌-◌, ◌≤◌}
+use Prim.Native.Nat.{◌≤◌}
 use Rattle.line_head_stamps.proofs.Laws.Passing.{Near}
 use Rattle.line_head_stamps.proofs.nearby.Given as goal
 
-abbrev pub invariant-loop-passed : goal.invariant-loop-passed
-invariant-loop-passed l = Near l.stamps l.count l.name l.from l.door l.passed × (l.passed ≤ 4)
-
-abbrev pub decreases-loop-passed : goal.decreases-loop-passed
-decreases-loop-passed l = 4 - l.passed
+abbrev pub invariant-loop : goal.invariant-loop
+invariant-loop l = Near l.stamps l.count l.name l.from l.door l.counter × (l.counter ≤ 4)

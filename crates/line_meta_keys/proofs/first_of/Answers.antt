@@ -5,5 +5,5 @@ use Rattle.line_meta_keys.proofs.first_of.Goals as goal
 pub returns-then-is_colunit : goal.returns-then-is_colunit
 returns-then-is_colunit c = rw (sym c.is_colunit.ensures ∙ c.if-is_colunit.true)
 
-pub returns : goal.returns
-returns c = rw (sym c.is_colunit.ensures ∙ c.if-is_colunit.false)
+pub returns-else-is_colunit : goal.returns-else-is_colunit
+returns-else-is_colunit c = rw (sym c.is_colunit.ensures ∙ c.if-is_colunit.false)

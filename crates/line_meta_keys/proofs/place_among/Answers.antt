@@ -11,15 +11,15 @@ returns-then-j-eq0 c = omega (arith, among_one c.args.i c.args.j c.if-j-eq0.true
 
 pub overflow_mul-result : goal.overflow_mul-result
 overflow_mul-result c =
-    let two : among c.args.i c.args.j ≡ c.from_zero-first.result * 64 + (c.args.j - 1) = omega (arith, among_two c.args.i c.args.j (omega arith)) in
+    let two : among c.args.i c.args.j ≡ c.saturating_sub-first.result * 64 + (c.args.j - 1) = omega (arith, among_two c.args.i c.args.j (omega arith)) in
     omega (arith, two)
 
 pub overflow_add-result : goal.overflow_add-result
 overflow_add-result c =
-    let two : among c.args.i c.args.j ≡ c.from_zero-first.result * 64 + (c.args.j - 1) = omega (arith, among_two c.args.i c.args.j (omega arith)) in
+    let two : among c.args.i c.args.j ≡ c.saturating_sub-first.result * 64 + (c.args.j - 1) = omega (arith, among_two c.args.i c.args.j (omega arith)) in
     omega (arith, two)
 
 pub returns : goal.returns
 returns c =
-    let two : among c.args.i c.args.j ≡ c.from_zero-first.result * 64 + (c.args.j - 1) = omega (arith, among_two c.args.i c.args.j (omega arith)) in
+    let two : among c.args.i c.args.j ≡ c.saturating_sub-first.result * 64 + (c.args.j - 1) = omega (arith, among_two c.args.i c.args.j (omega arith)) in
     omega (arith, two)
