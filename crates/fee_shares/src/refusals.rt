@@ -24,13 +24,6 @@ pub fn within(a: u64, b: u64) -> bool
     b <= LIMIT - a
 }
 
-// The weight as a wide number.
-pub fn wide(w: u32) -> u64
-    ensures { result ≡ w }
-{
-    w as u64
-}
-
 // Whether there are 1 to 64 weights, and as many places.
 fn as_many(n: usize, places: usize) -> bool
     ensures { result ≡ as_many n places }
@@ -42,14 +35,7 @@ fn as_many(n: usize, places: usize) -> bool
 fn any_large(weights: &[u32]) -> bool
     ensures { result ≡ any_large weights.now }
 {
-    let mut i = 0;
-    while i < weights.len() {
-        if weights[i] >= WEIGHT_END {
-            return true;
-        }
-        i += 1;
-    }
-    false
+    weights.iter().any(|w| *w >= WEIGHT_END)
 }
 
 // All weights together; of no weights 0.
@@ -57,13 +43,7 @@ pub fn total_of(weights: &[u32]) -> u64
     requires { length weights.now ≤ MOST_WEIGHTS }
     ensures { result ≡ total weights.now }
 {
-    let mut sum: u64 = 0;
-    let mut i = 0;
-    while i < weights.len() {
-        sum += wide(weights[i]);
-        i += 1;
-    }
-    sum
+    weights.iter().map(|w| u64::from(*w)).sum()
 }
 
 // The number of a call with so many places: the first refusal that applies, or 0.
