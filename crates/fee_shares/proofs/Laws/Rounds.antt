@@ -8,10 +8,12 @@ use native.Mathlib.Numerals.{add-one}
 use native.Mathlib.Nat.{div-le_self, mul-le-mul, le_of_lt, lt_of_le_of_lt}
 use lib.Dec.{eqb, leb, ltb, lit<}
 use lib.ListN.{length, take, set}
-use lib.Seq.{take_all, take-suc-set, get_or-set_same, get_or-set_other}
+use lib.Seq.{take_all, length-take-le, take-suc-set, get_or-set_same, get_or-set_other}
 use borrow.Author.Tests.{eqb-true, eqb-false, le-leb, lt-leb, leb-true, leb-false}
-use Rattle.std.specs.Prelude.{sum, from_bool}
+use Rattle.std.specs.Prelude.{sum}
+use Rattle.std.specs.Int.{from_bool}
 use Rattle.std.specs.List.{list_any}
+use Rattle.std.proofs.lemmas.List.{get_or-take}
 use Rattle.std.proofs.lemmas.List.Sums.{sum_by_more}
 use Rattle.fee_shares.specs.Sums.{sum_to, list_to, at, bit}
 use Rattle.fee_shares.specs.Shares.{total, floor, rest, left, before, ahead, share}
@@ -82,6 +84,15 @@ unfolding before
 ahead_same n r s i h k =
     sum_same n (λ (j : ℕ). bit (before r j i)) (λ (j : ℕ). bit (before s j i)) (λ j l. rw (h j l, h i k))
 
+-- as many remainders as weights are taken
+pub rests_taken : {fee : ℕ} {ws rs : List ℕ} → Granted fee ws → Rests fee ws rs → length (take (length ws) rs) ≡ length ws
+rests_taken {fee} {ws} {rs} is has = length-take-le (length ws) rs (omega (arith, is.few, has.long))
+
+pub ahead_taken : {fee : ℕ} {ws rs : List ℕ} → Granted fee ws → Rests fee ws rs → (i : ℕ) → i < length ws → ahead (length (take (length ws) rs)) (at (take (length ws) rs)) i ≡ ahead (length ws) (at rs) i
+ahead_taken {fee} {ws} {rs} is has i h =
+    ap (λ (n : ℕ). ahead n (at (take (length ws) rs)) i) (rests_taken is has)
+    ∙ ahead_same (length ws) (at (take (length ws) rs)) (at rs) i (λ j l. get_or-take (length ws) rs j 0 l) h
+
 pub share_at_lem :
     {fee : ℕ} {ws rs : List ℕ} → Rests fee ws rs → (i : ℕ) → i < length ws → {cents count over one : ℕ} → cents ≡ floor fee ws i
     → count ≡ ahead (length ws) (at rs) i → over ≡ left fee ws → one ≡ bit (ltb count over) → cents + one ≡ share fee ws i
@@ -104,8 +115,12 @@ sum_first ws (suc i) h =
     omega (arith, sum_by_more (λ x. x) ws i 0 (omega arith), sum_first ws i (omega arith))
 
 pub total_sum : (ws : List ℕ) → sum ws ≡ total ws
-total_sum ws = ap sum (sym (take_all (length ws) ws refl)) ∙ sum_first ws (length ws) (omega arith)
+total_sum ws = ap sum (sym (take_all (length ws) ws (omega arith))) ∙ sum_first ws (length ws) (omega arith)
 
 pub bit_from : (b : Bool) → from_bool b ≡ bit b
 bit_from true = refl
 bit_from false = refl
+
+pub bit_low : (b : Bool) → from_bool b ≤ 1
+bit_low true = omega arith
+bit_low false = omega arith

@@ -8,4 +8,3 @@ use Rattle.fee_shares.proofs.shares.write_shares.Given as goal
 
 abbrev pub invariant-loop-i : goal.invariant-loop-i
 invariant-loop-i l = (length l.shares ≡ length l.weights) × (take l.i l.shares ≡ list_to l.i (share (l.fee) l.weights))
-
