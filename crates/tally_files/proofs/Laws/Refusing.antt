@@ -34,7 +34,7 @@ judged_fits file ys e = go (ltb LIMIT (length file)) refl
     go false p = ltb-false LIMIT (length file) p
 
 module _ (file : Bytes) where
-  refuse_long : LIMIT < length file → outcome TOO_LONG zero ≡ tallied file
+  pub refuse_long : LIMIT < length file → outcome TOO_LONG zero ≡ tallied file
   unfolding tallied refusal
   refuse_long h = rw (lt-ltb LIMIT (length file) h)
 

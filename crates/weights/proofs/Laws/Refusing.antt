@@ -42,7 +42,7 @@ judged_fits file ys e = go (ltb LIMIT (length file)) refl
 -- THE NUMBER
 
 module _ (file : Bytes) (places : ℕ) where
-  refuse_long : LIMIT < length file → TOO_LONG ≡ refusal file places
+  pub refuse_long : LIMIT < length file → TOO_LONG ≡ refusal file places
   unfolding refusal
   refuse_long h = rw (lt-ltb LIMIT (length file) h)
 
