@@ -1,20 +1,19 @@
--- `tally_records::put` meets its contract. The invariant: what is left of the number, written behind the bytes that are there, gives what is promised. Assumes
+-- `tally_records::put` meets its contract. The invariant: the bytes that are there, and what is left of the number behind them, are what is promised. Assumes
 -- nothing.
-use mathlib.Core.Path.{◌≡◌, refl, sym, ◌∙◌}
-use Prim.Native.Nat.{◌+◌}
-use native.Mathlib.Omega.{arith}
-use lib.ListN.{length-set}
-use Rattle.tally_records.proofs.Laws.Little.{laid_next, laid_done}
+use Rattle.std.proofs.Common.{◌≡◌, ◌-◌, refl, ◌∙◌, arith}
+use Rattle.std.proofs.Math.ListN.{length-set}
+use lib.ListN.{length}
+use Rattle.tally_records.proofs.Laws.Little.{little_next, little_done}
 use Rattle.tally_records.proofs.put.Goals as goal
 
-pub loop-rest-init : goal.loop-rest-init
-loop-rest-init c = let e : c.args.at + 0 ≡ c.args.at = omega arith in (omega arith, refl, rw e)
+pub loop-place-init : goal.loop-place-init
+loop-place-init c = let z : length c.args.places.now - 0 ≡ length c.args.places.now = omega arith in (refl, rw z)
 
-pub bounds-buffer-at : goal.bounds-buffer-at
-bounds-buffer-at c = omega arith
-
-pub loop-rest-preserved : goal.loop-rest-preserved
-loop-rest-preserved c = (omega arith, rw length-set c.loop-rest.invariant.1, rw c.low.ensures (sym (laid_next c.args.at c.loop-rest.i c.loop-rest.rest c.loop-rest.left c.loop-rest.buffer (omega arith) (omega arith)) ∙ c.loop-rest.invariant.2))
+pub loop-place-preserved : goal.loop-place-preserved
+loop-place-preserved c = (
+  length-set c.loop-place.places c.loop-place.place-index c.low.result ∙ c.loop-place.invariant.0,
+  rw c.low.ensures (little_next c.loop-place.place-index (length c.args.places.now) c.loop-place.left c.loop-place.places (omega arith) (omega arith) ∙ c.loop-place.invariant.1),
+)
 
 pub returns : goal.returns
-returns c = sym (laid_done (c.args.at + c.loop-rest.i) c.loop-rest.rest c.loop-rest.left c.loop-rest.buffer (omega arith)) ∙ c.loop-rest.invariant.2
+returns c = little_done c.loop-place.place-index (length c.args.places.now) c.loop-place.left c.loop-place.places (omega arith) (omega arith) ∙ c.loop-place.invariant.1
