@@ -9,7 +9,7 @@ use mztab::cells::{cell, cell_or, reading};
 use test_fields::{next_field, short_at};
 use test_telling::tell;
 use text::lines::line_at;
-use text_bytes::{same_bytes, seek};
+use text_bytes::same_bytes;
 
 const CASE_END: u8 = 30;
 
@@ -86,14 +86,8 @@ fn run_case(case: &[u8]) {
 
 // Runs all cases of a table, in order.
 fn run_all(table: &[u8]) {
-    let mut at = 0;
-    while at < table.len() {
-        let e = seek(table, at, CASE_END);
-        run_case(&table[at..e]);
-        if e == table.len() {
-            return;
-        }
-        at = e + 1;
+    for part in table.split_inclusive(|b| *b == CASE_END) {
+        run_case(part.strip_suffix(&[CASE_END]).unwrap_or(part));
     }
 }
 

@@ -5,7 +5,6 @@
 
 use mender::mend;
 use test_places::{print_next, print_places};
-use text_bytes::seek;
 
 const FILE_END: u8 = 30;
 
@@ -18,7 +17,7 @@ const PLACES: usize = 5;
 // What the call says and lists.
 fn print_outcome(room: u32, number: u32, length: usize, count: u32, places: &[u32]) {
     io::write_all(1, b"mend ");
-    io::print_decimal(1, room as u64);
+    io::print_decimal(1, u64::from(room));
     io::write_all(1, b":");
     print_next(number);
     io::write_all(1, b" ");
@@ -61,16 +60,11 @@ fn run_little(file: &[u8]) {
 
 // Runs all files of a table, in order.
 fn run_all(table: &[u8]) {
-    let mut at = 0;
-    while at < table.len() {
-        let e = seek(table, at, FILE_END);
-        run_roomy(&table[at..e]);
-        run_little(&table[at..e]);
+    for part in table.split_inclusive(|b| *b == FILE_END) {
+        let file = part.strip_suffix(&[FILE_END]).unwrap_or(part);
+        run_roomy(file);
+        run_little(file);
         io::write_all(1, b".\n");
-        if e == table.len() {
-            return;
-        }
-        at = e + 1;
     }
 }
 
