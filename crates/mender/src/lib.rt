@@ -146,7 +146,8 @@ pub fn mend(file: &[u8], copy: &mut [u8], changes: &mut [u32]) -> Result<Copied,
     let mut no_changes = [0u32; 1];
     let planned = mend_lines(&mut no_copy, &mut no_changes, &rows, file);
     let size = planned.to;
-    if (LIMIT < size) | (copy.len() < size) {
+    let no_room = (LIMIT < size) | (copy.len() < size);
+    if no_room {
         return Err(Refusal::NoRoom);
     }
     Ok(mend_lines(copy, changes, &rows, file))

@@ -7,10 +7,13 @@ use Rattle.mender.proofs.mend.Goals as goal
 pub returns-then-file-gt-LIMIT : goal.returns-then-file-gt-LIMIT
 returns-then-file-gt-LIMIT c = mended_long c.args.file.now c.args.copy.now c.args.changes.now c.if-file-gt-LIMIT.true
 
-pub returns-then-LIMIT : goal.returns-then-LIMIT
+pub returns-then-no_room : goal.returns-then-no_room
 unfolding book_in book_of
-returns-then-LIMIT c = ?
+returns-then-no_room c = mended_none c.args.file.now c.args.copy.now c.args.changes.now c.if-file-gt-LIMIT.false c.mend_lines-planned.ensures c.if-no_room.true
 
 pub returns : goal.returns
 unfolding book_in book_of
-returns c = ?
+returns c =
+    mended_done c.args.file.now c.args.copy.now c.args.changes.now c.if-file-gt-LIMIT.false
+    (mended_room c.args.file.now c.args.copy.now c.args.changes.now c.if-file-gt-LIMIT.false c.mend_lines-planned.ensures c.if-no_room.false)
+    c.mend_lines.ensures
