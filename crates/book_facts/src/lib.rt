@@ -13,7 +13,6 @@ ghost use Rattle.book_facts.specs.Asked.{asks, asking_by};
 
 use book_ids::{any_marked, mark_line};
 use book_kinds::of_kind;
-use text::Part;
 use text::cells::{count_cells, has_code, nth_cell};
 use text::lines::{line_at, next_opening};
 use text_bytes::{begins_with, both, either, same_bytes};
@@ -94,19 +93,24 @@ fn note_line(facts: Facts, line: &[u8], n: u32) -> Facts
     requires { is_meta line.now ≡ true }
     ensures { result ≡ noted facts n line.now }
 {
-    let Part::At(a, e) = nth_cell(line, 1) else {
+    let Some(key) = nth_cell(line, 1) else {
         return facts;
     };
-    if !begins_with(b"mzTab-", &line[a..e]) {
+    if !begins_with(b"mzTab-", &line[key.start..key.end]) {
         return facts;
     }
     if count_cells(line) != 3 {
         return facts;
     }
-    let Part::At(b, f) = nth_cell(line, 2) else {
+    let Some(value) = nth_cell(line, 2) else {
         return facts;
     };
-    note_field(facts, &line[a..e], &line[b..f], n)
+    note_field(
+        facts,
+        &line[key.start..key.end],
+        &line[value.start..value.end],
+        n,
+    )
 }
 
 // What line n says is taken up in the flags and the facts.

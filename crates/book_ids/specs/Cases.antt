@@ -1,16 +1,15 @@
 -- Worked examples of the ids that a file declares, computed. Assumes nothing.
-use Rattle.std.specs.Prelude.{◌≡◌, refl, true, false}
+use Rattle.std.specs.Prelude.{◌≡◌, refl, true, false, Some, None}
 use Rattle.text_bytes.specs.Bytes.{bytes, same, begins, any, on_first, split_on}
 use Rattle.text.specs.Lines.{starts_lf, lines, coded, is_field}
 use Rattle.value_references.specs.Index.{written, digits, number, bracketed, index_at}
 use Rattle.book_names.specs.Names.{pieces_from, entry_of, fits, first_of}
 use Rattle.book.specs.Book.{mz_tab, key_of}
 use Rattle.book.specs.Keys.{keys}
-use Rattle.book_ids.specs.Ids.{declares, declared, index_after, id_in, id_of}
-use Rattle.book_ids.specs.declared.Id.TheVariants.{Nothing, Of}
+use Rattle.book_ids.specs.Ids.{declares, declared, index_after, id, id_in, id_of}
 
 -- P: `assay[64]` an id, `assay[65]`, `assay[01]`, `assay[0]` not, as a single statement
-pub ids : (id_of (bytes "assay[64]") ≡ Of 1 64) × (id_of (bytes "assay[65]") ≡ Nothing) × (id_of (bytes "assay[01]") ≡ Nothing) × (id_of (bytes "assay[0]") ≡ Nothing)
+pub ids : (id_of (bytes "assay[64]") ≡ Some (id 1 64)) × (id_of (bytes "assay[65]") ≡ None) × (id_of (bytes "assay[01]") ≡ None) × (id_of (bytes "assay[0]") ≡ None)
 unfolding id_of id_in index_after begins bytes index_at bracketed digits number
 ids = (refl, refl, refl, refl)
 

@@ -1,5 +1,5 @@
 -- The ids of a file: which it declares, by families 0 sample, 1 assay, 2 study variable, 3 run. Assumes nothing.
-use Rattle.std.specs.Prelude.{ℕ, ◌+◌, ◌-◌, ◌<◌, ◌≡◌, Bool, true, false, cond, ◌&&◌, List, [], ◌∷◌, ◌++◌, map, eqb, length, get_or, drop, set}
+use Rattle.std.specs.Prelude.{ℕ, ◌+◌, ◌-◌, ◌<◌, ◌≡◌, Bool, true, false, cond, ◌&&◌, List, [], ◌∷◌, ◌++◌, map, eqb, length, get_or, drop, set, Option, Some, None}
 use Rattle.text_bytes.specs.Bytes.{Bytes, bytes, begins, any}
 use Rattle.text.specs.Lines.{lines, is_field, key_cell}
 use Rattle.value_references.specs.Index.{written, index_at, index_in}
@@ -7,7 +7,6 @@ use Rattle.value_references.specs.References.{families, family}
 use Rattle.book_names.specs.Names.{is_known}
 use Rattle.book.specs.Book.{Book, up_from, key_of}
 use Rattle.book_ids.specs.declared.Id.{Id}
-use Rattle.book_ids.specs.declared.Id.TheVariants.{Nothing, Of}
 
 -- whether a line declares id i of family f: an MTD line that has three cells and a known key beginning with it
 unfoldable pub declares : Book → ℕ → ℕ → Bytes → Bool
@@ -44,24 +43,27 @@ unfoldable pub index_after : Bytes → Bytes → ℕ
 index_after w name = cond (begins w name) (index_in (index_at (drop (length w) name))) 0
 
 -- the id that a name begins with; f numbers the words
-unfoldable pub id_in : ℕ → List Bytes → Bytes → Id
-id_in f [] name = Nothing
+abbrev pub id : ℕ → ℕ → Id
+id f i = record { family = f; index = i }
+
+unfoldable pub id_in : ℕ → List Bytes → Bytes → Option Id
+id_in f [] name = None
 id_in f (w ∷ ws) name =
     let other = id_in (f + 1) ws name in
-    cond (eqb (index_after w name) 0) other (Of f (index_after w name))
+    cond (eqb (index_after w name) 0) other (Some (id f (index_after w name)))
 
-unfoldable pub id_of : Bytes → Id
+unfoldable pub id_of : Bytes → Option Id
 id_of name = id_in 0 (map bytes families) name
 
 -- the id that a known key begins with
-unfoldable pub key_id : Book → Bytes → Id
-key_id b name = cond (is_known (key_of b name)) (id_of name) Nothing
+unfoldable pub key_id : Book → Bytes → Option Id
+key_id b name = cond (is_known (key_of b name)) (id_of name) None
 
 -- the id that a line declares
-unfoldable pub line_id : Book → Bytes → Id
-line_id b line = cond (is_field line) (key_id b (key_cell line)) Nothing
+unfoldable pub line_id : Book → Bytes → Option Id
+line_id b line = cond (is_field line) (key_id b (key_cell line)) None
 
 -- the flags with the id's one set
-unfoldable pub marked : List (List Bool) → Id → List (List Bool)
-marked t Nothing = t
-marked t (Of f i) = set t f (set (get_or t f []) (i - 1) true)
+unfoldable pub marked : List (List Bool) → Option Id → List (List Bool)
+marked t None = t
+marked t (Some d) = set t d.family (set (get_or t d.family []) (d.index - 1) true)

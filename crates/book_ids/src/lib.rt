@@ -7,18 +7,17 @@ ghost use Rattle.book_ids.specs.Ids.{index_after, id_of, key_id, line_id, marked
 
 use book::key;
 use book_names::Found;
-use text::Part;
 use text::cells::{count_cells, has_code, nth_cell};
 use text_bytes::begins_with;
 use value_references::index::{index_in, read_index};
 use value_references::words::{word, words};
 use value_references::{FAMILIES, INDICES};
 
-// An id: its family, 0 sample, 1 assay, 2 study variable, 3 run, and its index.
+// An id: its family, 0 sample, 1 assay, 2 study variable, 3 run, and its index, from 1.
 #[derive(Clone, Copy)]
-pub enum Id {
-    Nothing,
-    Of(usize, usize),
+pub struct Id {
+    pub family: usize,
+    pub index: usize,
 }
 
 // The index that stands after the word at the front of the name, 0 for none.
@@ -33,7 +32,7 @@ fn index_after(word: &[u8], name: &[u8]) -> usize
 }
 
 // The id that the name begins with.
-pub fn id_of(name: &[u8]) -> Id
+pub fn id_of(name: &[u8]) -> Option<Id>
     ensures { result ≡ id_of name.now }
 {
     let all = words();
@@ -41,49 +40,47 @@ pub fn id_of(name: &[u8]) -> Id
     while f < FAMILIES {
         let i = index_after(word(&all, f), name);
         if i != 0 {
-            return Id::Of(f, i);
+            return Some(Id {
+                family: f,
+                index: i,
+            });
         }
         f += 1;
     }
-    Id::Nothing
+    None
 }
 
 // The id that a known key begins with.
-pub fn key_id(book: &[u8], name: &[u8]) -> Id
+pub fn key_id(book: &[u8], name: &[u8]) -> Option<Id>
     requires { IsBook book.now }
     ensures { result ≡ key_id (book_in book.now) name.now }
 {
-    let id = id_of(name);
-    if let Id::Nothing = id {
-        return Id::Nothing;
-    }
+    let id = id_of(name)?;
     match key(book, name) {
-        Found::Unknown(_) => Id::Nothing,
+        Found::Unknown(_) => None,
         Found::Known {
             entry: _,
             kind: _,
             family: _,
             i: _,
             j: _,
-        } => id,
+        } => Some(id),
     }
 }
 
 // The id that the line declares.
-pub fn line_id(book: &[u8], line: &[u8]) -> Id
+pub fn line_id(book: &[u8], line: &[u8]) -> Option<Id>
     requires { IsBook book.now }
     ensures { result ≡ line_id (book_in book.now) line.now }
 {
     if !has_code(line, b"MTD") {
-        return Id::Nothing;
+        return None;
     }
-    let Part::At(a, e) = nth_cell(line, 1) else {
-        return Id::Nothing;
-    };
+    let key = nth_cell(line, 1)?;
     if count_cells(line) != 3 {
-        return Id::Nothing;
+        return None;
     }
-    key_id(book, &line[a..e])
+    key_id(book, &line[key.start..key.end])
 }
 
 // The flags, with that of the id that the line declares.
@@ -91,9 +88,8 @@ pub fn mark_line(flags: &mut [[bool; INDICES]; FAMILIES], book: &[u8], line: &[u
     requires { IsBook book.now }
     ensures { flags.new ≡ marked flags.old (line_id (book_in book.now) line.now) }
 {
-    match line_id(book, line) {
-        Id::Nothing => {}
-        Id::Of(f, i) => flags[f][i - 1] = true,
+    if let Some(id) = line_id(book, line) {
+        flags[id.family][id.index - 1] = true;
     }
 }
 

@@ -7,7 +7,7 @@ ghost use Rattle.rows.specs.Rows.{header_of};
 ghost use Rattle.column_marks.specs.Columns.{PROTEIN as protein};
 ghost use Rattle.column_marks.specs.Marks.{variable_of, counter_of, mark_of, Marked};
 
-use rows::{Row, row_of};
+use rows::row_of;
 use scan::state::MOST_CELLS;
 use text::cells::cell_end;
 use value_references::reference;
@@ -105,8 +105,8 @@ pub fn marks_of(file: &[u8], asked: Asked) -> Marks
     requires { length file.now ≤ limit }
     ensures { Marked asked (header_of file.now protein) result }
 {
-    let Row::On(_, a, e) = row_of(file, PROTEIN, 0) else {
+    let Some(header) = row_of(file, PROTEIN, 0) else {
         return marks_in(b"", asked);
     };
-    marks_in(&file[a..e], asked)
+    marks_in(&file[header.start..header.end], asked)
 }

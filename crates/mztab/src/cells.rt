@@ -8,8 +8,8 @@ use crate::records::Reading;
 use book::directory::is_section;
 use book_text::directory;
 use numbers::{NO_CELL, NO_ROW, NO_SECTION, TOO_LONG};
-use rows::{Row, column_of, row_of};
-use text::{LIMIT, Part};
+use rows::{column_of, row_of};
+use text::LIMIT;
 use text_bytes::same_bytes;
 use value_readings::{Value, read};
 
@@ -47,18 +47,18 @@ pub fn locate(file: &[u8], section: u32, row: u32, column: u32) -> Place
     if !is_section(&book, section) {
         return refused(NO_SECTION);
     }
-    let Row::On(line, a, e) = row_of(file, section, row) else {
+    let Some(on) = row_of(file, section, row) else {
         return refused(NO_ROW);
     };
-    let Part::At(from, to) = column_of(&file[a..e], column) else {
+    let Some(part) = column_of(&file[on.start..on.end], column) else {
         return refused(NO_CELL);
     };
     let cell = column + 1;
-    let start = a + from;
-    let end = a + to;
+    let start = on.start + part.start;
+    let end = on.start + part.end;
     Place {
         number: 0,
-        line,
+        line: on.line,
         cell,
         start,
         end,

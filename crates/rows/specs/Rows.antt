@@ -1,14 +1,12 @@
 -- Rows and columns, as the cell calls count them; how many rows a section has; a column by its name. Assumes nothing.
-use Rattle.std.specs.Prelude.{ℕ, suc, ◌-◌, ◌≤◌, ◌≡◌, cond, List, [], ◌∷◌, length, drop, eqb}
+use Rattle.std.specs.Prelude.{ℕ, suc, ◌-◌, ◌≤◌, ◌≡◌, cond, List, [], ◌∷◌, length, drop, eqb, Option as Answer, Some, None}
 use Rattle.std.proofs.Math.Option.{Option, none, some}
 use Rattle.std.proofs.Math.ListN.{get_elem?}
 use Rattle.text_bytes.specs.Bytes.{Bytes, same, count}
 use Rattle.text_bytes.specs.Places.{part, after}
 use Rattle.text.specs.Lines.{TAB, LF, lines, cells, coded}
 use Rattle.text.specs.declared.Part.{Part}
-use Rattle.text.specs.declared.Part.TheVariants.{At, Nothing}
 use Rattle.rows.specs.declared.Row.{Row}
-use Rattle.rows.specs.declared.Row.TheVariants.{On, Absent}
 use Rattle.book.specs.Book.{row_code, code_for, book_of}
 
 -- a line with its number
@@ -59,11 +57,11 @@ unfoldable pub cell_at : Bytes → ℕ → Option Bytes
 cell_at line column = cond (eqb column 0) none (get_elem? (cells line) column)
 
 -- a line's number and part of the file are the row that is meant, or there is none
-abbrev pub FindsRow : Bytes → Option Line → Row → Type 0
-FindsRow file o (On n a e) = (a ≤ e) × (e ≤ length file) × (a ≡ after LF (n - 1) file) × (o ≡ some (line_of n (part a e file)))
-FindsRow file o Absent = o ≡ none
+abbrev pub FindsRow : Bytes → Option Line → Answer Row → Type 0
+FindsRow file o (Some r) = (r.start ≤ r.end) × (r.end ≤ length file) × (r.start ≡ after LF (r.line - 1) file) × (o ≡ some (line_of r.line (part r.start r.end file)))
+FindsRow file o None = o ≡ none
 
 -- a part of a line is the column that is meant, or there is none
-abbrev pub FindsColumn : Bytes → ℕ → Part → Type 0
-FindsColumn line column (At a e) = (a ≤ e) × (e ≤ length line) × (a ≡ after TAB column line) × (cell_at line column ≡ some (part a e line))
-FindsColumn line column Nothing = cell_at line column ≡ none
+abbrev pub FindsColumn : Bytes → ℕ → Answer Part → Type 0
+FindsColumn line column (Some p) = (p.start ≤ p.end) × (p.end ≤ length line) × (p.start ≡ after TAB column line) × (cell_at line column ≡ some (part p.start p.end line))
+FindsColumn line column None = cell_at line column ≡ none

@@ -14,15 +14,16 @@ use book_text::directory;
 use numbers::{NO_SECTION, TOO_LONG};
 use text::{LIMIT, Part, cells, lines};
 
-// A line's number and its part of the file, or none.
+// A line of the file: its number, and where its text starts and ends.
 #[derive(Clone, Copy)]
-pub enum Row {
-    On(u32, usize, usize),
-    Absent,
+pub struct Row {
+    pub line: u32,
+    pub start: usize,
+    pub end: usize,
 }
 
 // Of the lines whose cell 1 is the code, the one that has n before it.
-fn nth_coded(file: &[u8], code: &[u8], n: usize) -> Row
+fn nth_coded(file: &[u8], code: &[u8], n: usize) -> Option<Row>
     requires { length file.now ≤ limit }
     ensures { FindsRow file.now (get_elem? (having code.now (numbered 1 (lines file.now))) n) result }
 {
@@ -35,18 +36,22 @@ fn nth_coded(file: &[u8], code: &[u8], n: usize) -> Row
         let after = line_no + 1;
         if cells::has_code(&file[at..end], code) {
             if left == 0 {
-                return Row::On(line_no, at, end);
+                return Some(Row {
+                    line: line_no,
+                    start: at,
+                    end,
+                });
             }
             left -= 1;
         }
         at = line.next;
         line_no = after;
     }
-    Row::Absent
+    None
 }
 
 // Row 0 is the section's first header, row r the r-th line with its row code.
-pub fn row_of(file: &[u8], section: u32, row: u32) -> Row
+pub fn row_of(file: &[u8], section: u32, row: u32) -> Option<Row>
     requires { (length file.now ≤ limit) × (is_section (book_of (lines file.now)) section ≡ true) }
     ensures { FindsRow file.now (row_of file.now section row) result }
 {
@@ -59,11 +64,11 @@ pub fn row_of(file: &[u8], section: u32, row: u32) -> Row
 }
 
 // Column c of a line is its cell c + 1; there is no column 0.
-pub fn column_of(line: &[u8], column: u32) -> Part
+pub fn column_of(line: &[u8], column: u32) -> Option<Part>
     ensures { FindsColumn line.now column result }
 {
     if column == 0 {
-        return Part::Nothing;
+        return None;
     }
     cells::nth_cell(line, column as usize)
 }

@@ -78,14 +78,14 @@ fn letter(family: usize) -> u8 {
 }
 
 // The id that a key declares.
-fn push_id(out: &mut [u8], at: usize, id: Id) -> usize
+fn push_id(out: &mut [u8], at: usize, id: Option<Id>) -> usize
     ensures { result ≤ length out.new }
 {
     match id {
-        Id::Nothing => push(out, at, b'-'),
-        Id::Of(family, i) => {
-            let a = push(out, at, letter(family));
-            push_spaced(out, a, i)
+        None => push(out, at, b'-'),
+        Some(id) => {
+            let a = push(out, at, letter(id.family));
+            push_spaced(out, a, id.index)
         }
     }
 }

@@ -1,14 +1,10 @@
 -- `book_facts::note_line` meets its contract: a line with another key, or with other cells than three, says nothing. Assumes nothing.
 use borrow.Author.Tests.{not-true}
 use native.Mathlib.Omega.{arith}
-use mathlib.Core.Path.{◌≡◌, sym, ap, ◌∙◌}
-use mathlib.Core.Option.{some}
-use Prim.Native.Nat.{◌≤◌}
-use lib.ListN.{length, get_elem?}
+use mathlib.Core.Path.{sym, ap, ◌∙◌}
 use Rattle.text_bytes.specs.Bytes.{bytes, begins}
-use Rattle.text_bytes.specs.Places.{part}
 use Rattle.text.specs.Lines.{cells, cell}
-use Rattle.text.proofs.Laws.CellParts.{found, missing}
+use Rattle.text.proofs.Laws.CellParts.{missing}
 use Rattle.book_facts.proofs.Laws.Surveying.{nth_some, nth_none, no_field, is_field_lem, noted_none, noted_other, noted_field_lem}
 use Rattle.book_facts.proofs.note_line.Goals as goal
 
@@ -20,9 +16,7 @@ returns-in_default c =
 pub returns-then-not-begins_with : goal.returns-then-not-begins_with
 unfolding bytes cell
 returns-then-not-begins_with c =
-    let key : (c.in-At.a ≤ c.in-At.e) × (c.in-At.e ≤ length c.args.line.now) × (get_elem? (cells c.args.line.now) 1 ≡ some (part c.in-At.a c.in-At.e c.args.line.now)) = let f = found c.args.line.now 1 c.nth_cell.result c.in-At.a c.in-At.e c.in-At.is c.nth_cell.ensures in
-    (f.0, f.1, f.3) in
-    let e = nth_some (cells c.args.line.now) 1 _ key.2 in
+    let e = nth_some (cells c.args.line.now) 1 _ c.in-Some.ensures.3 in
     sym (noted_other c.args.facts c.args.n c.args.line.now (ap (begins (bytes "mzTab-")) e ∙ sym c.begins_with.ensures ∙ not-true c.begins_with.result c.if-not-begins_with.true-raw))
 
 pub returns-then-count_cells-ne3 : goal.returns-then-count_cells-ne3
@@ -35,9 +29,5 @@ returns-in_default-nth_cell c =
 
 pub returns : goal.returns
 returns c =
-    let key : (c.in-At.a ≤ c.in-At.e) × (c.in-At.e ≤ length c.args.line.now) × (get_elem? (cells c.args.line.now) 1 ≡ some (part c.in-At.a c.in-At.e c.args.line.now)) = let f = found c.args.line.now 1 c.nth_cell.result c.in-At.a c.in-At.e c.in-At.is c.nth_cell.ensures in
-    (f.0, f.1, f.3) in
-    let value : (c.in-At-nth_cell.b ≤ c.in-At-nth_cell.f) × (c.in-At-nth_cell.f ≤ length c.args.line.now) × (get_elem? (cells c.args.line.now) 2 ≡ some (part c.in-At-nth_cell.b c.in-At-nth_cell.f c.args.line.now)) = let g = found c.args.line.now 2 c.nth_cell-2.result c.in-At-nth_cell.b c.in-At-nth_cell.f c.in-At-nth_cell.is c.nth_cell-2.ensures in
-    (g.0, g.1, g.3) in
     let three = sym c.count_cells.ensures ∙ c.if-count_cells-ne3.false in
-    c.note_field.ensures ∙ noted_field_lem c.args.facts c.args.n c.args.line.now (is_field_lem c.args.line.now c.requires three) (nth_some (cells c.args.line.now) 1 _ key.2) (nth_some (cells c.args.line.now) 2 _ value.2)
+    c.note_field.ensures ∙ noted_field_lem c.args.facts c.args.n c.args.line.now (is_field_lem c.args.line.now c.requires three) (nth_some (cells c.args.line.now) 1 _ c.in-Some.ensures.3) (nth_some (cells c.args.line.now) 2 _ c.in-Some-nth_cell.ensures.3)

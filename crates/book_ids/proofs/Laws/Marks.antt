@@ -23,12 +23,12 @@ use Rattle.book_ids.specs.Ids.{declares, declared, flag, Flags, Declared, id_of,
 use Rattle.book_names.specs.declared.Found.{Found}
 use Rattle.book_names.specs.declared.Found.TheVariants.{Unknown}
 use Rattle.book_ids.specs.declared.Id.{Id}
-use Rattle.book_ids.specs.declared.Id.TheVariants.{Nothing, Of}
+use Rattle.std.specs.Prelude.{Option, Some, None}
 use Rattle.book_ids.proofs.Laws.Words.{is_id, id_is, id_range}
 
 -- A KEY's id
 module _ (book : Book) (name : List ℕ) where
-  pub key_unknown : (z : Flaw) → key_of book name ≡ Unknown z → key_id book name ≡ Nothing
+  pub key_unknown : (z : Flaw) → key_of book name ≡ Unknown z → key_id book name ≡ None
   unfolding key_id
   key_unknown z h = rw h
 
@@ -36,21 +36,21 @@ module _ (book : Book) (name : List ℕ) where
   unfolding key_id
   key_known f h k = rw (h, k)
 
-  pub key_none : id_of name ≡ Nothing → key_id book name ≡ Nothing
+  pub key_none : id_of name ≡ None → key_id book name ≡ None
   unfolding key_id
   key_none h = go (is_known (key_of book name))
     where
-      go : (t : Bool) → cond t (id_of name) Nothing ≡ Nothing
+      go : (t : Bool) → cond t (id_of name) None ≡ None
       go true = h
       go false = refl
 
 -- A LINE's id
 module _ (book : Book) (line : List ℕ) where
-  pub line_other : coded (bytes "MTD") line ≡ false → line_id book line ≡ Nothing
+  pub line_other : coded (bytes "MTD") line ≡ false → line_id book line ≡ None
   unfolding line_id is_field
   line_other h = rw h
 
-  pub line_cells : (length (cells line) ≡ 3 → ⊥) → line_id book line ≡ Nothing
+  pub line_cells : (length (cells line) ≡ 3 → ⊥) → line_id book line ≡ None
   unfolding line_id is_field
   line_cells n = rw (ne_eqb (length (cells line)) 3 n, and-false (coded (bytes "MTD") line))
 
@@ -73,17 +73,17 @@ pub declares_is : (book : Book) (line : List ℕ) (f i : ℕ) → f < 4 → 1 �
 unfolding declares line_id key_id is_id
 declares_is book line f i hf lo hi = go (is_field line) (is_known (key_of book (key_cell line)))
   where
-    go : (t u : Bool) → (t && u && begins (family f ++ written i) (key_cell line)) ≡ is_id (cond t (cond u (id_of (key_cell line)) Nothing) Nothing) f i
+    go : (t u : Bool) → (t && u && begins (family f ++ written i) (key_cell line)) ≡ is_id (cond t (cond u (id_of (key_cell line)) None) None) f i
     go true true = id_is (key_cell line) f i hf lo hi
     go true false = refl
     go false u = refl
 
-pub line_range : (book : Book) (line : List ℕ) (f i : ℕ) → line_id book line ≡ Of f i → (f < 4) × (1 ≤ i) × (i ≤ 64)
+pub line_range : (book : Book) (line : List ℕ) (d : Id) → line_id book line ≡ Some d → (d.family < 4) × (1 ≤ d.index) × (d.index ≤ 64)
 unfolding line_id key_id
-line_range book line f i h = go (is_field line) (is_known (key_of book (key_cell line))) h
+line_range book line d h = go (is_field line) (is_known (key_of book (key_cell line))) h
   where
-    go : (t u : Bool) → cond t (cond u (id_of (key_cell line)) Nothing) Nothing ≡ Of f i → (f < 4) × (1 ≤ i) × (i ≤ 64)
-    go true true e = id_range (key_cell line) f i e
+    go : (t u : Bool) → cond t (cond u (id_of (key_cell line)) None) None ≡ Some d → (d.family < 4) × (1 ≤ d.index) × (d.index ≤ 64)
+    go true true e = id_range (key_cell line) d e
     go true false e = absurd (let z : ◌≡◌ {A = ℕ} 0 1 = cc in omega arith)
     go false u e = absurd (let z : ◌≡◌ {A = ℕ} 0 1 = cc in omega arith)
 
@@ -133,14 +133,14 @@ module _ (t : List (List Bool)) (is : Flags t) (g j : ℕ) (hg : g < 4) (hj : j 
       subst⁻¹ (λ (x : ℕ). flag new x i ≡ flag t x i) e (other_i i (λ (x : i ≡ j). eqb-false j i ei (sym x))) ∙ sym (or-false (flag t f i))
   set_flag f i false q ef ei = other_f f i (λ (x : f ≡ g). eqb-false g f ef (sym x)) ∙ sym (or-false (flag t f i))
 
-module _ (t : List (List Bool)) (is : Flags t) (d : Id) (range : (f i : ℕ) → d ≡ Of f i → (f < 4) × (1 ≤ i) × (i ≤ 64)) where
+module _ (t : List (List Bool)) (is : Flags t) (d : Option Id) (range : (x : Id) → d ≡ Some x → (x.family < 4) × (1 ≤ x.index) × (x.index ≤ 64)) where
   pub marked_flags : Flags (marked t d)
   unfolding marked
   marked_flags = go d refl
     where
-      go : (x : Id) → d ≡ x → Flags (marked t x)
-      go Nothing e = is
-      go (Of g j) e = let r = range g j e in set_flags t is g (j - 1) r.0 (omega (arith, r.1, r.2))
+      go : (x : Option Id) → d ≡ x → Flags (marked t x)
+      go None e = is
+      go (Some x) e = let r = range x e in set_flags t is x.family (x.index - 1) r.0 (omega (arith, r.1, r.2))
 
   pub marked_flag : (f i : ℕ) → flag (marked t d) f i ≡ (flag t f i || is_id d f (i + 1))
   unfolding marked is_id
@@ -153,12 +153,12 @@ module _ (t : List (List Bool)) (is : Flags t) (d : Id) (range : (f i : ℕ) →
           by true e = let q = eqb-true j (i + 1) e in eq-eqb (j - 1) i (omega arith)
           by false e = ne_eqb (j - 1) i (λ (x : j - 1 ≡ i). eqb-false j (i + 1) e (omega arith))
 
-      go : (x : Id) → d ≡ x → flag (marked t x) f i ≡ (flag t f i || is_id x f (i + 1))
-      go Nothing e = sym (or-false (flag t f i))
-      go (Of g j) e =
-          let r = range g j e in
-          set_flag t is g (j - 1) r.0 (omega (arith, r.1, r.2)) f i (eqb g f) (eqb (j - 1) i) refl refl
-          ∙ ap (λ (b : Bool). flag t f i || (eqb g f && b)) (shift j r.1)
+      go : (x : Option Id) → d ≡ x → flag (marked t x) f i ≡ (flag t f i || is_id x f (i + 1))
+      go None e = sym (or-false (flag t f i))
+      go (Some x) e =
+          let r = range x e in
+          set_flag t is x.family (x.index - 1) r.0 (omega (arith, r.1, r.2)) f i (eqb x.family f) (eqb (x.index - 1) i) refl refl
+          ∙ ap (λ (b : Bool). flag t f i || (eqb x.family f && b)) (shift x.index r.1)
 
 -- ALL LINES: the flags so far and the lines that are left decide
 abbrev pub Left : Book → List (List Bool) → List ℕ → ℕ → Type 0

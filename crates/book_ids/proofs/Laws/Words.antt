@@ -14,9 +14,9 @@ use Rattle.value_references.specs.declared.index.Index.{Index}
 use Rattle.value_references.specs.declared.index.Index.TheVariants.{Not, Bad, Is}
 use Rattle.value_references.specs.References.{families, family}
 use Rattle.value_references.proofs.Laws.Indices.{index_read, index_written}
-use Rattle.book_ids.specs.Ids.{index_after, id_in, id_of}
+use Rattle.book_ids.specs.Ids.{index_after, id, id_in, id_of}
 use Rattle.book_ids.specs.declared.Id.{Id}
-use Rattle.book_ids.specs.declared.Id.TheVariants.{Nothing, Of}
+use Rattle.std.specs.Prelude.{Option, Some, None}
 use Rattle.text_bytes.proofs.Laws.Tests.{absurd_bool, and_both}
 
 -- WORDS
@@ -100,12 +100,12 @@ id_begins w s i lo hi = begins_append w (written i) s ∙ go (begins w s) refl
     go false e = sym (ne_eqb (index_after w s) i (λ (x : index_after w s ≡ i). omega (arith, after_none w s e)))
 
 -- THE ID that a name begins with
-unfoldable pub is_id : Id → ℕ → ℕ → Bool
-is_id Nothing f i = false
-is_id (Of g j) f i = eqb g f && eqb j i
+unfoldable pub is_id : Option Id → ℕ → ℕ → Bool
+is_id None f i = false
+is_id (Some d) f i = eqb d.family f && eqb d.index i
 
 module _ (w : List ℕ) (ws : List (List ℕ)) (f : ℕ) (s : List ℕ) where
-  pub id_here : (v : ℕ) → v ≡ index_after w s → (v ≡ 0 → ⊥) → id_in f (w ∷ ws) s ≡ Of f v
+  pub id_here : (v : ℕ) → v ≡ index_after w s → (v ≡ 0 → ⊥) → id_in f (w ∷ ws) s ≡ Some (id f v)
   unfolding id_in
   id_here v e h = rw (← e, ne_eqb v 0 h)
 
@@ -113,7 +113,7 @@ module _ (w : List ℕ) (ws : List (List ℕ)) (f : ℕ) (s : List ℕ) where
   unfolding id_in
   id_later v e h = rw (← e, eq-eqb v 0 h)
 
-pub id_nowhere : (f : ℕ) (s : List ℕ) → id_in f [] s ≡ Nothing
+pub id_nowhere : (f : ℕ) (s : List ℕ) → id_in f [] s ≡ None
 unfolding id_in
 id_nowhere f s = refl
 
@@ -146,13 +146,13 @@ module _ (s : List ℕ) (i : ℕ) (lo : 1 ≤ i) where
 
   low_is : (ws : List (List ℕ)) (g f : ℕ) → f < g → is_id (id_in g ws s) f i ≡ false
   unfolding is_id
-  low_is [] g f h = ap (λ (d : Id). is_id d f i) (id_nowhere g s)
+  low_is [] g f h = ap (λ (d : Option Id). is_id d f i) (id_nowhere g s)
   low_is (w ∷ ws) g f h = go (eqb (index_after w s) 0) refl (low_is ws (g + 1) f (omega arith))
     where
       go : (t : Bool) → eqb (index_after w s) 0 ≡ t → is_id (id_in (g + 1) ws s) f i ≡ false → is_id (id_in g (w ∷ ws) s) f i ≡ false
-      go true e ih = ap (λ (d : Id). is_id d f i) (id_later w ws g s (index_after w s) refl (eqb-true (index_after w s) 0 e)) ∙ ih
+      go true e ih = ap (λ (d : Option Id). is_id d f i) (id_later w ws g s (index_after w s) refl (eqb-true (index_after w s) 0 e)) ∙ ih
       go false e ih =
-          ap (λ (d : Id). is_id d f i) (id_here w ws g s (index_after w s) refl (eqb-false (index_after w s) 0 e))
+          ap (λ (d : Option Id). is_id d f i) (id_here w ws g s (index_after w s) refl (eqb-false (index_after w s) 0 e))
           ∙ ap (λ (b : Bool). b && eqb (index_after w s) i) (ne_eqb g f (λ (x : g ≡ f). omega arith))
 
   -- the id of one of the words, the n-th
@@ -170,10 +170,10 @@ module _ (s : List ℕ) (i : ℕ) (lo : 1 ≤ i) where
       go : (t : Bool) → eqb a 0 ≡ t → eqb a i ≡ is_id (id_in g (w ∷ ws) s) (g + 0) i
       go true e =
           none_is a (eqb-true a 0 e) ∙ sym (low_is ws (g + 1) (g + 0) (omega arith))
-          ∙ ap (λ (d : Id). is_id d (g + 0) i) (sym (id_later w ws g s a refl (eqb-true a 0 e)))
+          ∙ ap (λ (d : Option Id). is_id d (g + 0) i) (sym (id_later w ws g s a refl (eqb-true a 0 e)))
       go false e =
           ap (λ (b : Bool). b && eqb a i) (sym (eq-eqb g (g + 0) same))
-          ∙ ap (λ (d : Id). is_id d (g + 0) i) (sym (id_here w ws g s a refl (eqb-false a 0 e)))
+          ∙ ap (λ (d : Option Id). is_id d (g + 0) i) (sym (id_here w ws g s a refl (eqb-false a 0 e)))
   nth_is (w ∷ ws) g (suc n) p h = go (eqb (index_after w s) 0) refl (nth_is ws (g + 1) n (and_both (parted_from w ws) (all_parted ws) p).1 (omega arith))
     where
       a : ℕ
@@ -189,11 +189,11 @@ module _ (s : List ℕ) (i : ℕ) (lo : 1 ≤ i) where
           → eqb (index_after v s) i ≡ is_id (id_in g (w ∷ ws) s) (g + suc n) i
       go true e ih =
           ih ∙ ap (λ (m : ℕ). is_id (id_in (g + 1) ws s) m i) same
-          ∙ ap (λ (d : Id). is_id d (g + suc n) i) (sym (id_later w ws g s a refl (eqb-true a 0 e)))
+          ∙ ap (λ (d : Option Id). is_id d (g + suc n) i) (sym (id_later w ws g s a refl (eqb-true a 0 e)))
       go false e ih =
           none_is (index_after v s) (after_other w v s (parted_at w ws n (and_both (parted_from w ws) (all_parted ws) p).0 (omega arith)) (eqb-false a 0 e))
           ∙ ap (λ (b : Bool). b && eqb a i) (sym (ne_eqb g (g + suc n) (λ (x : g ≡ g + suc n). omega arith)))
-          ∙ ap (λ (d : Id). is_id d (g + suc n) i) (sym (id_here w ws g s a refl (eqb-false a 0 e)))
+          ∙ ap (λ (d : Option Id). is_id d (g + suc n) i) (sym (id_here w ws g s a refl (eqb-false a 0 e)))
 
 -- the four families part
 word_of : (f : ℕ) → family f ≡ get_or (map bytes families) f []
@@ -228,9 +228,9 @@ id_is name f i hf lo hi =
     ∙ ap (λ (m : ℕ). is_id (id_in 0 (map bytes families) name) m i) z
 
 -- a found id is one of the 256
-in_range : (ws : List (List ℕ)) (g : ℕ) (s : List ℕ) (f i : ℕ) → id_in g ws s ≡ Of f i → (f < g + length ws) × (1 ≤ i) × (i ≤ 64)
-in_range [] g s f i h = absurd (let e = id_nowhere g s in let z : ◌≡◌ {A = ℕ} 0 1 = cc in omega arith)
-in_range (w ∷ ws) g s f i h = go (eqb (index_after w s) 0) refl (in_range ws (g + 1) s f i)
+in_range : (ws : List (List ℕ)) (g : ℕ) (s : List ℕ) (d : Id) → id_in g ws s ≡ Some d → (d.family < g + length ws) × (1 ≤ d.index) × (d.index ≤ 64)
+in_range [] g s d h = absurd (let e = id_nowhere g s in let z : ◌≡◌ {A = ℕ} 0 1 = cc in omega arith)
+in_range (w ∷ ws) g s d h = go (eqb (index_after w s) 0) refl (in_range ws (g + 1) s d)
   where
     a : ℕ
     a = index_after w s
@@ -238,18 +238,19 @@ in_range (w ∷ ws) g s f i h = go (eqb (index_after w s) 0) refl (in_range ws (
     some : (m : ℕ) → (m ≡ 0 → ⊥) → 1 ≤ m
     some m n = omega arith
 
-    go : (t : Bool) → eqb a 0 ≡ t → (id_in (g + 1) ws s ≡ Of f i → (f < g + 1 + length ws) × (1 ≤ i) × (i ≤ 64)) → (f < g + length (w ∷ ws)) × (1 ≤ i) × (i ≤ 64)
+    go : (t : Bool) → eqb a 0 ≡ t → (id_in (g + 1) ws s ≡ Some d → (d.family < g + 1 + length ws) × (1 ≤ d.index) × (d.index ≤ 64)) → (d.family < g + length (w ∷ ws)) × (1 ≤ d.index) × (d.index ≤ 64)
     go true e ih =
         let r = ih (sym (id_later w ws g s a refl (eqb-true a 0 e)) ∙ h) in
         (omega (arith, r.0), r.1, r.2)
     go false e ih =
-        let q : Of g a ≡ Of f i = sym (id_here w ws g s a refl (eqb-false a 0 e)) ∙ h in
-        let eg : g ≡ f = cc in
-        let ea : a ≡ i = cc in
+        let q : ◌≡◌ {A = Option Id} (Some (id g a)) (Some d) = sym (id_here w ws g s a refl (eqb-false a 0 e)) ∙ h in
+        let p : id g a ≡ d = cc in
+        let eg : g ≡ d.family = ap (λ (x : Id). x.family) p in
+        let ea : a ≡ d.index = ap (λ (x : Id). x.index) p in
         (omega arith, omega (arith, some a (eqb-false a 0 e), ea), omega (arith, after_high w s, ea))
 
-pub id_range : (name : List ℕ) (f i : ℕ) → id_of name ≡ Of f i → (f < 4) × (1 ≤ i) × (i ≤ 64)
+pub id_range : (name : List ℕ) (d : Id) → id_of name ≡ Some d → (d.family < 4) × (1 ≤ d.index) × (d.index ≤ 64)
 unfolding id_of
-id_range name f i h =
-    let r = in_range (map bytes families) 0 name f i h in
+id_range name d h =
+    let r = in_range (map bytes families) 0 name d h in
     (omega (arith, r.0, families_parted.1), r.1, r.2)

@@ -9,7 +9,7 @@ use Rattle.text_bytes.specs.Places.{part, after}
 use Rattle.text.specs.Lines.{LF}
 use Rattle.book.specs.Book.{is_section, mz_tab, book_of}
 use Rattle.rows.specs.Rows.{line_of, row_of, text_of}
-use Rattle.rows.proofs.Laws.Finding.{row_found_lem, row_missing}
+use Rattle.rows.proofs.Laws.Finding.{row_missing}
 use Rattle.column_marks.specs.Columns.{PROTEIN}
 use Rattle.column_marks.specs.Marks.{Marked}
 use Rattle.column_marks.proofs.marks_of.Goals as goal
@@ -21,22 +21,5 @@ row_of-requires c = search rules
 pub returns-in_default : goal.returns-in_default
 returns-in_default c = subst (λ (x : Bytes). Marked c.args.asked x c.marks_in.result) (sym (ap text_of (row_missing c.args.file.now (row_of c.args.file.now PROTEIN 0) c.row_of.result c.in_default.is c.row_of.ensures))) c.marks_in.ensures
 
-pub slice_bounds-marks_in-count : goal.slice_bounds-marks_in-count
-slice_bounds-marks_in-count c =
-    let header_here : (c.in-On.a ≤ c.in-On.e) × (c.in-On.e ≤ length c.args.file.now) × (c.in-On.a ≡ after LF (c.in-On.field-0 - 1) c.args.file.now) × (row_of c.args.file.now PROTEIN 0 ≡ some (line_of c.in-On.field-0 (part c.in-On.a c.in-On.e c.args.file.now))) = row_found_lem c.args.file.now (row_of c.args.file.now PROTEIN 0) c.row_of.result c.in-On.field-0 c.in-On.a c.in-On.e c.in-On.is c.row_of.ensures in
-    header_here.0
-
-pub slice_bounds-marks_in-start : goal.slice_bounds-marks_in-start
-slice_bounds-marks_in-start c =
-    let header_here : (c.in-On.a ≤ c.in-On.e) × (c.in-On.e ≤ length c.args.file.now) × (c.in-On.a ≡ after LF (c.in-On.field-0 - 1) c.args.file.now) × (row_of c.args.file.now PROTEIN 0 ≡ some (line_of c.in-On.field-0 (part c.in-On.a c.in-On.e c.args.file.now))) = row_found_lem c.args.file.now (row_of c.args.file.now PROTEIN 0) c.row_of.result c.in-On.field-0 c.in-On.a c.in-On.e c.in-On.is c.row_of.ensures in
-    header_here.0
-
-pub slice_bounds-marks_in-end-2 : goal.slice_bounds-marks_in-end-2
-slice_bounds-marks_in-end-2 c =
-    let header_here : (c.in-On.a ≤ c.in-On.e) × (c.in-On.e ≤ length c.args.file.now) × (c.in-On.a ≡ after LF (c.in-On.field-0 - 1) c.args.file.now) × (row_of c.args.file.now PROTEIN 0 ≡ some (line_of c.in-On.field-0 (part c.in-On.a c.in-On.e c.args.file.now))) = row_found_lem c.args.file.now (row_of c.args.file.now PROTEIN 0) c.row_of.result c.in-On.field-0 c.in-On.a c.in-On.e c.in-On.is c.row_of.ensures in
-    header_here.1
-
 pub returns : goal.returns
-returns c =
-    let header_here : (c.in-On.a ≤ c.in-On.e) × (c.in-On.e ≤ length c.args.file.now) × (c.in-On.a ≡ after LF (c.in-On.field-0 - 1) c.args.file.now) × (row_of c.args.file.now PROTEIN 0 ≡ some (line_of c.in-On.field-0 (part c.in-On.a c.in-On.e c.args.file.now))) = row_found_lem c.args.file.now (row_of c.args.file.now PROTEIN 0) c.row_of.result c.in-On.field-0 c.in-On.a c.in-On.e c.in-On.is c.row_of.ensures in
-    subst (λ (x : Bytes). Marked c.args.asked x c.marks_in-2.result) (sym (ap text_of header_here.3)) c.marks_in-2.ensures
+returns c = subst (λ (x : Bytes). Marked c.args.asked x c.marks_in-2.result) (sym (ap text_of c.in-Some.ensures.3)) c.marks_in-2.ensures

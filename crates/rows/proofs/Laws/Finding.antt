@@ -15,7 +15,7 @@ use Rattle.text_bytes.specs.Places.{part, after}
 use Rattle.text.specs.Lines.{LIMIT, TAB, LF, lines, cells, coded}
 use Rattle.text.specs.Places.{LineAt, FindsCell}
 use Rattle.text.specs.declared.Part.{Part}
-use Rattle.text.specs.declared.Part.TheVariants.{At, Nothing}
+use Rattle.std.specs.Prelude.{Option as Answer, Some, None}
 use Rattle.text_bytes.proofs.Laws.Starts.{after_more}
 use Rattle.text_bytes.proofs.Laws.Parts.{get_next, get_below}
 use Rattle.text_bytes.proofs.Laws.Pieces.{pieces_bound}
@@ -23,7 +23,6 @@ use Rattle.text.proofs.Laws.Lines.{lines_done}
 use Rattle.rows.specs.Rows.{Line, line_of, numbered, having, row_of, row_count, cell_at, FindsRow, FindsColumn}
 use Rattle.rows.specs.Counted.{counted, rows_in}
 use Rattle.rows.specs.declared.Row.{Row}
-use Rattle.rows.specs.declared.Row.TheVariants.{On, Absent}
 use Rattle.book.specs.Book.{is_section, header_code, row_code, code_for, book_of}
 
 -- the line at s has the number n: by whether it has the code, and the lines after it
@@ -61,25 +60,27 @@ start_first f = refl
 
 -- a row that a function answered is the one that is meant, and no row is none
 module _ (s : Bytes) (o : Option Line) where
-  pub row_found_lem : (r : Row) (n a e : ℕ) → r ≡ On n a e → FindsRow s o r → (a ≤ e) × (e ≤ length s) × (a ≡ after LF (n - 1) s) × (o ≡ some (line_of n (part a e s)))
-  row_found_lem r n a e q h = subst (λ (x : Row). FindsRow s o x) q h
+  pub row_found_lem : (a : Answer Row) (r : Row) → a ≡ Some r → FindsRow s o a
+      → (r.start ≤ r.end) × (r.end ≤ length s) × (r.start ≡ after LF (r.line - 1) s) × (o ≡ some (line_of r.line (part r.start r.end s)))
+  row_found_lem a r q h = subst (λ (x : Answer Row). FindsRow s o x) q h
 
-  pub row_missing : (r : Row) → r ≡ Absent → FindsRow s o r → o ≡ none
-  row_missing r q h = subst (λ (x : Row). FindsRow s o x) q h
+  pub row_missing : (a : Answer Row) → a ≡ None → FindsRow s o a → o ≡ none
+  row_missing a q h = subst (λ (x : Answer Row). FindsRow s o x) q h
 
 -- and so of a column
 module _ (line : Bytes) (column : ℕ) where
-  pub column_found_lem : (p : Part) (a e : ℕ) → p ≡ At a e → FindsColumn line column p → (a ≤ e) × (e ≤ length line) × (a ≡ after TAB column line) × (cell_at line column ≡ some (part a e line))
-  column_found_lem p a e q h = subst (λ (x : Part). FindsColumn line column x) q h
+  pub column_found_lem : (a : Answer Part) (p : Part) → a ≡ Some p → FindsColumn line column a
+      → (p.start ≤ p.end) × (p.end ≤ length line) × (p.start ≡ after TAB column line) × (cell_at line column ≡ some (part p.start p.end line))
+  column_found_lem a p q h = subst (λ (x : Answer Part). FindsColumn line column x) q h
 
-  pub column_missing : (p : Part) → p ≡ Nothing → FindsColumn line column p → cell_at line column ≡ none
-  column_missing p q h = subst (λ (x : Part). FindsColumn line column x) q h
+  pub column_missing : (a : Answer Part) → a ≡ None → FindsColumn line column a → cell_at line column ≡ none
+  column_missing a q h = subst (λ (x : Answer Part). FindsColumn line column x) q h
 
   -- a column but the first is the cell of its number
-  pub column_cell : (column ≡ 0 → ⊥) → (p : Part) → FindsCell line column p → FindsColumn line column p
+  pub column_cell : (column ≡ 0 → ⊥) → (a : Answer Part) → FindsCell line column a → FindsColumn line column a
   unfolding cell_at
-  column_cell ne (At a e) h = rw (ne_eqb column 0 ne) h
-  column_cell ne Nothing h = rw (ne_eqb column 0 ne) h
+  column_cell ne (Some p) h = rw (ne_eqb column 0 ne) h
+  column_cell ne None h = rw (ne_eqb column 0 ne) h
 
 -- a column that is there has a number at most as high as the line is long
 pub column_below : (line : Bytes) (column : ℕ) (x : Bytes) → cell_at line column ≡ some x → column ≤ length line
