@@ -4,9 +4,12 @@ use native.Mathlib.Omega.{arith}
 use Rattle.mztab.proofs.Laws.Locating.{placed_shown, part_stands}
 use Rattle.mztab.proofs.cells.cell.Goals as goal
 
+pub returns-in_err-place : goal.returns-in_err-place
+returns-in_err-place c = record { result_after = placed_shown c.in_err-place.ensures; points = tt }
+
 pub returns : goal.returns
 returns c =
     record {
-      result_after = placed_shown c.locate-place.ensures;
-      points = record { block = refl; offset = omega (arith, c.locate-place.ensures.from); bytes = part_stands c.locate-place.ensures };
+      result_after = placed_shown c.in_ok-place.ensures;
+      points = record { block = refl; offset = omega (arith, c.in_ok-place.ensures.from); bytes = part_stands c.in_ok-place.ensures };
     }
