@@ -6,7 +6,7 @@ use Rattle.text.specs.Lines.{LIMIT, lines}
 use Rattle.rules.specs.Breaks.{Break}
 use Rattle.rules.specs.Rules.{breaks}
 use Rattle.judging.specs.Parts.{put_so_far}
-use Rattle.judging.specs.Calls.{length_number, Going}
+use Rattle.judging.specs.Calls.{Going}
 use Rattle.fault_steps.specs.declared.Fault.{Fault}
 use Rattle.fault_steps.specs.declared.Progress.{Progress}
 use Rattle.fault_steps.specs.Records.{fault_of}
@@ -42,7 +42,7 @@ away file s = cond s.more (suc (length file - s.carried.stand.at)) 0
 
 -- what holds between two steps
 pub record Between (file : Bytes) (s : Progress) (slots : List ℕ) : Type 0 where
-  pub number : s.number ≡ length_number file
+  pub limit : length file ≤ LIMIT
   pub counted : s.count ≡ put_so_far s.carried.stand
   pub going : s.more ≡ true → Going (book_of (lines file)) file s.carried slots
   pub done : s.more ≡ false → s.count ≡ length (reported file)

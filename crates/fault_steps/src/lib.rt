@@ -1,12 +1,15 @@
 // A record of a break, and the steps of the judging call over records from part to part: each judges as many lines as a part has room for.
 #![tactic(auto)]
 
-ghost use Rattle.std.specs.Prelude.{◌≡◌, true, min, length, replicate};
+ghost use Rattle.std.specs.Prelude.{◌≡◌, true, length, replicate, IfOk};
+ghost use Rattle.numbers.specs.Refusals.{number_in};
 ghost use Rattle.scan.specs.Machine.{FIRSTS as All-firsts};
 ghost use Rattle.book.specs.Text.{IsBook};
+ghost use Rattle.judging.specs.Calls.{length_number};
 ghost use Rattle.fault_steps.specs.Steps.{PLACES, Between, Moves};
 
 use judging::calls::{Carried, next_part};
+use numbers::Refusal;
 use scan::state::FIRSTS;
 
 // A break: its rule, its line and cell in the file, and where what it repeats stands first: a line for rules 6 and 9, a cell for 13, 0 for all others.
@@ -25,12 +28,11 @@ pub const PLACES: usize = 16384;
 // The breaks that a part holds before its last line: with that line's and those at the end they are at most 4,096.
 const FULL: u32 = 2524;
 
-// Where the call stands between two steps: whether there is more to judge, the number, the count of all breaks up to here, how long the lent list is, and
-// where in it the records of the last part go, and how many of them. Then what is carried from part to part.
+// Where the call stands between two steps: whether there is more to judge, the count of all breaks up to here, how long the lent list is, and where in it the
+// records of the last part go, and how many of them. Then what is carried from part to part.
 #[derive(Clone, Copy)]
 pub struct Progress {
     pub more: bool,
-    pub number: u32,
     pub count: u32,
     pub cap: usize,
     pub from: usize,
@@ -38,29 +40,22 @@ pub struct Progress {
     pub carried: Carried,
 }
 
-// Before the first line; nothing is to judge of a file over the limit.
-pub fn begin(book: &[u8], file: &[u8], cap: usize) -> Progress
+// Before the first line; a file over the limit is refused.
+pub fn begin(book: &[u8], file: &[u8], cap: usize) -> Result<Progress, Refusal>
     requires { IsBook book.now }
-    ensures between { Between file.now result (replicate All-firsts 0) }
-    ensures cap_value { (result.cap ≡ cap) × (result.count ≡ 0) }
+    ensures number { number_in result ≡ length_number file.now }
+    ensures between { IfOk result (λ s. Between file.now s (replicate All-firsts 0)) }
+    ensures cap_value { IfOk result (λ s. (s.cap ≡ cap) × (s.count ≡ 0)) }
 {
-    let carried = judging::calls::begin(book, file);
-    Progress {
-        more: carried.number == 0,
-        number: carried.number,
+    let carried = judging::calls::begin(book, file)?;
+    Ok(Progress {
+        more: true,
         count: 0,
         cap,
         from: 0,
         fit: 0,
         carried,
-    }
-}
-
-// The lesser of two numbers.
-fn least(a: usize, b: usize) -> usize
-    ensures { result ≡ min a b }
-{
-    if a < b { a } else { b }
+    })
 }
 
 // The next part: its records are in the places.
@@ -82,11 +77,10 @@ pub fn next(
     let carried = next_part(places, FULL, book, file, s.carried, slots);
     let stand = carried.stand;
     let count = stand.before + stand.held;
-    let from = least(stand.before as usize, s.cap);
-    let fit = least(stand.held as usize, s.cap - from);
+    let from = (stand.before as usize).min(s.cap);
+    let fit = (stand.held as usize).min(s.cap - from);
     Progress {
         more: stand.more,
-        number: s.number,
         count,
         cap: s.cap,
         from,

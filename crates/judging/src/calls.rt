@@ -5,58 +5,36 @@ ghost use Rattle.judging.specs.Parts.{Parts};
 ghost use Rattle.judging.specs.Calls.{Begun, Going};
 
 use crate::parts::{Stand, beginning, judge_part};
-use book_facts::{Asking, asking_of, survey};
-use numbers::TOO_LONG;
+use book_facts::{asking_of, survey};
+use numbers::Refusal;
 use scan::state::MOST_CELLS;
 use text::LIMIT;
 use value_references::{FAMILIES, INDICES};
 
-// The number of the call, where the judging stands, the kinds of the nearest header's columns, and the ids that the file declares.
+// Where the judging stands, the kinds of the nearest header's columns, and the ids that the file declares, by families.
 #[derive(Clone, Copy)]
 pub struct Carried {
-    pub number: u32,
     pub stand: Stand,
     pub kinds: [u8; MOST_CELLS],
-    pub samples: [bool; INDICES],
-    pub assays: [bool; INDICES],
-    pub variables: [bool; INDICES],
-    pub runs: [bool; INDICES],
+    pub flags: [[bool; INDICES]; FAMILIES],
 }
 
-// Before the first line; a file over the limit is refused by the number.
-pub fn begin(book: &[u8], file: &[u8]) -> Carried
+// Before the first line; a file over the limit is refused.
+pub fn begin(book: &[u8], file: &[u8]) -> Result<Carried, Refusal>
     requires { IsBook book.now }
     ensures { Begun (book_in book.now) file.now result }
 {
-    let none = [false; INDICES];
     if LIMIT < file.len() {
-        let nothing = Asking {
-            mode: 0,
-            typed: 0,
-            assay: false,
-        };
-        return Carried {
-            number: TOO_LONG,
-            stand: beginning(nothing),
-            kinds: [0u8; MOST_CELLS],
-            samples: none,
-            assays: none,
-            variables: none,
-            runs: none,
-        };
+        return Err(Refusal::TooLong);
     }
     let mut flags = [[false; INDICES]; FAMILIES];
     let facts = survey(&mut flags, book, file);
     let asking = asking_of(facts, &flags);
-    Carried {
-        number: 0,
+    Ok(Carried {
         stand: beginning(asking),
         kinds: [0u8; MOST_CELLS],
-        samples: flags[0],
-        assays: flags[1],
-        variables: flags[2],
-        runs: flags[3],
-    }
+        flags,
+    })
 }
 
 // The next part, of `room` breaks and what one line and the end put beyond them: its breaks are in the places.
@@ -73,22 +51,13 @@ pub fn next_part(
     requires going { Going (book_in book.now) file.now s slots.old }
     ensures parts { Parts (book_in book.now) file.now room s.stand result.stand places.old places.new }
     ensures going_2 { result.stand.more ≡ true → Going (book_in book.now) file.now result slots.new }
-    ensures number_value { result.number ≡ s.number }
 {
-    let a = s.samples;
-    let b = s.assays;
-    let c = s.variables;
-    let d = s.runs;
-    let flags = [a, b, c, d];
+    let flags = s.flags;
     let mut kinds = s.kinds;
     let stand = judge_part(places, room, book, file, s.stand, &flags, &mut kinds, slots);
     Carried {
-        number: s.number,
         stand,
         kinds,
-        samples: a,
-        assays: b,
-        variables: c,
-        runs: d,
+        flags,
     }
 }

@@ -18,6 +18,7 @@ use value_references::{FAMILIES, INDICES};
 
 // Where the judging of a file stands: whether there is more to judge, the place of the next line and how many lines are passed, the breaks of the parts
 // before and of the last one, and the state that stands for the lines passed.
+// Kept: `more` is a state of the walk, and no value stands beside it: all else is told of a walk that has ended too.
 #[derive(Clone, Copy)]
 pub struct Stand {
     pub more: bool,
@@ -83,6 +84,7 @@ pub fn judge_lines(
     let mut at = stand.at;
     let mut n = stand.lines;
     let mut k: u32 = 0;
+    // Kept: walks by the ends of lines, and counts nothing: how far a turn goes is known when its line is read.
     while at < last {
         if room <= k {
             return Stand {

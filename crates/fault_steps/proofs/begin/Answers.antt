@@ -1,22 +1,26 @@
--- `fault_steps::begin` meets its contract: past the limit nothing is left to report, and else nothing was reported yet. Assumes nothing.
-use mathlib.Core.Path.{refl, sym, ap, ◌∙◌}
-use borrow.Author.Tests.{eqb-true, eqb-false}
-use lib.ListN.{length}
+-- `fault_steps::begin` meets its contract: past the limit it is refused, and else nothing was reported yet. Assumes nothing.
+use mathlib.Core.Path.{refl, sym}
+use Rattle.std.proofs.lemmas.Result.{err_from_is_err_and}
+use Rattle.text_bytes.proofs.Laws.Tests.{absurd_bool}
 use Rattle.book.specs.Book.{book_of}
 use Rattle.book.specs.Text.{book_in}
-use Rattle.judging.proofs.Laws.Calling.{refused}
-use Rattle.fault_steps.proofs.Laws.Stepping.{found_none}
 use Rattle.fault_steps.proofs.begin.Goals as goal
+
+pub returns-in_err-carried : goal.returns-in_err-carried
+returns-in_err-carried c =
+    let p = err_from_is_err_and c.from_residual.result c.from_residual.ensures.1 in
+    record { number = rw (p.1, p.2) c.in_err-carried.ensures.number; between = rw p.1 tt; cap_value = rw p.1 tt }
 
 pub returns : goal.returns
 unfolding book_in book_of
 returns c =
     record {
+      number = c.in_ok-carried.ensures.number;
       between = record {
-        number = c.begin-carried.ensures.number;
-        counted = rw c.begin-carried.ensures.stand;
-        going = λ q. c.begin-carried.ensures.going (eqb-true c.begin-carried.result.number 0 q);
-        done = λ q. sym (ap length (found_none c.args.file.now (refused c.args.file.now (λ z. eqb-false c.begin-carried.result.number 0 q (c.begin-carried.ensures.number ∙ z)))));
+        limit = c.in_ok-carried.ensures.going.limit;
+        counted = rw c.in_ok-carried.ensures.stand;
+        going = λ q. c.in_ok-carried.ensures.going;
+        done = λ q. absurd_bool (sym q);
       };
       cap_value = (refl, refl);
     }

@@ -30,12 +30,12 @@ returns c =
     let room = placed_length (take c.next_part-carried.result.stand.held (drop (put_so_far c.args.s.carried.stand) (breaks_by (book_of (lines c.args.file.now)) (lines c.args.file.now)))) c.args.places.now 0 in
     let kept : length c.next_part-carried.new.places ≡ PLACES = ap (λ (o : Lent). length o.places) c.next_part-carried.ensures.parts.puts ∙ room ∙ c.requires.places_len in
     record {
-      between_2 = record { number = c.requires.between.number; counted = refl; going = c.next_part-carried.ensures.going_2; done = λ q. c.next_part-carried.ensures.parts.all q ∙ ap length (sym (found_all c.args.file.now limit)) };
+      between_2 = record { limit = limit; counted = refl; going = c.next_part-carried.ensures.going_2; done = λ q. c.next_part-carried.ensures.parts.all q ∙ ap length (sym (found_all c.args.file.now limit)) };
       moves = record {
         cap = refl;
-        inside = omega (arith, c.least-from.ensures, c.least-fit.ensures);
-        held = omega (arith, c.least-fit.ensures, c.next_part-carried.ensures.parts.fits, kept);
-        writes = step_moves c.next_part-carried.ensures.parts (omega (arith, c.next_part-carried.ensures.parts.fits, c.requires.places_len)) limit c.requires.between.counted c.least-from.ensures c.least-fit.ensures;
+        inside = omega (arith, c.min-from.ensures, c.min-fit.ensures);
+        held = omega (arith, c.min-fit.ensures, c.next_part-carried.ensures.parts.fits, kept);
+        writes = step_moves c.next_part-carried.ensures.parts (omega (arith, c.next_part-carried.ensures.parts.fits, c.requires.places_len)) limit c.requires.between.counted c.min-from.ensures c.min-fit.ensures;
         less = step_less c.args.file.now c.args.s _ c.requires.more_value (λ q. (c.next_part-carried.ensures.parts.further q, (c.next_part-carried.ensures.going_2 q).midway.scan.within));
       };
       places_len_2 = kept;

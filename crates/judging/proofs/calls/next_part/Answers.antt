@@ -1,5 +1,4 @@
 -- `judging::calls::next_part` meets its contract: what is carried is handed to the part and taken back from it. Assumes nothing.
-use mathlib.Core.Path.{refl}
 use Rattle.judging.proofs.calls.next_part.Goals as goal
 
 pub judge_part-stand-requires : goal.judge_part-stand-requires
@@ -19,5 +18,4 @@ returns c =
     record {
       parts = c.judge_part-stand.ensures.parts;
       going_2 = (λ q. record { limit = c.requires.going.limit; midway = c.judge_part-stand.ensures.midway_2 q; declared = c.requires.going.declared; columns = c.judge_part-stand.ensures.kinds_len_2.0; keys = c.judge_part-stand.ensures.kinds_len_2.1 });
-      number_value = refl;
     }
