@@ -1,24 +1,24 @@
--- What `fill` and `share_at` leave for `Cents::split`. No public contract cites this file. Assumes nothing.
-use Rattle.std.specs.Prelude.{ℕ, zero, suc, ◌+◌, ◌≤◌, ◌≡◌, List, [], ◌∷◌, length}
-use Rattle.std.proofs.lemmas.List.Edits.{sets}
+-- What `fill` leaves for `Cents::split`. No public contract cites this file. Assumes nothing.
+use Rattle.std.specs.Prelude.{ℕ, ◌≤◌, ◌<◌, ◌≡◌, List, length, get_or, Result, Ok, Err}
+use Rattle.numbers.specs.declared.Refusal.{Refusal}
+use Rattle.numbers.specs.Refusals.{number_of}
 use Rattle.fee.specs.declared.Cents.{Cents}
-use Rattle.fee.specs.declared.Filled.{Filled}
 use Rattle.fee_shares.specs.Sums.{at}
 use Rattle.fee_shares.specs.Refusals.{MOST_WEIGHTS}
 use Rattle.fee.specs.Places.{cents}
 use Rattle.fee.specs.Split.{outcome, split_of}
 
--- the share that stands at place k
-abbrev pub share_at : List ℕ → ℕ → Cents
-share_at ps k = cents.held (at ps k)
+-- a refused call leaves every list of so many places
+abbrev pub Leaves : ℕ → List ℕ → ℕ → ℕ → Type 0
+Leaves fee ws places n = (ys : List Cents) → length ys ≡ places → outcome n ys ≡ split_of cents fee ws ys
 
--- t shares, from place k on
-abbrev pub taken : List ℕ → ℕ → ℕ → List Cents
-taken ps k zero = []
-taken ps k (suc t) = share_at ps k ∷ taken ps (k + 1) t
+-- a granted one has each share in its place, so a list of so many places that holds them is what the call is to leave
+pub record Holds (fee : ℕ) (ws : List ℕ) (places : ℕ) (ps : List ℕ) : Type 0 where
+  pub few : places ≤ MOST_WEIGHTS
+  pub lays : (ys zs : List Cents) → length ys ≡ places → length zs ≡ places
+      → ((i : ℕ) → i < places → get_or zs i (cents.held 0) ≡ cents.held (at ps i)) → outcome 0 zs ≡ split_of cents fee ws ys
 
--- what goes into a list of so many places: laid over any such list it leaves, with the number n, what the call is to leave
-pub record Fills (fee : ℕ) (ws : List ℕ) (places n : ℕ) (r : Filled) : Type 0 where
-  pub few : r.count ≤ MOST_WEIGHTS
-  pub inside : r.count ≤ places
-  pub leaves : (ys : List Cents) → length ys ≡ places → outcome n (sets ys 0 (taken r.places 0 r.count)) ≡ split_of cents fee ws ys
+-- what goes into a list of so many places
+abbrev pub Fills : ℕ → List ℕ → ℕ → Result (List ℕ) Refusal → Type 0
+Fills fee ws places (Ok ps) = Holds fee ws places ps
+Fills fee ws places (Err e) = Leaves fee ws places (number_of e)

@@ -1,9 +1,10 @@
-// When a sum or a split is refused, and by which number.
+// When a sum or a split is refused, and why.
 ghost use Rattle.std.specs.Prelude.{◌≡◌, ◌+◌, ◌≤◌, leb, length};
+ghost use Rattle.numbers.specs.Refusals.{number_in};
 ghost use Rattle.fee_shares.specs.Shares.{total};
 ghost use Rattle.fee_shares.specs.Refusals.{LIMIT, MOST_WEIGHTS, as_many, any_large, refusal};
 
-use numbers::{ALL_ZERO, NOT_AS_MANY, TOO_LARGE};
+use numbers::Refusal;
 
 // The most that a fee or a sum may be: 1,000,000,000.00.
 pub const LIMIT: u64 = 100_000_000_000;
@@ -24,13 +25,6 @@ pub fn within(a: u64, b: u64) -> bool
     b <= LIMIT - a
 }
 
-// The weight as a wide number.
-pub fn wide(w: u32) -> u64
-    ensures { result ≡ w }
-{
-    w as u64
-}
-
 // Whether there are 1 to 64 weights, and as many places.
 fn as_many(n: usize, places: usize) -> bool
     ensures { result ≡ as_many n places }
@@ -42,14 +36,7 @@ fn as_many(n: usize, places: usize) -> bool
 fn any_large(weights: &[u32]) -> bool
     ensures { result ≡ any_large weights.now }
 {
-    let mut i = 0;
-    while i < weights.len() {
-        if weights[i] >= WEIGHT_END {
-            return true;
-        }
-        i += 1;
-    }
-    false
+    weights.iter().any(|w| *w >= WEIGHT_END)
 }
 
 // All weights together; of no weights 0.
@@ -57,31 +44,25 @@ pub fn total_of(weights: &[u32]) -> u64
     requires { length weights.now ≤ MOST_WEIGHTS }
     ensures { result ≡ total weights.now }
 {
-    let mut sum: u64 = 0;
-    let mut i = 0;
-    while i < weights.len() {
-        sum += wide(weights[i]);
-        i += 1;
-    }
-    sum
+    weights.iter().map(|w| u64::from(*w)).sum()
 }
 
-// The number of a call with so many places: the first refusal that applies, or 0.
-pub fn refusal_of(fee: u64, weights: &[u32], places: usize) -> u32
-    ensures { result ≡ refusal fee weights.now places }
+// Why a call with so many places is refused, if it is: the first refusal that applies.
+pub fn refusal_of(fee: u64, weights: &[u32], places: usize) -> Result<(), Refusal>
+    ensures { number_in result ≡ refusal fee weights.now places }
 {
     let counted = as_many(weights.len(), places);
     if !counted {
-        return NOT_AS_MANY;
+        return Err(Refusal::NotAsMany);
     }
     if fee > LIMIT {
-        return TOO_LARGE;
+        return Err(Refusal::TooLarge);
     }
     if any_large(weights) {
-        return TOO_LARGE;
+        return Err(Refusal::TooLarge);
     }
     if total_of(weights) == 0 {
-        return ALL_ZERO;
+        return Err(Refusal::AllZero);
     }
-    0
+    Ok(())
 }

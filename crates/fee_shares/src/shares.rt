@@ -1,12 +1,12 @@
 // The shares of a fee: each is its proportion rounded down, and the cents left over go one each to the largest remainders, the lower number first among
 // equals.
 ghost use Rattle.std.specs.Prelude.{◌≡◌, ◌&&◌, ◌||◌, ◌*◌, ◌/◌, ◌%◌, ◌^◌, ◌≤◌, ◌<◌, eqb, ltb, length};
-ghost use Rattle.fee_shares.specs.Sums.{sum_to, list_to, at, bit};
+ghost use Rattle.fee_shares.specs.Sums.{sum_to, list_to, at};
 ghost use Rattle.fee_shares.specs.Shares.{total, floor, left, ahead, share};
 ghost use Rattle.fee_shares.specs.Refusals.{LIMIT, WEIGHT_END};
 ghost use Rattle.fee_shares.specs.Steps.{Granted, Rests};
 
-use crate::refusals::{MOST_WEIGHTS, wide};
+use crate::refusals::MOST_WEIGHTS;
 
 // What one weight has of a fee: whole cents, and what is left of the division.
 #[derive(Clone, Copy)]
@@ -20,14 +20,6 @@ pub struct Part {
 pub struct Divided {
     pub rests: [u64; MOST_WEIGHTS],
     pub given: u64,
-}
-
-// 1 for true, 0 for false.
-fn one_if(b: bool) -> u64
-    ensures value { result ≡ bit b }
-    ensures upper_bound { result ≤ 1 }
-{
-    if b { 1 } else { 0 }
 }
 
 // Whether number j with remainder x comes before number i with remainder r; no number comes before itself.
@@ -50,7 +42,7 @@ fn part_of(fee: u64, weight: u32, all: u64) -> Part
     requires { (fee ≤ LIMIT) × ((weight < WEIGHT_END) × (0 < all)) }
     ensures { (result.cents ≡ fee * weight / all) × (result.rest ≡ fee * weight % all) }
 {
-    let whole = fee * wide(weight);
+    let whole = fee * u64::from(weight);
     Part {
         cents: down(whole, all),
         rest: whole % all,
@@ -66,28 +58,22 @@ pub fn divide(fee: u64, weights: &[u32], all: u64) -> Divided
 {
     let mut rests = [0u64; MOST_WEIGHTS];
     let mut given: u64 = 0;
-    let mut i = 0;
-    while i < weights.len() {
-        let part = part_of(fee, weights[i], all);
+    for (i, weight) in weights.iter().enumerate() {
+        let part = part_of(fee, *weight, all);
         rests[i] = part.rest;
         given += part.cents;
-        i += 1;
     }
     Divided { rests, given }
 }
 
-// How many of the first n come before number i.
-fn ahead_of(rests: &[u64], n: usize, i: usize) -> u64
-    requires n_in_bounds { n ≤ length rests.now }
-    requires i_lt_n { i < n }
-    ensures { result ≡ ahead n (at rests.now) i }
+// How many come before number i.
+fn ahead_of(rests: &[u64], i: usize) -> u64
+    requires { i < length rests.now }
+    ensures { result ≡ ahead (length rests.now) (at rests.now) i }
 {
-    let r = rests[i];
     let mut count: u64 = 0;
-    let mut j = 0;
-    while j < n {
-        count += one_if(comes_before(rests[j], j, r, i));
-        j += 1;
+    for (j, rest) in rests.iter().enumerate() {
+        count += u64::from(comes_before(*rest, j, rests[i], i));
     }
     count
 }
@@ -108,12 +94,10 @@ pub fn write_shares(
     requires shares_len { length shares.old ≡ length weights.now }
     ensures { shares.new ≡ list_to (length weights.now) (share fee weights.now) }
 {
-    let n = weights.len();
-    let mut i = 0;
-    while i < n {
+    let rests = &rests[..weights.len()];
+    for (i, share) in shares.iter_mut().enumerate() {
         let part = part_of(fee, weights[i], all);
-        let count = ahead_of(rests, n, i);
-        shares[i] = part.cents + one_if(count < over);
-        i += 1;
+        let count = ahead_of(rests, i);
+        *share = part.cents + u64::from(count < over);
     }
 }

@@ -1,2 +1,3 @@
 pub mod Tally
+pub mod Steps
 pub mod Cases

@@ -1,11 +1,12 @@
 // A tally: counts of PSMs, of distinct and of unique peptides, the rows of each section, and missing cells; and the sum of two.
 #![tactic(auto)]
 
-ghost use Rattle.std.specs.Prelude.{◌≡◌, ◌||◌, ◌+◌};
+ghost use Rattle.std.specs.Prelude.{◌≡◌, ◌+◌, is_none, MatchOption};
+ghost use Rattle.numbers.specs.Refusals.{number_in, answer_or};
 ghost use Rattle.tally.specs.Tally.{totals, tally_of, is_past, sum_of, zero, outcome, added};
+ghost use Rattle.tally.specs.Steps.{Summed};
 
-use numbers::PAST_64_BITS;
-use text_bytes::either;
+use numbers::Refusal;
 
 // How many PSMs.
 #[derive(Clone, Copy)]
@@ -35,28 +36,16 @@ pub struct Tally {
     pub missing: u64,
 }
 
-// The sum; where it passes 64 bits it is 0, and `past` becomes true. Else `past` stays.
-fn sum(a: u64, b: u64, past: &mut bool) -> u64
-    ensures sum { result ≡ sum_of a b }
-    ensures past { past.new ≡ (past.old || is_past (a + b)) }
-{
-    if u64::MAX - a < b {
-        *past = true;
-        return 0;
-    }
-    a + b
-}
-
 impl Psms {
     // No PSMs.
     pub const ZERO: Psms = Psms(0);
 
-    // The sum; past 64 bits it is zero, and `past` becomes true.
-    pub fn add(self, other: Psms, past: &mut bool) -> Psms
-        ensures sum { result.0 ≡ sum_of self.0 other.0 }
-        ensures past { past.new ≡ (past.old || is_past (self.0 + other.0)) }
+    // The sum; none where it passes 64 bits.
+    pub fn add(self, other: Psms) -> Option<Psms>
+        ensures sum { MatchOption result (sum_of self.0 other.0 ≡ 0) (λ x. x.0 ≡ sum_of self.0 other.0) }
+        ensures past { is_none result ≡ is_past (self.0 + other.0) }
     {
-        Psms(sum(self.0, other.0, past))
+        Some(Psms(self.0.checked_add(other.0)?))
     }
 }
 
@@ -64,12 +53,12 @@ impl Distinct {
     // No distinct peptides.
     pub const ZERO: Distinct = Distinct(0);
 
-    // The sum; past 64 bits it is zero, and `past` becomes true.
-    pub fn add(self, other: Distinct, past: &mut bool) -> Distinct
-        ensures sum { result.0 ≡ sum_of self.0 other.0 }
-        ensures past { past.new ≡ (past.old || is_past (self.0 + other.0)) }
+    // The sum; none where it passes 64 bits.
+    pub fn add(self, other: Distinct) -> Option<Distinct>
+        ensures sum { MatchOption result (sum_of self.0 other.0 ≡ 0) (λ x. x.0 ≡ sum_of self.0 other.0) }
+        ensures past { is_none result ≡ is_past (self.0 + other.0) }
     {
-        Distinct(sum(self.0, other.0, past))
+        Some(Distinct(self.0.checked_add(other.0)?))
     }
 }
 
@@ -77,12 +66,12 @@ impl Unique {
     // No unique peptides.
     pub const ZERO: Unique = Unique(0);
 
-    // The sum; past 64 bits it is zero, and `past` becomes true.
-    pub fn add(self, other: Unique, past: &mut bool) -> Unique
-        ensures sum { result.0 ≡ sum_of self.0 other.0 }
-        ensures past { past.new ≡ (past.old || is_past (self.0 + other.0)) }
+    // The sum; none where it passes 64 bits.
+    pub fn add(self, other: Unique) -> Option<Unique>
+        ensures sum { MatchOption result (sum_of self.0 other.0 ≡ 0) (λ x. x.0 ≡ sum_of self.0 other.0) }
+        ensures past { is_none result ≡ is_past (self.0 + other.0) }
     {
-        Unique(sum(self.0, other.0, past))
+        Some(Unique(self.0.checked_add(other.0)?))
     }
 }
 
@@ -102,48 +91,37 @@ pub fn nothing() -> Tally
     }
 }
 
-// The sum of two tallies, total by total. Number 13: one of the eight sums passes 64 bits, and the answer is the tally of nothing.
-pub fn add(a: Tally, b: Tally, number: &mut u32) -> Tally
-    ensures { outcome number.new result ≡ added a b }
+// The sum of two tallies, total by total; none where one of the eight passes 64 bits.
+fn sum(a: Tally, b: Tally) -> Option<Tally>
+    ensures { Summed a b result }
 {
-    let mut past = false;
-    let psms = a.psms.add(b.psms, &mut past);
-    let distinct = a.distinct.add(b.distinct, &mut past);
-    let unique = a.unique.add(b.unique, &mut past);
-    let mut rest = false;
-    let protein_rows = sum(a.protein_rows, b.protein_rows, &mut rest);
-    let peptide_rows = sum(a.peptide_rows, b.peptide_rows, &mut rest);
-    let psm_rows = sum(a.psm_rows, b.psm_rows, &mut rest);
-    let small_molecule_rows = sum(a.small_molecule_rows, b.small_molecule_rows, &mut rest);
-    let missing = sum(a.missing, b.missing, &mut rest);
-    if either(past, rest) {
-        *number = PAST_64_BITS;
-        return nothing();
-    }
-    *number = 0;
-    Tally {
-        psms,
-        distinct,
-        unique,
-        protein_rows,
-        peptide_rows,
-        psm_rows,
-        small_molecule_rows,
-        missing,
-    }
+    Some(Tally {
+        psms: a.psms.add(b.psms)?,
+        distinct: a.distinct.add(b.distinct)?,
+        unique: a.unique.add(b.unique)?,
+        protein_rows: a.protein_rows.checked_add(b.protein_rows)?,
+        peptide_rows: a.peptide_rows.checked_add(b.peptide_rows)?,
+        psm_rows: a.psm_rows.checked_add(b.psm_rows)?,
+        small_molecule_rows: a.small_molecule_rows.checked_add(b.small_molecule_rows)?,
+        missing: a.missing.checked_add(b.missing)?,
+    })
+}
+
+// The sum of two tallies, total by total. Refused where one of the eight sums passes 64 bits.
+pub fn add(a: Tally, b: Tally) -> Result<Tally, Refusal>
+    ensures { outcome (number_in result) (answer_or zero result) ≡ added a b }
+{
+    sum(a, b).ok_or(Refusal::Past64Bits)
 }
 
 // The tally with these totals, one to a place.
-pub fn from_places(places: &[u64; TOTALS]) -> Tally
-    ensures { result ≡ tally_of places.now }
+pub fn from_places(places: [u64; TOTALS]) -> Tally
+    ensures { result ≡ tally_of places }
 {
-    let psms = Psms(places[0]);
-    let distinct = Distinct(places[1]);
-    let unique = Unique(places[2]);
     Tally {
-        psms,
-        distinct,
-        unique,
+        psms: Psms(places[0]),
+        distinct: Distinct(places[1]),
+        unique: Unique(places[2]),
         protein_rows: places[3],
         peptide_rows: places[4],
         psm_rows: places[5],
@@ -153,10 +131,10 @@ pub fn from_places(places: &[u64; TOTALS]) -> Tally
 }
 
 // The totals of a tally, one to a place.
-pub fn to_places(tally: Tally, places: &mut [u64; TOTALS])
-    ensures { places.new ≡ totals tally }
+pub fn to_places(tally: Tally) -> [u64; TOTALS]
+    ensures { result ≡ totals tally }
 {
-    let t = [
+    [
         tally.psms.0,
         tally.distinct.0,
         tally.unique.0,
@@ -165,6 +143,5 @@ pub fn to_places(tally: Tally, places: &mut [u64; TOTALS])
         tally.psm_rows,
         tally.small_molecule_rows,
         tally.missing,
-    ];
-    *places = t;
+    ]
 }

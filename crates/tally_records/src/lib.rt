@@ -1,13 +1,13 @@
 // Tallies as records: 70 bytes, four of them the length of the rest, two the kind, then the eight totals of eight bytes each, the lowest byte first.
 #![tactic(auto)]
 
-ghost use Rattle.std.specs.Prelude.{◌≡◌, ◌++◌, ◌+◌, ◌*◌, ◌%◌, ◌≤◌, length, get_or, take, drop};
-ghost use Rattle.text_bytes.specs.Places.{part};
-ghost use Rattle.tally.specs.Tally.{totals, outcome as told};
+ghost use Rattle.std.specs.Prelude.{◌≡◌, ◌++◌, ◌%◌, ◌≤◌, length, take, drop};
+ghost use Rattle.numbers.specs.Refusals.{number_in as refusal_in, answer_or};
+ghost use Rattle.tally.specs.Tally.{totals, zero as none, outcome as told};
 ghost use Rattle.tally_records.specs.Records.{little, number_in, in_eights, eights_from, is_record, outcome, written, read_as};
 
-use numbers::{NO_RECORD, NO_ROOM};
-use tally::{Distinct, Psms, Tally, Unique, nothing};
+use numbers::Refusal;
+use tally::{TOTALS, Tally, from_places, to_places};
 
 // The bytes of a record.
 pub const RECORD: usize = 70;
@@ -18,14 +18,13 @@ const REST: u64 = 66;
 // What the next two bytes say.
 const KIND: u64 = 1;
 
-const LENGTH_WIDTH: usize = 4;
-
-const KIND_WIDTH: usize = 2;
-
-const TOTAL_WIDTH: usize = 8;
+// Where the kind stands, behind the length.
+const KIND_AT: usize = 4;
 
 // Where the first total stands.
-const TOTALS: usize = 6;
+const TOTALS_AT: usize = 6;
+
+const TOTAL_WIDTH: usize = 8;
 
 // The low byte of a number.
 fn low(n: u64) -> u8
@@ -34,32 +33,25 @@ fn low(n: u64) -> u8
     (n % 256) as u8
 }
 
-// Writes the low `width` bytes of a number from place `at` on, the lowest first.
-fn put(buffer: &mut [u8], at: usize, width: usize, n: u64)
-    requires { at + width ≤ length buffer.old }
-    ensures { buffer.new ≡ take at buffer.old ++ (little width n ++ drop (at + width) buffer.old) }
+// Writes as many low bytes of a number as there are places, the lowest first.
+fn put(places: &mut [u8], n: u64)
+    ensures { places.new ≡ little (length places.old) n }
 {
     let mut left = n;
-    let mut i: usize = 0;
-    let mut rest = width;
-    while rest > 0 {
-        rest -= 1;
-        buffer[at + i] = low(left);
-        left = left / 256;
-        i += 1;
+    for place in places.iter_mut() {
+        *place = low(left);
+        left /= 256;
     }
 }
 
-// The number in the `width` bytes from place `at` on, the lowest first.
-fn get(bytes: &[u8], at: usize, width: usize) -> u64
-    requires { (width ≤ 8) × (at + width ≤ length bytes.now) }
-    ensures { result ≡ number_in (part at (at + width) bytes.now) }
+// The number in bytes, the lowest first.
+fn get(bytes: &[u8]) -> u64
+    requires { length bytes.now ≤ 8 }
+    ensures { result ≡ number_in bytes.now }
 {
     let mut n: u64 = 0;
-    let mut i = width;
-    while i > 0 {
-        i -= 1;
-        n = n * 256 + (bytes[at + i] as u64);
+    for byte in bytes.iter().rev() {
+        n = n * 256 + u64::from(*byte);
     }
     n
 }
@@ -71,26 +63,23 @@ fn is_record(bytes: &[u8]) -> bool
     if bytes.len() != RECORD {
         return false;
     }
-    if get(bytes, 0, LENGTH_WIDTH) != REST {
+    if get(&bytes[..KIND_AT]) != REST {
         return false;
     }
-    get(bytes, LENGTH_WIDTH, KIND_WIDTH) == KIND
+    get(&bytes[KIND_AT..TOTALS_AT]) == KIND
 }
 
-// Total number i of a record, from 0.
-fn total(bytes: &[u8], i: usize) -> u64
-    requires { (length bytes.now ≡ 70) × (i ≤ 7) }
-    ensures { result ≡ get_or (eights_from 8 6 bytes.now) i 0 }
+// The eight totals of a record.
+fn totals(bytes: &[u8]) -> [u64; TOTALS]
+    requires { length bytes.now ≡ 70 }
+    ensures { result ≡ eights_from 8 6 bytes.now }
 {
-    get(bytes, TOTALS + TOTAL_WIDTH * i, TOTAL_WIDTH)
-}
-
-// Writes total number i of a record, from 0.
-fn put_total(buffer: &mut [u8], i: usize, n: u64)
-    requires { (70 ≤ length buffer.old) × (i ≤ 7) }
-    ensures { buffer.new ≡ take (6 + 8 * i) buffer.old ++ (little 8 n ++ drop (6 + 8 * i + 8) buffer.old) }
-{
-    put(buffer, TOTALS + TOTAL_WIDTH * i, TOTAL_WIDTH, n);
+    let mut totals = [0u64; TOTALS];
+    for (i, total) in totals.iter_mut().enumerate() {
+        let at = TOTALS_AT + TOTAL_WIDTH * i;
+        *total = get(&bytes[at..at + TOTAL_WIDTH]);
+    }
+    totals
 }
 
 // Writes the eight totals of a record.
@@ -98,48 +87,32 @@ fn put_totals(buffer: &mut [u8], tally: Tally)
     requires { 70 ≤ length buffer.old }
     ensures { buffer.new ≡ take 6 buffer.old ++ (in_eights (totals tally) ++ drop 70 buffer.old) }
 {
-    put_total(buffer, 0, tally.psms.0);
-    put_total(buffer, 1, tally.distinct.0);
-    put_total(buffer, 2, tally.unique.0);
-    put_total(buffer, 3, tally.protein_rows);
-    put_total(buffer, 4, tally.peptide_rows);
-    put_total(buffer, 5, tally.psm_rows);
-    put_total(buffer, 6, tally.small_molecule_rows);
-    put_total(buffer, 7, tally.missing);
+    let totals = to_places(tally);
+    for (i, total) in totals.iter().enumerate() {
+        let at = TOTALS_AT + TOTAL_WIDTH * i;
+        put(&mut buffer[at..at + TOTAL_WIDTH], *total);
+    }
 }
 
-// Writes the record of a tally to the first 70 places, and answers 70. Number 5: the buffer has fewer, and stays as it was; the answer is 0.
-pub fn write(tally: Tally, buffer: &mut [u8], number: &mut u32) -> usize
-    ensures { outcome number.new result buffer.new ≡ written tally buffer.old }
+// Writes the record of a tally to the first 70 places, and answers 70. A buffer that has fewer is refused, and stays as it was.
+pub fn write(tally: Tally, buffer: &mut [u8]) -> Result<usize, Refusal>
+    ensures { outcome (refusal_in result) (answer_or 0 result) buffer.new ≡ written tally buffer.old }
 {
     if buffer.len() < RECORD {
-        *number = NO_ROOM;
-        return 0;
+        return Err(Refusal::NoRoom);
     }
-    *number = 0;
-    put(buffer, 0, LENGTH_WIDTH, REST);
-    put(buffer, LENGTH_WIDTH, KIND_WIDTH, KIND);
+    put(&mut buffer[..KIND_AT], REST);
+    put(&mut buffer[KIND_AT..TOTALS_AT], KIND);
     put_totals(buffer, tally);
-    RECORD
+    Ok(RECORD)
 }
 
-// The tally that a record holds. Number 14: the bytes are no record, and the answer is the tally of nothing.
-pub fn read(bytes: &[u8], number: &mut u32) -> Tally
-    ensures { told number.new result ≡ read_as bytes.now }
+// The tally that a record holds. Refused where the bytes are no record.
+pub fn read(bytes: &[u8]) -> Result<Tally, Refusal>
+    ensures { told (refusal_in result) (answer_or none result) ≡ read_as bytes.now }
 {
     if !is_record(bytes) {
-        *number = NO_RECORD;
-        return nothing();
+        return Err(Refusal::NoRecord);
     }
-    *number = 0;
-    Tally {
-        psms: Psms(total(bytes, 0)),
-        distinct: Distinct(total(bytes, 1)),
-        unique: Unique(total(bytes, 2)),
-        protein_rows: total(bytes, 3),
-        peptide_rows: total(bytes, 4),
-        psm_rows: total(bytes, 5),
-        small_molecule_rows: total(bytes, 6),
-        missing: total(bytes, 7),
-    }
+    Ok(from_places(totals(bytes)))
 }

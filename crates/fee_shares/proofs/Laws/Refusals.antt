@@ -8,6 +8,9 @@ use lib.Dec.{eqb, leb}
 use lib.ListN.{length}
 use borrow.Author.Tests.{eq-eqb, ne_eqb, eqb-true, eqb-false, le-leb, lt-leb, leb-true, leb-false}
 use Rattle.numbers.specs.Numbers.{NOT_AS_MANY, TOO_LARGE, ALL_ZERO}
+use Rattle.numbers.specs.Refusals.{number_of}
+use Rattle.numbers.specs.declared.Refusal.{Refusal}
+use Rattle.numbers.specs.declared.Refusal.TheVariants.{TooLong, NoSection, NoRow, NoCell, NoRoom, NotAccepted, BelowZero, Past64Bits, NoRecord, NotAsMany, TooLarge, AllZero}
 use Rattle.fee_shares.specs.Sums.{at}
 use Rattle.fee_shares.specs.Shares.{total}
 use Rattle.fee_shares.specs.Refusals.{LIMIT, MOST_WEIGHTS, WEIGHT_END, as_many, any_large, refusal}
@@ -84,3 +87,18 @@ module _ (fee : ℕ) (ws : List ℕ) (places : ℕ) where
       go true true pb false pd f pf g pg h ph e = absurd (omega arith)
       go true false pb d pd f pf g pg h ph e = absurd (omega arith)
       go false b pb d pd f pf g pg h ph e = absurd (omega arith)
+
+-- a refusal has a number
+pub refused_some : (e : Refusal) → number_of e ≡ 0 → ⊥
+refused_some TooLong z = omega arith
+refused_some NoSection z = omega arith
+refused_some NoRow z = omega arith
+refused_some NoCell z = omega arith
+refused_some NoRoom z = omega arith
+refused_some NotAccepted z = omega arith
+refused_some BelowZero z = omega arith
+refused_some Past64Bits z = omega arith
+refused_some NoRecord z = omega arith
+refused_some NotAsMany z = omega arith
+refused_some TooLarge z = omega arith
+refused_some AllZero z = omega arith

@@ -1,15 +1,20 @@
 -- One turn of each loop, and what an amount leaves of the limit. Assumes nothing.
-use Prim.Native.Nat.{ℕ, ◌+◌, ◌-◌, ◌*◌, ◌/◌, ◌%◌, ◌^◌, ◌≤◌, ◌<◌}
+use Prim.Native.Nat.{ℕ, zero, suc, ◌+◌, ◌-◌, ◌*◌, ◌/◌, ◌%◌, ◌^◌, ◌≤◌, ◌<◌}
 use mathlib.Core.Path.{◌≡◌, refl, ap, sym, ◌∙◌}
 use mathlib.Core.Bool.{Bool, true, false, ◌&&◌, ◌||◌}
-use mathlib.Core.List.{List, ◌∷◌}
+use mathlib.Core.List.{List, [], ◌∷◌}
 use native.Mathlib.Omega.{arith}
 use native.Mathlib.Numerals.{add-one}
 use native.Mathlib.Nat.{div-le_self, mul-le-mul, le_of_lt, lt_of_le_of_lt}
 use lib.Dec.{eqb, leb, ltb, lit<}
-use lib.ListN.{length, take, drop, set}
-use lib.Seq.{drop-cons, drop-length, take-suc-set, get_or-set_same, get_or-set_other}
+use lib.ListN.{length, take, set}
+use lib.Seq.{take_all, length-take-le, take-suc-set, get_or-set_same, get_or-set_other}
 use borrow.Author.Tests.{eqb-true, eqb-false, le-leb, lt-leb, leb-true, leb-false}
+use Rattle.std.specs.Prelude.{sum}
+use Rattle.std.specs.Int.{from_bool}
+use Rattle.std.specs.List.{list_any}
+use Rattle.std.proofs.lemmas.List.{get_or-take}
+use Rattle.std.proofs.lemmas.List.Sums.{sum_by_more}
 use Rattle.fee_shares.specs.Sums.{sum_to, list_to, at, bit}
 use Rattle.fee_shares.specs.Shares.{total, floor, rest, left, before, ahead, share}
 use Rattle.fee_shares.specs.Refusals.{LIMIT, WEIGHT_END, any_large}
@@ -35,21 +40,6 @@ places_next i f s v h e d k l = go (eqb k i) refl
     go : (b : Bool) → eqb k i ≡ b → at (set s i v) k ≡ f k
     go true q = let p = eqb-true k i q in rw p (get_or-set_same s i v 0 h ∙ d)
     go false q = let ne = eqb-false k i q in get_or-set_other s i k v 0 ne ∙ e k (omega arith)
-
-module _ (ws : List ℕ) (i : ℕ) where
-  large_one : i < length ws → any_large (drop i ws) ≡ (leb WEIGHT_END (at ws i) || any_large (drop (i + 1) ws))
-  unfolding any_large
-  large_one h = let e : drop i ws ≡ at ws i ∷ drop (i + 1) ws = rw (add-one, drop-cons ws i 0) in ap any_large e
-
-  pub large_here : i < length ws → WEIGHT_END ≤ at ws i → true ≡ any_large (drop i ws)
-  large_here h k = sym (large_one h ∙ simp (le-leb WEIGHT_END (at ws i) k))
-
-  pub large_next : i < length ws → at ws i < WEIGHT_END → any_large (drop i ws) ≡ any_large (drop (i + 1) ws)
-  large_next h k = large_one h ∙ simp (lt-leb WEIGHT_END (at ws i) k)
-
-  pub large_end : i ≡ length ws → false ≡ any_large (drop i ws)
-  unfolding any_large
-  large_end e = rw (e, drop-length ws)
 
 pub product_fits : (a w : ℕ) → a ≤ LIMIT → w < WEIGHT_END → a * w < 2 ^ 63
 product_fits a w h k = lt_of_le_of_lt (mul-le-mul h (le_of_lt k)) (lit< tt)
@@ -94,9 +84,43 @@ unfolding before
 ahead_same n r s i h k =
     sum_same n (λ (j : ℕ). bit (before r j i)) (λ (j : ℕ). bit (before s j i)) (λ j l. rw (h j l, h i k))
 
+-- as many remainders as weights are taken
+pub rests_taken : {fee : ℕ} {ws rs : List ℕ} → Granted fee ws → Rests fee ws rs → length (take (length ws) rs) ≡ length ws
+rests_taken {fee} {ws} {rs} is has = length-take-le (length ws) rs (omega (arith, is.few, has.long))
+
+pub ahead_taken : {fee : ℕ} {ws rs : List ℕ} → Granted fee ws → Rests fee ws rs → (i : ℕ) → i < length ws → ahead (length (take (length ws) rs)) (at (take (length ws) rs)) i ≡ ahead (length ws) (at rs) i
+ahead_taken {fee} {ws} {rs} is has i h =
+    ap (λ (n : ℕ). ahead n (at (take (length ws) rs)) i) (rests_taken is has)
+    ∙ ahead_same (length ws) (at (take (length ws) rs)) (at rs) i (λ j l. get_or-take (length ws) rs j 0 l) h
+
 pub share_at_lem :
     {fee : ℕ} {ws rs : List ℕ} → Rests fee ws rs → (i : ℕ) → i < length ws → {cents count over one : ℕ} → cents ≡ floor fee ws i
     → count ≡ ahead (length ws) (at rs) i → over ≡ left fee ws → one ≡ bit (ltb count over) → cents + one ≡ share fee ws i
 share_at_lem {fee} {ws} {rs} is i h a b d e =
     let p = ahead_same (length ws) (at rs) (rest fee ws) i is.rests h in
     rw (e, a, b, d, p)
+
+-- THE TESTS AND SUMS of the library are those of the definitions
+pub large_any : (ws : List ℕ) → list_any (leb WEIGHT_END) ws ≡ any_large ws
+unfolding any_large
+large_any [] = refl
+large_any (w ∷ ws) = ap (λ (b : Bool). leb WEIGHT_END w || b) (large_any ws)
+
+sum_first : (ws : List ℕ) (i : ℕ) → i ≤ length ws → sum (take i ws) ≡ sum_to i (at ws)
+unfolding sum_to
+sum_first ws zero h = refl
+sum_first ws (suc i) h =
+    let one : suc i ≡ i + 1 = omega arith in
+    let e : sum (take (suc i) ws) ≡ sum (take (i + 1) ws) = ap (λ (k : ℕ). sum (take k ws)) one in
+    omega (arith, sum_by_more (λ x. x) ws i 0 (omega arith), sum_first ws i (omega arith))
+
+pub total_sum : (ws : List ℕ) → sum ws ≡ total ws
+total_sum ws = ap sum (sym (take_all (length ws) ws (omega arith))) ∙ sum_first ws (length ws) (omega arith)
+
+pub bit_from : (b : Bool) → from_bool b ≡ bit b
+bit_from true = refl
+bit_from false = refl
+
+pub bit_low : (b : Bool) → from_bool b ≤ 1
+bit_low true = omega arith
+bit_low false = omega arith

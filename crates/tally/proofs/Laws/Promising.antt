@@ -20,7 +20,7 @@ unfolding sums
 sums_placed a b = refl
 
 pub add_refused : (a b : Tally) {n : ℕ} {t : Tally} → any is_past (sums (totals a) (totals b)) ≡ true → outcome n t ≡ added a b → (n ≡ PAST_64_BITS) × (t ≡ zero)
-add_refused a b h call = add_once a b call (add_past a b refl h)
+add_refused a b h call = add_once a b call (add_past a b h)
 
 pub add_granted : (a b : Tally) {n : ℕ} {t : Tally} → any is_past (sums (totals a) (totals b)) ≡ false → outcome n t ≡ added a b → (n ≡ 0) × (totals t ≡ sums (totals a) (totals b)) × Within t
 add_granted a b h call =

@@ -1,15 +1,14 @@
 -- Numbers in bytes, the lowest first, in any width: written byte by byte from below, read byte by byte from above, and each undoes the other. Assumes nothing.
 use mathlib.Core.Path.{◌≡◌, refl, sym, ap, ◌∙◌}
-use mathlib.Core.List.{[], ◌∷◌, ◌++◌, append_assoc}
+use mathlib.Core.List.{[], ◌∷◌, ◌++◌, append_assoc, append-nil}
 use Prim.Native.Nat.{ℕ, zero, suc, ◌+◌, ◌-◌, ◌*◌, ◌/◌, ◌%◌, ◌^◌, ◌≤◌, ◌<◌}
 use native.Mathlib.Nat.{pow-succ', mod-add-div, pow-le-pow_right}
 use native.Mathlib.Numerals.{add-one}
 use native.Mathlib.Omega.{arith}
 use lib.ListN.{length, take, drop, get_or, set, length-drop, take-append-drop}
-use lib.Seq.{take-suc-set, drop-set-lt, length-take-le, take_at, drop_at, drop-drop, get_or-drop}
+use lib.Seq.{take-suc-set, take_all, drop-cons, drop-length, length-take-le, take_at, drop_at, drop-drop, get_or-drop}
 use Rattle.text_bytes.specs.Bytes.{Bytes}
 use Rattle.text_bytes.specs.Places.{part}
-use Rattle.text_bytes.proofs.Laws.Pieces.{drop_step}
 use Rattle.tally_records.specs.Records.{little, number_in}
 use Rattle.tally_records.specs.Promised.{AreBytes}
 
@@ -18,69 +17,56 @@ unfolding little
 length_little zero n = refl
 length_little (suc w) n = ap suc (length_little w (n / 256))
 
--- WRITTEN: the number in so many bytes from a place on, all else as it was
-abbrev pub laid : ℕ → ℕ → ℕ → Bytes → Bytes
-laid at w n bs = take at bs ++ (little w n ++ drop (at + w) bs)
+-- WRITTEN: i low bytes of a number stand, and what is left of it goes behind them
 
--- its lowest byte is written, and the rest of it goes behind
-laid_step : (at w n : ℕ) (bs : Bytes) → at < length bs → laid at (suc w) n bs ≡ laid (at + 1) w (n / 256) (set bs at (n % 256))
+pub little_next : (i w n : ℕ) (bs : Bytes) → i < length bs → w ≡ length bs → take (i + 1) (set bs i (n % 256)) ++ little (w - (i + 1)) (n / 256) ≡ take i bs ++ little (w - i) n
 unfolding little
-laid_step at w n bs h =
-    let e : at + suc w ≡ at + 1 + w = omega arith in
-    let lt : at < at + 1 + w = omega arith in
-    let t : take (at + 1) (set bs at (n % 256)) ≡ take at bs ++ (n % 256 ∷ []) = rw add-one (take-suc-set bs at (n % 256) h) in
-    rw (e, t, drop-set-lt (at + 1 + w) bs at (n % 256) lt) (sym (append_assoc (take at bs) (n % 256 ∷ []) (little w (n / 256) ++ drop (at + 1 + w) bs)))
+little_next i w n bs h l =
+    let e : w - i ≡ suc (w - (i + 1)) = omega arith in
+    let t : take (i + 1) (set bs i (n % 256)) ≡ take i bs ++ (n % 256 ∷ []) = rw add-one (take-suc-set bs i (n % 256) h) in
+    rw (e, t) (append_assoc (take i bs) (n % 256 ∷ []) (little (w - (i + 1)) (n / 256)))
 
--- the same where i bytes are written, and so many are left
-pub laid_next : (at i rest n : ℕ) (bs : Bytes) → 0 < rest → at + i < length bs → laid (at + i) rest n bs ≡ laid (at + (i + 1)) (rest - 1) (n / 256) (set bs (at + i) (n % 256))
-laid_next at i rest n bs h k =
-    let e : rest ≡ suc (rest - 1) = omega arith in
-    let f : at + i + 1 ≡ at + (i + 1) = omega arith in
-    ap (λ (w : ℕ). laid (at + i) w n bs) e ∙ rw f at (laid_step (at + i) (rest - 1) n bs k)
-
--- nothing is left
-pub laid_done : (at rest n : ℕ) (bs : Bytes) → rest ≡ 0 → laid at rest n bs ≡ bs
+pub little_done : (i w n : ℕ) (bs : Bytes) → w ≤ i → length bs ≤ i → bs ≡ take i bs ++ little (w - i) n
 unfolding little
-laid_done at rest n bs z = let e : at + 0 ≡ at = omega arith in rw (z, e) (take-append-drop at bs)
+little_done i w n bs h l =
+    let e : w - i ≡ 0 = omega arith in
+    rw (e, take_all i bs l) (sym (append-nil bs))
 
--- READ, from the highest byte down: n is the number in the bytes from i on, of w, and fits in as many
-pub record Reads (bs : Bytes) (at w i n : ℕ) : Type 0 where
-  pub within : i ≤ w
-  pub fits : n < 256 ^ (w - i)
-  pub number : n ≡ number_in (part (at + i) (at + w) bs)
+-- READ, from the highest byte down: n is the number in the bytes from i on, and fits in as many
+pub record Reads (bs : Bytes) (i n : ℕ) : Type 0 where
+  pub within : i ≤ length bs
+  pub fits : n < 256 ^ (length bs - i)
+  pub number : n ≡ number_in (drop i bs)
 
-pub reads_start : (bs : Bytes) (at w : ℕ) → Reads bs at w w 0
+pub reads_start : (bs : Bytes) (i : ℕ) → i ≡ length bs → Reads bs i 0
 unfolding number_in
-reads_start bs at w =
-    let e : w - w ≡ 0 = omega arith in
-    let f : at + w - (at + w) ≡ 0 = omega arith in
-    record { within = omega arith; fits = rw e (omega arith); number = rw f }
+reads_start bs i e =
+    let z : length bs - i ≡ 0 = omega arith in
+    record { within = omega arith; fits = rw z (omega arith); number = rw (e, drop-length bs) }
 
 -- the byte at the front, and the number behind it
-number_step : (bs : Bytes) (at to : ℕ) → at < to → to ≤ length bs → number_in (part at to bs) ≡ number_in (part (at + 1) to bs) * 256 + get_or bs at 0
+number_step : (bs : Bytes) (i : ℕ) → i < length bs → number_in (drop i bs) ≡ number_in (drop (i + 1) bs) * 256 + get_or bs i 0
 unfolding number_in
-number_step bs at to h k =
-    let e : to - at ≡ suc (to - (at + 1)) = omega arith in
-    rw (e, drop_step bs at (omega arith)) (omega arith)
+number_step bs i h =
+    let e : drop i bs ≡ get_or bs i 0 ∷ drop (i + 1) bs = rw (add-one, drop-cons bs i 0) in
+    rw e (omega arith)
 
 -- the byte below comes in
-pub reads_next : {bs : Bytes} {at w i n : ℕ} → Reads bs at w i n → 0 < i → at + w ≤ length bs → get_or bs (at + (i - 1)) 0 < 256
-    → Reads bs at w (i - 1) (n * 256 + get_or bs (at + (i - 1)) 0)
-reads_next {bs} {at} {w} {i} {n} r h k l =
-    let e : w - (i - 1) ≡ suc (w - i) = omega (arith, r.within) in
-    let f : at + (i - 1) + 1 ≡ at + i = omega arith in
+pub reads_next : {bs : Bytes} {i j n b : ℕ} → Reads bs i n → j + 1 ≡ i → b ≡ get_or bs j 0 → b < 256 → Reads bs j (n * 256 + b)
+reads_next {bs} {i} {j} {n} {b} r e q l =
+    let k : length bs - j ≡ suc (length bs - i) = omega (arith, r.within) in
     record {
       within = omega (arith, r.within);
-      fits = rw (e, pow-succ' 256 (w - i)) (omega (arith, r.fits));
-      number = rw r.number (sym (rw f at (number_step bs (at + (i - 1)) (at + w) (omega (arith, r.within)) k)));
+      fits = rw (k, pow-succ' 256 (length bs - i)) (omega (arith, r.fits));
+      number = rw (r.number, ← e, q) (sym (number_step bs j (omega (arith, r.within))));
     }
 
 -- there is room for it
-pub reads_room : {bs : Bytes} {at w i n : ℕ} → Reads bs at w i n → 0 < i → w ≤ 8 → n < 2 ^ 56
-reads_room {w = w} {i = i} r h k = omega (arith, r.fits, pow-le-pow_right {n = 256} (omega arith) {i = w - i} {j = 7} (omega arith))
+pub reads_room : {bs : Bytes} {i n : ℕ} → Reads bs i n → 0 < i → length bs ≤ 8 → n < 2 ^ 56
+reads_room {bs} {i} r h k = omega (arith, r.fits, pow-le-pow_right {n = 256} (omega arith) {i = length bs - i} {j = 7} (omega arith))
 
-pub reads_end : {bs : Bytes} {at w i n : ℕ} → Reads bs at w i n → i ≡ 0 → n ≡ number_in (part at (at + w) bs)
-reads_end {at = at} r z = let e : at + 0 ≡ at = omega arith in r.number ∙ rw (z, e)
+pub reads_end : {bs : Bytes} {i n : ℕ} → Reads bs i n → i ≡ 0 → n ≡ number_in bs
+reads_end r z = r.number ∙ rw z
 
 -- EACH UNDOES THE OTHER
 

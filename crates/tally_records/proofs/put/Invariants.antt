@@ -1,13 +1,10 @@
--- `tally_records::put` meets its contract. The invariant: what is left of the number, written behind the bytes that are there, gives what is promised. Assumes
+-- `tally_records::put` meets its contract. The invariant: the bytes that are there, and what is left of the number behind them, are what is promised. Assumes
 -- nothing.
-use mathlib.Core.Path.{◌≡◌}
-use Prim.Native.Nat.{◌+◌}
-use lib.ListN.{length}
-use Rattle.tally_records.proofs.Laws.Little.{laid}
+use Rattle.std.proofs.Common.{◌≡◌, ◌++◌, ◌-◌, length, take}
+use Rattle.tally_records.specs.Records.{little}
 use Rattle.tally_records.proofs.put.Given as goal
 
-abbrev pub invariant-loop-rest : goal.invariant-loop-rest
-invariant-loop-rest l = (l.i + l.rest ≡ l.width) × (length l.buffer ≡ length l.initial.buffer) × (laid (l.at + l.i) l.rest l.left l.buffer ≡ laid l.at l.width l.n l.initial.buffer)
-
-abbrev pub decreases-loop-rest : goal.decreases-loop-rest
-decreases-loop-rest l = l.rest
+abbrev pub invariant-loop-place : goal.invariant-loop-place
+invariant-loop-place l =
+    (length l.places ≡ length l.initial.places)
+    × (take l.place-index l.places ++ little (length l.initial.places - l.place-index) l.left ≡ little (length l.initial.places) l.n)
