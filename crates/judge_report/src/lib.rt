@@ -40,8 +40,7 @@ fn print_breaks(places: &[u32], count: usize) {
 // Prints what the judging call gives of the file, each line ended by LF.
 pub fn print_judged(file: &[u8]) {
     let mut places = [0u32; 16384];
-    let mut number: u32 = 0;
-    let count = judge_places(file, &mut places, &mut number);
+    let count = judge_places(file, &mut places).unwrap_or(0);
     print_count(count);
     print_breaks(&places, count as usize);
 }

@@ -52,12 +52,7 @@ pub fn locate(file: &[u8], section: u32, row: u32, column: u32) -> Result<Place,
 }
 
 // The plain cell call: shows the very bytes that stand there, where they stand, or says why it is refused.
-pub fn cell<'a>(
-    file: &'a [u8],
-    section: u32,
-    row: u32,
-    column: u32,
-) -> Result<&'a [u8], Refusal>
+pub fn cell<'a>(file: &'a [u8], section: u32, row: u32, column: u32) -> Result<&'a [u8], Refusal>
     ensures result_after { given (number_in result) (view_in result) ≡ shown (sought file.now section row column) }
     ensures points { IfOk result (λ view. Points file.entry (sought file.now section row column).start view) }
 {

@@ -13,9 +13,9 @@ use judge_report::{print_break, print_count};
 const FILE_END: u8 = 30;
 
 // A list of records, as the judging call leaves it, and the count that it answers.
-fn listed(file: &[u8], count: &mut u32) -> [Fault; 4096]
-    ensures value { result ≡ (judged file.now (replicate 4096 (fault 0 0 0 0))).faults }
-    ensures count_after { count.new ≡ (judged file.now (replicate 4096 (fault 0 0 0 0))).count }
+fn listed(file: &[u8]) -> ([Fault; 4096], u32)
+    ensures value { result.0 ≡ (judged file.now (replicate 4096 (fault 0 0 0 0))).faults }
+    ensures count { result.1 ≡ (judged file.now (replicate 4096 (fault 0 0 0 0))).count }
 {
     let mut list = [Fault {
         rule: 0,
@@ -23,9 +23,8 @@ fn listed(file: &[u8], count: &mut u32) -> [Fault; 4096]
         cell: 0,
         first: 0,
     }; 4096];
-    let mut number: u32 = 0;
-    *count = judge(file, &mut list, &mut number);
-    list
+    let count = judge(file, &mut list).unwrap_or(0);
+    (list, count)
 }
 
 // The first records of a list of `count`, in order.
@@ -37,8 +36,7 @@ fn print_records(list: &[Fault], count: usize) {
 
 // Prints what the judging call over records gives of the file.
 fn print_listed(file: &[u8]) {
-    let mut count: u32 = 0;
-    let list = listed(file, &mut count);
+    let (list, count) = listed(file);
     print_count(count);
     print_records(&list, count as usize);
 }

@@ -16,15 +16,14 @@ const PLACES: usize = 10;
 // What the call says of one line; whether it was refused.
 fn run_line(file: &[u8], line: u32) -> bool {
     let mut places = [9u32; PLACES];
-    let mut number: u32 = 9;
-    let count = judge_line_places(file, line, &mut places, &mut number);
+    let answer = judge_line_places(file, line, &mut places);
     io::write_all(1, b"line ");
     io::print_decimal(1, u64::from(line));
     io::write_all(1, b":");
-    print_next(number);
-    print_next(count);
+    print_next(answer.err().map_or(0, |refusal| refusal.number()));
+    print_next(answer.unwrap_or(0));
     print_places(&places);
-    number != 0
+    answer.is_err()
 }
 
 fn run_lines(file: &[u8]) {

@@ -1,7 +1,6 @@
 -- `mztab::cells::locate` meets its contract: at each `return` the tests and the calls that led there say which answer it is. Assumes nothing.
 use mathlib.Core.Path.{◌≡◌, sym, ◌∙◌}
 use mathlib.Core.Bool.{true}
-use mathlib.Core.Option.{some}
 use Prim.Native.Nat.{ℕ, ◌+◌, ◌-◌, ◌≤◌}
 use native.Mathlib.Omega.{arith}
 use borrow.Author.Tests.{not-true, not-false}
@@ -9,9 +8,9 @@ use lib.ListN.{length, drop, length-take, length-drop}
 use Rattle.text_bytes.specs.Bytes.{Bytes}
 use Rattle.book.specs.Book.{is_section, book_of}
 use Rattle.book.specs.Text.{book_in}
-use Rattle.text_bytes.specs.Places.{part, after}
-use Rattle.text.specs.Lines.{TAB, LF, lines}
-use Rattle.rows.specs.Rows.{line_of, row_of, cell_at}
+use Rattle.text_bytes.specs.Places.{part}
+use Rattle.text.specs.Lines.{lines}
+use Rattle.rows.specs.Rows.{line_of, row_of}
 use Rattle.rows.proofs.Laws.Finding.{row_missing, column_missing, column_below}
 use Rattle.mztab.proofs.Laws.Locating.{placed_refused, placed_cell, sought_long, sought_nowhere, sought_no_row, sought_no_cell}
 use Rattle.mztab.proofs.cells.locate.Goals as goal
