@@ -7,7 +7,6 @@ ghost use Rattle.fee_shares.specs.Sums.{bit};
 ghost use Rattle.tally_cells.specs.Places.{Writes, Counts};
 
 use text::cells::{TAB, cell_end};
-use text_bytes::both;
 use value_references::index::is_digit;
 use values::{MINUS, WHOLE_DIGITS, is_null, is_whole, without_minus};
 
@@ -25,12 +24,6 @@ pub struct Counted {
     pub count: u64,
     pub missing: u64,
     pub below: u64,
-}
-
-fn wide(b: u8) -> u64
-    ensures { result ≡ b }
-{
-    b as u64
 }
 
 // Up to where nine digits go from a place on, no further than the text.
@@ -52,15 +45,16 @@ fn digits_from(s: &[u8], from: usize) -> Digits
 {
     let stop = stop_after(from, s.len());
     let mut n: u64 = 0;
-    let mut i = from;
-    while i < stop {
+    for i in from..stop {
         if !is_digit(s[i]) {
             return Digits { number: n, end: i };
         }
-        n = n * 10 + wide(s[i] - b'0');
-        i += 1;
+        n = n * 10 + u64::from(s[i] - b'0');
     }
-    Digits { number: n, end: i }
+    Digits {
+        number: n,
+        end: stop,
+    }
 }
 
 // 1 for a count with a minus that is not zero.
@@ -125,7 +119,7 @@ fn is_plain(line: &[u8], at: usize, end: usize) -> bool
     requires { (at ≤ end) × (end ≤ length line.now) }
     ensures { result ≡ (ltb at end && (eqb end (length line.now) || eqb (get_or line.now end 0) tab)) }
 {
-    both(at < end, is_end(line, end))
+    (at < end) & is_end(line, end)
 }
 
 // What the cell that begins at a place counts. Nearly all are digits alone, and those are read in one walk; what is read of any other is copied, so that the

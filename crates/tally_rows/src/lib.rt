@@ -81,8 +81,7 @@ fn with_cells(f: Found, line: &[u8], marks: &[u8; MOST_CELLS], width: usize) -> 
 {
     let mut found = f;
     let mut at = 0;
-    let mut k = 0;
-    while k < width {
+    for k in 0..width {
         let counter = marks[k];
         let c = read_cell(line, at, counter);
         found = with_cell(found, counter, c);
@@ -90,7 +89,6 @@ fn with_cells(f: Found, line: &[u8], marks: &[u8; MOST_CELLS], width: usize) -> 
             return found;
         }
         at = c.end + 1;
-        k += 1;
     }
     found
 }

@@ -8,6 +8,7 @@ ghost use Rattle.fee.specs.Places.{cents};
 ghost use Rattle.fee.specs.Split.{split_of};
 
 use fee::{Cents, split_places};
+use numbers::told;
 use test_fields::{next_field, number_at, short_at};
 use text::lines::line_at;
 use text_bytes::begins_with;
@@ -31,8 +32,8 @@ fn run_add(line: &[u8], at: usize)
     let a = Cents(number_at(line, at));
     let b = Cents(number_at(line, second));
     let mut number: u32 = 9;
-    let sum = a.add(b, &mut number);
-    io::print_decimal(1, number as u64);
+    let sum = told(a.add(b), Cents::ZERO, &mut number);
+    io::print_decimal(1, u64::from(number));
     print_next(sum.0);
 }
 
@@ -42,23 +43,19 @@ fn read_weights(line: &[u8], from: usize, weights: &mut [u32]) -> usize
     ensures { result ≤ length weights.old }
 {
     let mut at = from;
-    let mut n = 0;
-    while n < weights.len() {
+    for (n, weight) in weights.iter_mut().enumerate() {
         if at == line.len() {
             return n;
         }
-        weights[n] = short_at(line, at);
+        *weight = short_at(line, at);
         at = next_field(line, at);
-        n += 1;
     }
-    n
+    weights.len()
 }
 
 fn print_places(places: &[u64]) {
-    let mut i = 0;
-    while i < places.len() {
-        print_next(places[i]);
-        i += 1;
+    for place in places {
+        print_next(*place);
     }
 }
 
@@ -68,33 +65,22 @@ fn listed(fee: Cents, weights: &[u32], number: &mut u32) -> [Cents; 64]
     ensures number_after { number.new ≡ (split_of cents fee.0 weights.now (replicate 64 (record { 0 = 7 }))).number }
 {
     let mut list = [Cents(7); 64];
-    fee.split(weights, &mut list, number);
+    told(fee.split(weights, &mut list), (), number);
     list
 }
 
 // Whether the places hold the amounts of the list.
-fn same_amounts(list: [Cents; 64], places: &[u64]) -> bool
-    requires { length places.now ≡ 64 }
-{
-    let mut k = 0;
-    while k < LISTED {
-        let c = list[k];
-        if c.0 != places[k] {
-            return false;
-        }
-        k += 1;
-    }
-    true
+fn same_amounts(list: &[Cents; 64], places: &[u64]) -> bool {
+    list.iter()
+        .zip(places)
+        .all(|(amount, place)| amount.0 == *place)
 }
 
 // Says so where the split over `Cents` gives another number, or leaves another amount.
-fn compare(fee: u64, weights: &[u32], places: &[u64], number: u32)
-    requires { length places.now ≡ 64 }
-{
+fn compare(fee: u64, weights: &[u32], places: &[u64], number: u32) {
     let mut other: u32 = 9;
     let list = listed(Cents(fee), weights, &mut other);
-    let same = same_amounts(list, places);
-    if (other != number) | !same {
+    if (other != number) | !same_amounts(&list, places) {
         io::write_all(1, b" DIFFERENT");
     }
 }
@@ -102,8 +88,8 @@ fn compare(fee: u64, weights: &[u32], places: &[u64], number: u32)
 // Splits a fee into the places, and prints them; where there are 64, over `Cents` too.
 fn split_into(fee: u64, weights: &[u32], shares: &mut [u64]) {
     let mut number: u32 = 9;
-    split_places(fee, weights, shares, &mut number);
-    io::print_decimal(1, number as u64);
+    told(split_places(fee, weights, shares), (), &mut number);
+    io::print_decimal(1, u64::from(number));
     print_places(shares);
     if shares.len() == LISTED {
         compare(fee, weights, shares, number);
@@ -144,6 +130,7 @@ fn run_line(line: &[u8]) {
 // Runs all lines of a table, in order.
 fn run_all(table: &[u8]) {
     let mut at = 0;
+    // Kept: goes from line to line by where the next begins, and counts nothing.
     while at < table.len() {
         let line = line_at(table, at);
         let end = line.end;

@@ -5,24 +5,14 @@ ghost use Rattle.std.specs.Prelude.{◌≤◌, length};
 
 use text_bytes::{SPACE, seek};
 
-// A number with one digit more: ten times it, as doublings, and the digit. Past 64 bits it wraps.
+// A number with one digit more. Past 64 bits it wraps.
 fn with_digit(v: u64, digit: u8) -> u64 {
-    let v2 = std::num::wrapping_add_u64(v, v);
-    let v4 = std::num::wrapping_add_u64(v2, v2);
-    let v8 = std::num::wrapping_add_u64(v4, v4);
-    let v10 = std::num::wrapping_add_u64(v8, v2);
-    std::num::wrapping_add_u64(v10, digit as u64 % 16)
+    v.wrapping_mul(10).wrapping_add(u64::from(digit % 16))
 }
 
 // The number that digits write.
 fn number(digits: &[u8]) -> u64 {
-    let mut v: u64 = 0;
-    let mut i = 0;
-    while i < digits.len() {
-        v = with_digit(v, digits[i]);
-        i += 1;
-    }
-    v
+    digits.iter().fold(0, |v, digit| with_digit(v, *digit))
 }
 
 // The number in the field that begins at `at`.

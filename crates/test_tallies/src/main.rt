@@ -2,7 +2,8 @@
 // the number and the totals of the sum of that tally and the one that its record is read as; and the record in hexadecimal digits.
 #![tactic(auto)]
 
-use tally::{Tally, add};
+use numbers::told;
+use tally::{Tally, add, nothing, to_places};
 use tally_files::tally;
 use tally_records::{RECORD, read, write};
 use text_bytes::seek;
@@ -16,15 +17,10 @@ fn print_total(n: u64) {
 
 // A number and a tally, on a line.
 fn print_tally(number: u32, t: Tally) {
-    io::print_decimal(1, number as u64);
-    print_total(t.psms.0);
-    print_total(t.distinct.0);
-    print_total(t.unique.0);
-    print_total(t.protein_rows);
-    print_total(t.peptide_rows);
-    print_total(t.psm_rows);
-    print_total(t.small_molecule_rows);
-    print_total(t.missing);
+    io::print_decimal(1, u64::from(number));
+    for total in &to_places(t) {
+        print_total(*total);
+    }
     io::write_all(1, b"\n");
 }
 
@@ -36,12 +32,9 @@ fn digit(b: u8) -> u8 {
 
 // Bytes in hexadecimal digits, on a line.
 fn print_bytes(bytes: &[u8]) {
-    let mut i = 0;
-    while i < bytes.len() {
-        let b = bytes[i];
-        let pair = [digit(b / 16), digit(b)];
+    for b in bytes {
+        let pair = [digit(b / 16), digit(*b)];
         io::write_all(1, &pair);
-        i += 1;
     }
     io::write_all(1, b"\n");
 }
@@ -49,12 +42,12 @@ fn print_bytes(bytes: &[u8]) {
 // The three lines of a file.
 fn run(file: &[u8]) {
     let mut number: u32 = 9;
-    let t = tally(file, &mut number);
+    let t = told(tally(file), nothing(), &mut number);
     print_tally(number, t);
     let mut record = [9u8; RECORD];
-    write(t, &mut record, &mut number);
-    let again = read(&record, &mut number);
-    let sum = add(t, again, &mut number);
+    told(write(t, &mut record), 0, &mut number);
+    let again = told(read(&record), nothing(), &mut number);
+    let sum = told(add(t, again), nothing(), &mut number);
     print_tally(number, sum);
     print_bytes(&record);
 }
@@ -62,6 +55,7 @@ fn run(file: &[u8]) {
 // Runs all files of a table, in order.
 fn run_all(table: &[u8]) {
     let mut at = 0;
+    // Kept: goes from file to file by where the last one ends, and counts nothing.
     while at < table.len() {
         let e = seek(table, at, FILE_END);
         run(&table[at..e]);

@@ -5,6 +5,7 @@
 
 ghost use Rattle.std.specs.Prelude.{◌≤◌};
 
+use numbers::told;
 use rows::rows;
 use test_places::{print_next, print_places};
 use text_bytes::seek;
@@ -18,13 +19,11 @@ const MOST: usize = 65;
 // The rows of the sections 0 to 5.
 fn run_rows(file: &[u8]) {
     io::write_all(1, b"rows");
-    let mut section: u32 = 0;
-    while section < 6 {
+    for section in 0..6 {
         let mut number: u32 = 9;
         let n = rows(file, section, &mut number);
         print_next(number);
         print_next(n);
-        section += 1;
     }
     io::write_all(1, b"\n");
 }
@@ -32,7 +31,7 @@ fn run_rows(file: &[u8]) {
 // The weights in a lent list.
 fn weigh_into(file: &[u8], places: &mut [u32]) {
     let mut number: u32 = 9;
-    weights(file, places, &mut number);
+    told(weights(file, places), (), &mut number);
     io::write_all(1, b"weights");
     print_next(number);
     print_places(places);
@@ -49,6 +48,7 @@ fn run_weights(file: &[u8], n: usize)
 // Runs all files of a table, in order.
 fn run_all(table: &[u8]) {
     let mut at = 0;
+    // Kept: goes from file to file by where the last one ends, and counts nothing.
     while at < table.len() {
         let e = seek(table, at, FILE_END);
         let file = &table[at..e];

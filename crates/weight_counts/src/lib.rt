@@ -21,7 +21,7 @@ fn count_cell(weights: &mut [u32], mark: u8, cell: &[u8])
     if same_bytes(cell, b"null") {
         return;
     }
-    let i = mark as usize - 1;
+    let i = usize::from(mark) - 1;
     weights[i] += 1;
 }
 
@@ -32,15 +32,13 @@ fn count_row(weights: &mut [u32], line: &[u8], marks: &[u8; MOST_CELLS], width: 
     ensures { Raises (λ i. adds (marked marks.now i) 0 (cells line.now)) weights.old weights.new }
 {
     let mut at = 0;
-    let mut k = 0;
-    while k < width {
+    for k in 0..width {
         let e = cell_end(line, at);
         count_cell(weights, marks[k], &line[at..e]);
         if e == line.len() {
             return;
         }
         at = e + 1;
-        k += 1;
     }
 }
 
@@ -75,9 +73,5 @@ pub fn clear(weights: &mut [u32])
     ensures weights_len_unchanged { length weights.new ≡ length weights.old }
     ensures by_index { (i : ℕ) → get_or weights.new i 0 ≡ 0 }
 {
-    let mut i = 0;
-    while i < weights.len() {
-        weights[i] = 0;
-        i += 1;
-    }
+    weights.fill(0);
 }

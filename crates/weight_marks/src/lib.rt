@@ -45,8 +45,7 @@ fn marks_in(header: &[u8]) -> Marks
     let mut of = [0u8; MOST_CELLS];
     let mut width = 0;
     let mut at = 0;
-    let mut k = 0;
-    while k < MOST_CELLS {
+    for k in 0..MOST_CELLS {
         let e = cell_end(header, at);
         let mark = variable_of(&header[at..e]);
         of[k] = mark;
@@ -55,7 +54,6 @@ fn marks_in(header: &[u8]) -> Marks
             return Marks { of, width };
         }
         at = e + 1;
-        k += 1;
     }
     Marks { of, width }
 }

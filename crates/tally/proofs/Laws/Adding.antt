@@ -61,9 +61,16 @@ past_at a b k e = past_in (sums (totals a) (totals b)) k e
 pub sums_fit : {a b t : Tally} → Sums a b t → (any is_past (sums (totals a) (totals b)) ≡ false) × (totals t ≡ sums (totals a) (totals b))
 unfolding any sums
 sums_fit {a} {b} {t} s = (
-  rw (past_false (a.psms.0 + b.psms.0) s.psms.0, past_false (a.distinct.0 + b.distinct.0) s.distinct.0, past_false (a.unique.0 + b.unique.0) s.unique.0,
-      past_false (a.protein_rows + b.protein_rows) s.proteins.0, past_false (a.peptide_rows + b.peptide_rows) s.peptides.0, past_false (a.psm_rows + b.psm_rows) s.matches.0,
-      past_false (a.small_molecule_rows + b.small_molecule_rows) s.molecules.0, past_false (a.missing + b.missing) s.missing.0),
+  rw (
+    past_false (a.psms.0 + b.psms.0) s.psms.0,
+    past_false (a.distinct.0 + b.distinct.0) s.distinct.0,
+    past_false (a.unique.0 + b.unique.0) s.unique.0,
+    past_false (a.protein_rows + b.protein_rows) s.proteins.0,
+    past_false (a.peptide_rows + b.peptide_rows) s.peptides.0,
+    past_false (a.psm_rows + b.psm_rows) s.matches.0,
+    past_false (a.small_molecule_rows + b.small_molecule_rows) s.molecules.0,
+    past_false (a.missing + b.missing) s.missing.0,
+  ),
   rw (s.psms.1, s.distinct.1, s.unique.1, s.proteins.1, s.peptides.1, s.matches.1, s.molecules.1, s.missing.1),
 )
 

@@ -11,16 +11,16 @@ use Rattle.tally_cells.proofs.Laws.Reading.{digit_range, so_none, so_next, so_sm
 use Rattle.tally_cells.proofs.digits_from.Goals as goal
 
 pub loop-i-init : goal.loop-i-init
-loop-i-init c = (c.stop_after-stop.ensures.0, so_none _ _ c.requires)
+loop-i-init c = so_none _ _ c.requires
 
 pub bounds-s-i : goal.bounds-s-i
 bounds-s-i c = omega (arith, c.stop_after-stop.ensures.1)
 
 pub returns-then-not-is_digit : goal.returns-then-not-is_digit
-returns-then-not-is_digit c = so_ends c.loop-i.invariant.1 (omega (arith, c.stop_after-stop.ensures.2, c.loop-i.invariant.0)) (λ l m. sym c.is_digit.ensures ∙ not-true c.is_digit.result c.if-not-is_digit.true-raw)
+returns-then-not-is_digit c = so_ends c.loop-i.invariant (omega (arith, c.stop_after-stop.ensures.2)) (λ l m. sym c.is_digit.ensures ∙ not-true c.is_digit.result c.if-not-is_digit.true-raw)
 
 pub overflow_mul-n : goal.overflow_mul-n
-overflow_mul-n c = omega (arith, so_small c.loop-i.invariant.1 (omega (arith, c.stop_after-stop.ensures.2, c.loop-i.invariant.0)))
+overflow_mul-n c = omega (arith, so_small c.loop-i.invariant (omega (arith, c.stop_after-stop.ensures.2)))
 
 pub bounds-s-i-in-loop-i : goal.bounds-s-i-in-loop-i
 bounds-s-i-in-loop-i c = omega (arith, c.stop_after-stop.ensures.1)
@@ -36,15 +36,14 @@ overflow_add-n c =
     let digit : is_digit (get_or c.args.s.now c.loop-i.i 0) ≡ true = sym c.is_digit.ensures ∙ not-false c.is_digit.result c.if-not-is_digit.false-raw in
     let in_range : let x = get_or c.args.s.now c.loop-i.i 0 in (48 ≤ x) × (x ≤ 57) = digit_range (get_or c.args.s.now c.loop-i.i 0) digit in
     let d = in_range in
-    omega (arith, c.wide.ensures, so_small c.loop-i.invariant.1 (omega (arith, c.stop_after-stop.ensures.2, c.loop-i.invariant.0)))
-
-pub overflow_add-i : goal.overflow_add-i
-overflow_add-i c = omega (arith, c.stop_after-stop.ensures.1)
+    omega (arith, c.from.ensures, so_small c.loop-i.invariant (omega (arith, c.stop_after-stop.ensures.2)))
 
 pub loop-i-preserved : goal.loop-i-preserved
 loop-i-preserved c =
     let digit : is_digit (get_or c.args.s.now c.loop-i.i 0) ≡ true = sym c.is_digit.ensures ∙ not-false c.is_digit.result c.if-not-is_digit.false-raw in
-    (omega arith, so_next c.loop-i.invariant.1 (omega (arith, c.stop_after-stop.ensures.1)) digit c.wide.ensures)
+    so_next c.loop-i.invariant (omega (arith, c.stop_after-stop.ensures.1)) digit c.from.ensures
 
 pub returns : goal.returns
-returns c = so_ends c.loop-i.invariant.1 (omega (arith, c.stop_after-stop.ensures.2, c.loop-i.invariant.0)) (λ l m. absurd (⊎_elim (λ e. omega arith) (λ e. omega arith) c.stop_after-stop.ensures.3))
+returns c =
+    let e : c.loop-i.i ≡ c.stop_after-stop.result = omega (arith, c.stop_after-stop.ensures.0) in
+    so_ends (rw e at c.loop-i.invariant) (omega (arith, c.stop_after-stop.ensures.2)) (λ l m. absurd (⊎_elim (λ q. omega arith) (λ q. omega arith) c.stop_after-stop.ensures.3))

@@ -1,10 +1,6 @@
 -- `tally_cells::digits_from` meets its contract. The invariant: what stands from the place up to i is digits, and n is the number that they write. Assumes nothing.
-use Prim.Native.Nat.{◌-◌, ◌≤◌}
 use Rattle.tally_cells.proofs.Laws.Reading.{SoFar}
 use Rattle.tally_cells.proofs.digits_from.Given as goal
 
 abbrev pub invariant-loop-i : goal.invariant-loop-i
-invariant-loop-i l = (l.i ≤ l.stop) × SoFar l.s l.from l.n l.i
-
-abbrev pub decreases-loop-i : goal.decreases-loop-i
-decreases-loop-i l = l.stop - l.i
+invariant-loop-i l = SoFar l.s l.from l.n l.i

@@ -4,7 +4,9 @@ use mathlib.Core.Bool.{false}
 use mathlib.Core.List.{List, [], ◌∷◌, ◌++◌, append_assoc, append-nil}
 use Prim.Native.Nat.{ℕ, zero, suc, ◌+◌, ◌-◌, ◌*◌, ◌^◌, ◌<◌}
 use native.Mathlib.Omega.{arith}
-use lib.ListN.{length, get_or, drop, length-append, drop_of_length-le}
+use borrow.Author.Count.{below_more}
+use lib.Seq.{get_or-set_same, get_or-set_other}
+use lib.ListN.{length, get_or, set, drop, length-append, drop_of_length-le}
 use borrow.Author.Tests.{leb-false}
 use Rattle.text_bytes.specs.Bytes.{Bytes, any}
 use Rattle.text_bytes.specs.Places.{part}
@@ -31,6 +33,18 @@ unfolding eights_from
 eights_at zero at i bs h = absurd (omega arith)
 eights_at (suc k) at zero bs h = let e : at + 8 * 0 ≡ at = omega arith in rw e
 eights_at (suc k) at (suc i) bs h = let e : at + 8 * suc i ≡ at + 8 + 8 * i = omega arith in rw e (eights_at k (at + 8) i bs (omega arith))
+
+pub eights_length : (k at : ℕ) (bs : Bytes) → length (eights_from k at bs) ≡ k
+unfolding eights_from
+eights_length zero at bs = refl
+eights_length (suc k) at bs = ap suc (eights_length k (at + 8) bs)
+
+-- one more of them is read
+pub eights_next : (ts es : List ℕ) (i : ℕ) {v : ℕ} → i < length ts → v ≡ get_or es i 0 → ((k : ℕ) → k < i → get_or ts k 0 ≡ get_or es k 0)
+    → (k : ℕ) → k < i + 1 → get_or (set ts i v) k 0 ≡ get_or es k 0
+eights_next ts es i {v} h e f =
+    below_more (λ (k : ℕ). get_or (set ts i v) k 0 ≡ get_or es k 0) i
+    (λ k l. let ne : k ≡ i → ⊥ = λ q. omega arith in get_or-set_other ts i k v 0 ne ∙ f k l) (get_or-set_same ts i v 0 h ∙ e)
 
 -- WHAT IS WRITTEN IS READ, and what is read is written again
 

@@ -1,12 +1,13 @@
 -- Numbers in bytes, the lowest first, in any width: written byte by byte from below, read byte by byte from above, and each undoes the other. Assumes nothing.
 use mathlib.Core.Path.{◌≡◌, refl, sym, ap, ◌∙◌}
-use mathlib.Core.List.{[], ◌∷◌, ◌++◌, append_assoc, append-nil}
+use mathlib.Core.List.{[], ◌∷◌, ◌++◌, append_assoc, append-nil, reverse}
 use Prim.Native.Nat.{ℕ, zero, suc, ◌+◌, ◌-◌, ◌*◌, ◌/◌, ◌%◌, ◌^◌, ◌≤◌, ◌<◌}
 use native.Mathlib.Nat.{pow-succ', mod-add-div, pow-le-pow_right}
 use native.Mathlib.Numerals.{add-one}
 use native.Mathlib.Omega.{arith}
 use lib.ListN.{length, take, drop, get_or, set, length-drop, take-append-drop}
 use lib.Seq.{take-suc-set, take_all, drop-cons, drop-length, length-take-le, take_at, drop_at, drop-drop, get_or-drop}
+use Rattle.std.proofs.lemmas.List.{length-reverse, get_or-reverse, get_or_read}
 use Rattle.text_bytes.specs.Bytes.{Bytes}
 use Rattle.text_bytes.specs.Places.{part}
 use Rattle.tally_records.specs.Records.{little, number_in}
@@ -60,6 +61,18 @@ reads_next {bs} {i} {j} {n} {b} r e q l =
       fits = rw (k, pow-succ' 256 (length bs - i)) (omega (arith, r.fits));
       number = rw (r.number, ← e, q) (sym (number_step bs j (omega (arith, r.within))));
     }
+
+-- byte number k from the end
+pub byte_at : (bs : Bytes) (k b : ℕ) → (k < length (reverse bs)) × (b ≡ get_or (reverse bs) k b) → (k < length bs) × (b ≡ get_or bs (length bs - 1 - k) 0)
+byte_at bs k b t =
+    let h : k < length bs = omega (arith, t.0, length-reverse bs) in
+    (h, get_or_read bs (length bs - 1 - k) b (omega arith) (t.1 ∙ get_or-reverse bs k b h) 0)
+
+pub reads_turn : {bs : Bytes} {k m n b : ℕ} → Reads bs (length bs - k) n → m ≡ k + 1 → k < length bs → b ≡ get_or bs (length bs - 1 - k) 0 → get_or bs (length bs - 1 - k) 0 < 256
+    → Reads bs (length bs - m) (n * 256 + b)
+reads_turn {bs} {k} {m} {n} {b} r e h q l =
+    let f : length bs - 1 - k ≡ length bs - m = omega arith in
+    reads_next r (omega arith) (rw f at q) (omega (arith, q))
 
 -- there is room for it
 pub reads_room : {bs : Bytes} {i n : ℕ} → Reads bs i n → 0 < i → length bs ≤ 8 → n < 2 ^ 56

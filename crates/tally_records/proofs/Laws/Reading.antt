@@ -1,21 +1,18 @@
 -- What is read: the head of a record, test by test, and the tally by its totals. Assumes nothing.
-use mathlib.Core.Path.{◌≡◌}
+use mathlib.Core.Path.{◌≡◌, ap, ◌∙◌}
 use mathlib.Core.Bool.{true, false, ◌&&◌}
-use mathlib.Core.List.{[], ◌∷◌}
+use mathlib.Core.List.{List}
 use Prim.Native.Nat.{ℕ}
 use lib.Dec.{eqb}
-use lib.ListN.{length, get_or}
+use lib.ListN.{length}
 use borrow.Author.Tests.{eq-eqb, ne_eqb, eqb-true}
 use Rattle.numbers.specs.Numbers.{NO_RECORD}
 use Rattle.text_bytes.specs.Bytes.{Bytes}
 use Rattle.text_bytes.specs.Places.{part}
 use Rattle.text_bytes.proofs.Laws.Tests.{and_left, and_right}
+use Rattle.tally.specs.declared.Tally.{Tally}
 use Rattle.tally.specs.Tally.{tally_of, zero as nothing, outcome as told}
 use Rattle.tally_records.specs.Records.{RECORD, REST, KIND, number_in, eights_from, is_record, tally_in, read_as}
-
--- total number i
-abbrev total_in : Bytes → ℕ → ℕ
-total_in bs i = get_or (eights_from 8 6 bs) i 0
 
 -- THE HEAD
 pub record Head (bs : Bytes) : Type 0 where
@@ -60,7 +57,6 @@ module _ (bs : Bytes) where
   read_whole h = rw h
 
   -- by its totals
-  pub read_totals : {a b c d e f g h : ℕ} → is_record bs ≡ true → a ≡ total_in bs 0 → b ≡ total_in bs 1 → c ≡ total_in bs 2 → d ≡ total_in bs 3 → e ≡ total_in bs 4 → f ≡ total_in bs 5
-      → g ≡ total_in bs 6 → h ≡ total_in bs 7 → told 0 (tally_of (a ∷ b ∷ c ∷ d ∷ e ∷ f ∷ g ∷ h ∷ [])) ≡ read_as bs
+  pub read_totals : {ts : List ℕ} {t : Tally} → is_record bs ≡ true → ts ≡ eights_from 8 6 bs → t ≡ tally_of ts → told 0 t ≡ read_as bs
   unfolding tally_in
-  read_totals is p0 p1 p2 p3 p4 p5 p6 p7 = rw (p0, p1, p2, p3, p4, p5, p6, p7) (read_whole is)
+  read_totals is e q = ap (told 0) (q ∙ ap tally_of e) ∙ read_whole is

@@ -3,8 +3,10 @@ use mathlib.Core.Path.{◌≡◌, sym, ap, ◌∙◌}
 use mathlib.Core.List.{List, [], ◌∷◌, ◌++◌, append_assoc}
 use Prim.Native.Nat.{ℕ, ◌+◌, ◌-◌, ◌*◌, ◌≤◌, ◌<◌}
 use native.Mathlib.Omega.{arith}
-use lib.ListN.{length, take, drop, take-append-drop, length-append}
-use lib.Seq.{length-take-le, take_at, drop-append-add, drop-drop}
+use borrow.Rule.Slice.PartMut.{put_mid, Post-is}
+use Rattle.std.proofs.lemmas.List.{take_more}
+use lib.ListN.{length, take, drop, get_or, take-append-drop, length-append, length-drop}
+use lib.Seq.{length-take-le, take_all, take_at, drop-append-add, drop-drop}
 use borrow.Author.Tests.{lt-ltb, le-ltb}
 use Rattle.numbers.specs.Numbers.{NO_ROOM}
 use Rattle.text_bytes.specs.Bytes.{Bytes}
@@ -43,6 +45,15 @@ stand_more {at} {mid} {to} {ps} {bs} qs s e h put =
       are = put ∙ rw (w, take_at p (drop mid bs) mid l, past p bs mid to l (omega arith)) (simp append_assoc);
     }
 
+-- a number put into a part of the buffer
+pub put_at : (at w n : ℕ) (xs ys : Bytes) → at + w ≤ length xs → ys ≡ little (length (take (at + w - at) (drop at xs))) n
+    → put_mid at (at + w - at) xs ys ≡ take at xs ++ (little w n ++ drop (at + w) xs)
+put_at at w n xs ys h e =
+    let k : at + w - at ≡ w = omega arith in
+    let l : length (take (at + w - at) (drop at xs)) ≡ w = rw k (length-take-le w (drop at xs) (omega (arith, length-drop at xs))) in
+    let q : ys ≡ little w n = e ∙ ap (λ (m : ℕ). little m n) l in
+    ap (λ (z : Bytes). take at xs ++ (ys ++ z)) (Post-is at (at + w) xs (omega arith)) ∙ ap (λ (z : Bytes). take at xs ++ (z ++ drop (at + w) xs)) q
+
 -- TOTALS: so many of them stand from place 6 on
 pub record Totals (ns : List ℕ) (bs xs : Bytes) : Type 0 where
   pub room : RECORD ≤ length bs
@@ -62,6 +73,18 @@ totals_more n {ns} {bs} s h put =
       stand = rw (e, ← (eights_snoc ns n)) (stand_more (little 8 n) s.stand (omega (arith, length_little 8 n)) (omega (arith, s.room)) put);
     }
 
+-- the same of a list of totals
+pub totals_next : (ts : List ℕ) {bs xs ys : Bytes} (i : ℕ) → length ts ≡ 8 → i < 8 → length xs ≡ length bs → Totals (take i ts) bs xs
+    → ys ≡ little (length (take (6 + 8 * i + 8 - (6 + 8 * i)) (drop (6 + 8 * i) xs))) (get_or ts i 0)
+    → Totals (take (i + 1) ts) bs (put_mid (6 + 8 * i) (6 + 8 * i + 8 - (6 + 8 * i)) xs ys)
+totals_next ts {bs} {xs} {ys} i e h q s put =
+    let l : length (take i ts) ≡ i = length-take-le i ts (omega arith) in
+    let p = put_at (6 + 8 * i) 8 (get_or ts i 0) xs ys (omega (arith, s.room)) put in
+    rw (take_more ts i 0 (omega arith)) (totals_more (get_or ts i 0) s (omega arith) (rw l p))
+
+pub totals_end : (t : Tally) (i : ℕ) {ts : List ℕ} {bs xs : Bytes} → 8 ≤ i → ts ≡ totals t → Totals (take i ts) bs xs → xs ≡ take 6 bs ++ (in_eights (totals t) ++ drop RECORD bs)
+totals_end t i {ts} h q s = let e : take i ts ≡ totals t = take_all i ts (omega (arith, ap length q)) ∙ q in (rw e at s).stand.are
+
 -- THE RECORD: the length of the rest, the kind, and the totals
 module _ (t : Tally) (bs : Bytes) where
   pub write_short : length bs < RECORD → outcome NO_ROOM 0 bs ≡ written t bs
@@ -73,10 +96,15 @@ module _ (t : Tally) (bs : Bytes) where
   write_long h = rw (le-ltb (length bs) RECORD h)
 
   -- the three pieces of it, one behind the other
-  pub write_whole : {xs ys zs : Bytes} → RECORD ≤ length bs → xs ≡ take 0 bs ++ (little 4 REST ++ drop 4 bs) → ys ≡ take 4 xs ++ (little 2 KIND ++ drop 6 xs)
-      → zs ≡ take 6 ys ++ (in_eights (totals t) ++ drop RECORD ys) → outcome 0 RECORD zs ≡ written t bs
+  pub write_whole : {y1 y2 zs : Bytes} → RECORD ≤ length bs → y1 ≡ little (length (take 4 bs)) REST → y2 ≡ little (length (take 2 (drop 4 (y1 ++ drop 4 bs)))) KIND
+      → zs ≡ take 6 (put_mid 4 2 (y1 ++ drop 4 bs) y2) ++ (in_eights (totals t) ++ drop RECORD (put_mid 4 2 (y1 ++ drop 4 bs) y2)) → outcome 0 RECORD zs ≡ written t bs
   unfolding record_of
-  write_whole h p q r =
+  write_whole {y1} {y2} h e1 e2 r =
+      let front : length (take 4 bs) ≡ 4 = length-take-le 4 bs (omega arith) in
+      let f : y1 ≡ little 4 REST = e1 ∙ ap (λ (m : ℕ). little m REST) front in
+      let p : y1 ++ drop 4 bs ≡ take 0 bs ++ (little 4 REST ++ drop 4 bs) = ap (λ (z : Bytes). z ++ drop 4 bs) f in
+      let long : length (y1 ++ drop 4 bs) ≡ length bs = omega (arith, length-append y1 (drop 4 bs), length-drop 4 bs, ap length f, length_little 4 REST) in
+      let q = put_at 4 2 KIND (y1 ++ drop 4 bs) y2 (omega arith) e2 in
       let s1 = stand_more {to = 4} (little 4 REST) (stand_none 0 bs (omega arith)) (omega (arith, length_little 4 REST)) (omega arith) p in
       let s2 = stand_more {to = 6} (little 2 KIND) s1 (omega (arith, length_little 2 KIND)) (omega arith) q in
       let s3 = stand_more {to = RECORD} (in_eights (totals t)) s2 (omega (arith, length_eights (totals t))) h r in

@@ -4,4 +4,4 @@ use Rattle.tally_records.proofs.Laws.Writing.{Totals}
 use Rattle.tally_records.proofs.put_totals.Given as goal
 
 abbrev pub invariant-loop-i : goal.invariant-loop-i
-invariant-loop-i l = Totals (take l.i l.totals) l.initial.buffer l.buffer
+invariant-loop-i l = Totals (take l.i l.total-items) l.initial.buffer l.buffer

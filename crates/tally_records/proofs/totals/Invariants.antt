@@ -4,4 +4,4 @@ use Rattle.tally_records.specs.Records.{eights_from}
 use Rattle.tally_records.proofs.totals.Given as goal
 
 abbrev pub invariant-loop-i : goal.invariant-loop-i
-invariant-loop-i l = (length l.totals ≡ 8) × ((k : ℕ) → k < l.i → get_or l.totals k 0 ≡ get_or (eights_from 8 6 l.bytes) k 0)
+invariant-loop-i l = (length l.total-items ≡ 8) × ((k : ℕ) → k < l.i → get_or l.total-items k 0 ≡ get_or (eights_from 8 6 l.bytes) k 0)

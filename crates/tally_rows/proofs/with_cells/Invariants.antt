@@ -1,6 +1,6 @@
 -- `tally_rows::with_cells` meets its contract. The invariant: what was added and what the cells left will add is what all cells add. Assumes nothing.
 use mathlib.Core.Path.{◌≡◌}
-use Prim.Native.Nat.{ℕ, ◌+◌, ◌-◌, ◌≤◌}
+use Prim.Native.Nat.{ℕ, ◌+◌, ◌≤◌}
 use lib.ListN.{length, drop, get_or}
 use Rattle.text_bytes.specs.Bytes.{Bytes}
 use Rattle.text.specs.Lines.{cells}
@@ -9,8 +9,5 @@ use Rattle.tally_rows.specs.Counts.{nine, cell_adds, row_adds}
 use Rattle.tally_rows.proofs.with_cells.Given as goal
 
 abbrev pub invariant-loop-k : goal.invariant-loop-k
-invariant-loop-k l = (l.at ≤ length l.line) × (l.k ≤ l.width)
+invariant-loop-k l = (l.at ≤ length l.line)
     × ((i : ℕ) → nine l.found i + sum_cells (λ (j : ℕ) (cell : Bytes). cell_adds (get_or l.marks j 0) cell i) l.k (cells (drop l.at l.line)) ≡ nine l.initial.found i + row_adds l.marks l.line i)
-
-abbrev pub decreases-loop-k : goal.decreases-loop-k
-decreases-loop-k l = l.width - l.k

@@ -2,11 +2,11 @@
 use mathlib.Core.Path.{◌≡◌, refl, ap, ◌∙◌}
 use mathlib.Core.Bool.{Bool, true, false, cond, not, ◌&&◌}
 use mathlib.Core.List.{List, [], ◌∷◌}
-use Prim.Native.Nat.{ℕ, suc, ◌+◌, ◌-◌, ◌≤◌, ◌<◌}
+use Prim.Native.Nat.{ℕ, zero, suc, ◌+◌, ◌-◌, ◌≤◌, ◌<◌}
 use native.Mathlib.Numerals.{add-one}
 use native.Mathlib.Omega.{arith}
 use lib.Dec.{eqb, ltb}
-use lib.ListN.{length, drop, get_or, set, get_or-eq_default}
+use lib.ListN.{length, drop, get_or, set, replicate, get_or-eq_default}
 use lib.Seq.{get_or-set_same, get_or-set_other}
 use borrow.Author.Tests.{eq-eqb, ne_eqb, eqb-true, eqb-false, ltb-true, ltb-false}
 use Rattle.text_bytes.specs.Bytes.{Bytes, is}
@@ -124,16 +124,7 @@ module _ (ms : List ℕ) {f : Bytes} {s e next : ℕ} (at : LineAt f s e next) (
 
 -- ZEROS
 
-pub zero_next : (ws : List ℕ) (i : ℕ) → i < length ws → ((j : ℕ) → j < i → get_or ws j 0 ≡ 0) → (j : ℕ) → j < i + 1 → get_or (set ws i 0) j 0 ≡ 0
-zero_next ws i h z j l = go (eqb j i) refl
-  where
-    go : (t : Bool) → eqb j i ≡ t → get_or (set ws i 0) j 0 ≡ 0
-    go true e = let q : j ≡ i = eqb-true j i e in rw q (get_or-set_same ws i 0 0 h)
-    go false e = let n = eqb-false j i e in get_or-set_other ws i j 0 0 n ∙ z j (omega arith)
-
-pub zero_all : (ws : List ℕ) (i : ℕ) → length ws ≤ i → ((j : ℕ) → j < i → get_or ws j 0 ≡ 0) → (j : ℕ) → get_or ws j 0 ≡ 0
-zero_all ws i h z j = go (ltb j i) refl
-  where
-    go : (t : Bool) → ltb j i ≡ t → get_or ws j 0 ≡ 0
-    go true e = z j (ltb-true j i e)
-    go false e = let l = ltb-false j i e in get_or-eq_default ws 0 {n = j} (omega arith)
+pub zeros : (n i : ℕ) → get_or (replicate {A = ℕ} n 0) i 0 ≡ 0
+zeros zero i = refl
+zeros (suc n) zero = refl
+zeros (suc n) (suc i) = zeros n i

@@ -13,4 +13,4 @@ returns-then-same_bytes c = cell_null c.args.mark c.args.cell.now c.args.weights
 
 pub returns : goal.returns
 unfolding bytes
-returns c = cell_counts c.args.mark c.args.cell.now c.args.weights.now c.if-mark-eq0.false (sym c.same_bytes.ensures ∙ c.if-same_bytes.false)
+returns c = rw c.from-i.ensures (cell_counts c.args.mark c.args.cell.now c.args.weights.now c.if-mark-eq0.false (sym c.same_bytes.ensures ∙ c.if-same_bytes.false))

@@ -7,7 +7,7 @@ use native.Mathlib.Omega.{arith}
 use lib.Dec.{eqb, ltb}
 use lib.ListN.{length, get_or}
 use lib.Seq.{ext_get_or}
-use borrow.Author.Tests.{lt-ltb, le-ltb, eq-eqb, ne_eqb, eqb-true, ltb-false}
+use borrow.Author.Tests.{lt-ltb, le-ltb, eq-eqb, ne_eqb, eqb-true, ltb-true, ltb-false}
 use Rattle.numbers.specs.Numbers.{TOO_LONG, NOT_ACCEPTED, NOT_AS_MANY}
 use Rattle.text_bytes.specs.Bytes.{Bytes}
 use Rattle.text.specs.Lines.{LIMIT, lines}
@@ -15,7 +15,7 @@ use Rattle.rows.specs.Rows.{header_of}
 use Rattle.rules.specs.Rules.{breaks, is_accepted}
 use Rattle.rules.proofs.Laws.Accepted.{accepted_none}
 use Rattle.judged.specs.Judged.{outcome as judgedAs, judged}
-use Rattle.judged.proofs.Laws.Judging.{judged_count}
+use Rattle.judged.proofs.Laws.Judging.{judge_places_refused, judge_places_lists, judged_count}
 use Rattle.fee.proofs.Laws.Theorems.{list_length, list_at}
 use Rattle.weight_counts.specs.Variables.{PROTEIN, VARIABLES}
 use Rattle.weights.specs.Weights.{weight_of, weights_of, refusal, outcome, weighed}
@@ -24,12 +24,30 @@ use Rattle.weight_marks.specs.Marks.{Marked}
 use Rattle.weight_marks.specs.declared.Marks.{Marks}
 use Rattle.weights.proofs.Laws.Weighing.{weighed_lines, weight_most}
 
+-- what the number of a judging call says of the file's length
+judged_long : (file : Bytes) (ys : List ℕ) {zs : List ℕ} {n k : ℕ} → judgedAs n k zs ≡ judged file ys → (n ≡ 0 → ⊥) → (LIMIT < length file) × (n ≡ TOO_LONG)
+judged_long file ys {n = n} e ne = go (ltb LIMIT (length file)) refl
+  where
+    go : (t : Bool) → ltb LIMIT (length file) ≡ t → (LIMIT < length file) × (n ≡ TOO_LONG)
+    go true p = let l = ltb-true LIMIT (length file) p in (l, (judge_places_refused file ys e l).number)
+    go false p = absurd (ne (judge_places_lists file ys e (ltb-false LIMIT (length file) p)).number)
+
+pub judged_fits : (file : Bytes) (ys : List ℕ) {zs : List ℕ} {k : ℕ} → judgedAs 0 k zs ≡ judged file ys → length file ≤ LIMIT
+judged_fits file ys e = go (ltb LIMIT (length file)) refl
+  where
+    go : (t : Bool) → ltb LIMIT (length file) ≡ t → length file ≤ LIMIT
+    go true p = absurd (omega (arith, (judge_places_refused file ys e (ltb-true LIMIT (length file) p)).number))
+    go false p = ltb-false LIMIT (length file) p
+
 -- THE NUMBER
 
 module _ (file : Bytes) (places : ℕ) where
   pub refuse_long : LIMIT < length file → TOO_LONG ≡ refusal file places
   unfolding refusal
   refuse_long h = rw (lt-ltb LIMIT (length file) h)
+
+  pub refuse_judged : (ys : List ℕ) {zs : List ℕ} {n k : ℕ} → judgedAs n k zs ≡ judged file ys → (n ≡ 0 → ⊥) → n ≡ refusal file places
+  refuse_judged ys e ne = let l = judged_long file ys e ne in l.1 ∙ refuse_long l.0
 
   module _ (fits : length file ≤ LIMIT) (ys : List ℕ) {zs : List ℕ} {n k : ℕ} (e : judgedAs n k zs ≡ judged file ys) where
     counted : k ≡ length (breaks file)
