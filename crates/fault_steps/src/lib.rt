@@ -30,6 +30,7 @@ const FULL: u32 = 2524;
 
 // Where the call stands between two steps: whether there is more to judge, the count of all breaks up to here, how long the lent list is, and where in it the
 // records of the last part go, and how many of them. Then what is carried from part to part.
+// Kept: `more` is a state of the walk, and no value stands beside it: all else is told of a walk that has ended too.
 #[derive(Clone, Copy)]
 pub struct Progress {
     pub more: bool,

@@ -1,7 +1,8 @@
 // The call for one line: it is judged under the whole file, and of the lines above only what is carried to it is worked out.
 #![tactic(auto)]
 
-ghost use Rattle.std.specs.Prelude.{◌≡◌, true, false, cond, ◌-◌, ◌≤◌, ◌<◌, length, replicate};
+ghost use Rattle.std.specs.Prelude.{◌≡◌, true, false, cond, ◌-◌, ◌≤◌, ◌<◌, length, replicate, MatchOption};
+ghost use Rattle.numbers.specs.Refusals.{number_in, answer_or};
 ghost use Rattle.text.specs.Lines.{LIMIT, lines};
 ghost use Rattle.book.specs.Book.{is_section};
 ghost use Rattle.book.specs.Text.{book_in, IsBook};
@@ -15,7 +16,7 @@ ghost use Rattle.rules.specs.Edited.{line_of};
 ghost use Rattle.judging.specs.Parts.{beginning};
 ghost use Rattle.judging.specs.Calls.{Going};
 ghost use Rattle.judged_line.specs.Judged.{is_line, judged_line};
-ghost use Rattle.judged_line.specs.Passing.{Passes, Reaches, Headed, Learnt};
+ghost use Rattle.judged_line.specs.Passing.{Passes, Reaches, Sought, Learnt};
 
 use book_text::book;
 use judging::calls::{Carried, begin};
@@ -23,7 +24,7 @@ use judging::parts::{Bounds, Stand, judge_lines};
 use line_head::{Head, judge_head};
 use line_head_stamps::ROOM;
 use line_meta::judge_meta;
-use numbers::NO_ROW;
+use numbers::Refusal;
 use rules::sorts::{Sort, sort_of};
 use scan::places::Tag;
 use scan::state::{FIRSTS, MOST_CELLS, State, after_header, after_row, first_kept, header_slot};
@@ -57,11 +58,7 @@ fn pass_line(
 {
     let sort = sort_of(book, line);
     match sort {
-        Sort::Silent => Passed {
-            state,
-            header: false,
-        },
-        Sort::Unknown => Passed {
+        Sort::Silent | Sort::Unknown => Passed {
             state,
             header: false,
         },
@@ -82,16 +79,16 @@ fn pass_line(
             let first = slots[slot];
             slots[slot] = first_kept(first, n);
             let width = count_cells(line);
-            let next = after_header(state, h, width);
+            let state = after_header(state, h, width);
             Passed {
-                state: next,
+                state,
                 header: true,
             }
         }
         Sort::Row(r) => {
-            let next = after_row(state, r);
+            let state = after_row(state, r);
             Passed {
-                state: next,
+                state,
                 header: false,
             }
         }
@@ -105,17 +102,16 @@ fn nearer_head(header: bool, at: usize, head: usize) -> usize
     if header { at } else { head }
 }
 
-// Whether the line sought is there, its place, the state that stands for the lines above it, and the place of the nearest header among them.
+// The place of the line sought, that of the nearest header among the lines above it, and the state that stands for these.
 #[derive(Clone, Copy)]
 pub struct Reached {
-    pub found: bool,
     pub at: usize,
     pub head: usize,
     pub state: State,
 }
 
-// Passes the lines above a line, from the first on. The slots lent get the first lines of the keys and headers above; the ids are those that the whole file
-// declares.
+// Passes the lines above a line, from the first on; there is no answer where the line is not there. The slots lent get the first lines of the keys and headers
+// above; the ids are those that the whole file declares.
 fn reach(
     line: u32,
     book: &[u8],
@@ -123,7 +119,7 @@ fn reach(
     first: State,
     flags: &[[bool; INDICES]; FAMILIES],
     slots: &mut [u32],
-) -> Reached
+) -> Option<Reached>
     requires book { IsBook book.now }
     requires file_len_bound { length file.now ≤ LIMIT }
     requires reaches { Reaches (book_in book.now) file.now 0 0 first slots.old }
@@ -131,23 +127,15 @@ fn reach(
     requires asking_of { AskingOf (book_in book.now) (lines file.now) first.asking }
     requires flags { Flags flags.now }
     requires slots_len { length slots.old ≡ firsts }
-    ensures le_line { result.found ≡ true → (1 ≤ line) × (result.at < length file.now) × Reaches (book_in book.now) file.now result.at (line - 1) result.state slots.new × Headed (book_in book.now) file.now (line - 1) result.head result.state × AskingOf (book_in book.now) (lines file.now) result.state.asking }
-    ensures file_len_bound_2 { result.found ≡ false → 1 ≤ line → length (lines file.now) < line }
+    ensures reached { MatchOption result (1 ≤ line → length (lines file.now) < line) (Sought (book_in book.now) file.now line slots.new) }
     ensures slots_len_2 { length slots.new ≡ firsts }
 {
     let mut state = first;
     let mut head = 0;
     let mut at = 0;
-    let mut n: u32 = 0;
-    while at < file.len() {
-        n += 1;
-        if n == line {
-            return Reached {
-                found: true,
-                at,
-                head,
-                state,
-            };
+    for n in 1..line {
+        if file.len() <= at {
+            return None;
         }
         let here = line_at(file, at);
         let end = here.end;
@@ -156,12 +144,8 @@ fn reach(
         head = nearer_head(passed.header, at, head);
         at = here.next;
     }
-    Reached {
-        found: false,
-        at,
-        head,
-        state,
-    }
+    let there = (0 < line) & (at < file.len());
+    there.then_some(Reached { at, head, state })
 }
 
 // The kinds of the columns of the nearest header above, which begins at `head`, where the state says that there is one. Its breaks are not asked for.
@@ -188,7 +172,6 @@ fn learn_kinds(
     let end = here.end;
     let mut none = [0u32; 1];
     let mut stamps = [0u32; ROOM];
-    let asking = state.asking;
     let tag = Tag {
         line: 0,
         control: 0,
@@ -196,7 +179,7 @@ fn learn_kinds(
     let nearest = Head {
         tag,
         section,
-        asking,
+        asking: state.asking,
         first: 0,
         later: false,
     };
@@ -212,40 +195,25 @@ fn learn_kinds(
     );
 }
 
-// Whether the line is there, and how many breaks it has.
-#[derive(Clone, Copy)]
-pub struct Alone {
-    pub found: bool,
-    pub count: u32,
-}
-
-// One line under what the whole file says: its breaks are in the places, where it is there.
-fn judge_alone(places: &mut [u32], line: u32, book: &[u8], file: &[u8], begun: Carried) -> Alone
+// One line under what the whole file says, where it is there: its breaks are in the places, and their count is the answer.
+fn judge_alone(
+    places: &mut [u32],
+    line: u32,
+    book: &[u8],
+    file: &[u8],
+    begun: Carried,
+) -> Option<u32>
     requires book { IsBook book.now }
     requires going { Going (book_in book.now) file.now begun (replicate firsts 0) }
     requires stand_value { begun.stand ≡ beginning begun.stand.state.asking }
-    ensures found_value { result.found ≡ is_line file.now line }
-    ensures count_after { result.found ≡ true → lent places.new result.count ≡ put_all (lent places.old 0) (line_of (book_in book.now) (lines file.now) line) }
-    ensures places_unchanged { result.found ≡ false → places.new ≡ places.old }
+    ensures { MatchOption result ((is_line file.now line ≡ false) × (places.new ≡ places.old)) (λ k. (is_line file.now line ≡ true) × (lent places.new k ≡ put_all (lent places.old 0) (line_of (book_in book.now) (lines file.now) line))) }
 {
-    let a = begun.samples;
-    let b = begun.assays;
-    let c = begun.variables;
-    let d = begun.runs;
-    let flags = [a, b, c, d];
+    let flags = begun.flags;
     let mut slots = [0u32; FIRSTS];
-    let first = begun.stand.state;
-    let reached = reach(line, book, file, first, &flags, &mut slots);
-    if !reached.found {
-        return Alone {
-            found: false,
-            count: 0,
-        };
-    }
+    let reached = reach(line, book, file, begun.stand.state, &flags, &mut slots)?;
     let mut kinds = begun.kinds;
     let state = reached.state;
-    let head = reached.head;
-    learn_kinds(state, head, book, file, &flags, &mut kinds);
+    learn_kinds(state, reached.head, book, file, &flags, &mut kinds);
     let at = reached.at;
     let next = at + 1;
     let bounds = Bounds { room: 1, end: next };
@@ -261,27 +229,15 @@ fn judge_alone(places: &mut [u32], line: u32, book: &[u8], file: &[u8], begun: C
     let judged = judge_lines(
         places, bounds, book, file, stand, &flags, &mut kinds, &mut slots,
     );
-    Alone {
-        found: true,
-        count: judged.held,
-    }
+    Some(judged.held)
 }
 
 // The breaks of one line, 1 to N, judged under the whole file: their count is the answer, and those that fit are written, four places each: rule, line, cell,
-// first. A file over the limit gives number 1, a line that is not there number 3, and then the count is 0 and the list stays as it was.
-pub fn judge_line_places(file: &[u8], line: u32, places: &mut [u32], number: &mut u32) -> u32
-    ensures { outcome number.new result places.new ≡ judged_line file.now line places.old }
+// first. A file over the limit is refused, and a line that is not there, and then the list stays as it was.
+pub fn judge_line_places(file: &[u8], line: u32, places: &mut [u32]) -> Result<u32, Refusal>
+    ensures { outcome (number_in result) (answer_or 0 result) places.new ≡ judged_line file.now line places.old }
 {
     let rows = book();
-    let begun = begin(&rows, file);
-    *number = begun.number;
-    if begun.number != 0 {
-        return 0;
-    }
-    let alone = judge_alone(places, line, &rows, file, begun);
-    if !alone.found {
-        *number = NO_ROW;
-        return 0;
-    }
-    alone.count
+    let begun = begin(&rows, file)?;
+    judge_alone(places, line, &rows, file, begun).ok_or(Refusal::NoRow)
 }

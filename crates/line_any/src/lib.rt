@@ -79,43 +79,36 @@ pub fn judge_line(
     let state = step.state;
     match sort {
         Sort::Silent => step,
-        Sort::Unknown => Step {
-            line: tag.line,
-            count: judge_unknown(places, count, tag),
-            state,
-        },
+        Sort::Unknown => {
+            let count = judge_unknown(places, count, tag);
+            Step { count, ..step }
+        }
         Sort::Meta => {
-            let table = state.table;
-            let k = judge_meta(places, count, book, line, tag, table, flags, slots);
-            Step {
-                line: tag.line,
-                count: k,
-                state,
-            }
+            let count = judge_meta(places, count, book, line, tag, state.table, flags, slots);
+            Step { count, ..step }
         }
         Sort::Header(h) => {
             let slot = header_slot(h);
             let first = slots[slot];
-            let asking = state.asking;
             let head = Head {
                 tag,
                 section: h,
-                asking,
+                asking: state.asking,
                 first,
                 later: h < state.highest,
             };
             let width = count_cells(line);
-            let k = judge_head(places, count, book, line, head, flags, kinds, stamps);
+            let count = judge_head(places, count, book, line, head, flags, kinds, stamps);
             slots[slot] = first_kept(first, tag.line);
-            let next = after_header(state, h, width);
+            let state = after_header(state, h, width);
             Step {
-                line: tag.line,
-                count: k,
-                state: next,
+                count,
+                state,
+                ..step
             }
         }
         Sort::Row(r) => {
-            let k = judge_row(
+            let count = judge_row(
                 places,
                 count,
                 line,
@@ -125,11 +118,11 @@ pub fn judge_line(
                 state.width,
                 kinds,
             );
-            let next = after_row(state, r);
+            let state = after_row(state, r);
             Step {
-                line: tag.line,
-                count: k,
-                state: next,
+                count,
+                state,
+                ..step
             }
         }
     }

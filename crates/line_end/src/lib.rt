@@ -15,16 +15,15 @@ use book::slots::start_of;
 use book_facts::{Asking, is_asked};
 use scan::places::put_if;
 use scan::state::State;
-use text_bytes::both;
 use value_references::{FAMILIES, INDICES};
 
 // The line after the last, and what was found of the file: what decides whether something is asked of it, and the sections that are present, with 0 among
 // them.
 #[derive(Clone, Copy)]
 struct End {
-    pub line: u32,
-    pub asking: Asking,
-    pub present: [bool; SECTIONS],
+    line: u32,
+    asking: Asking,
+    present: [bool; SECTIONS],
 }
 
 // Whether any key came that has one of the slots, from one up to another.
@@ -32,14 +31,7 @@ fn any_came(slots: &[u32], from: usize, to: usize) -> bool
     requires { (from ≤ to) × (to ≤ length slots.now) }
     ensures { result ≡ is_marked (marks slots.now) from to }
 {
-    let mut i = from;
-    while i < to {
-        if slots[i] != 0 {
-            return true;
-        }
-        i += 1;
-    }
-    false
+    slots[from..to].iter().any(|s| *s != 0)
 }
 
 // A demand that is asked for each declared id of a family: its key with the id's index is absent. The slots of the key begin at `from`.
@@ -60,16 +52,12 @@ fn judge_ids(
     requires count_bound { count + 64 ≤ CEILING }
     ensures { Puts (id_breaks d asked (marks slots.now) (get_or flags.now d.each []) from line_no (up_from 64 1)) 64 (lent places.old count) (lent places.new result) }
 {
-    let f = d.each;
-    let ids = flags[f];
+    let ids = flags[d.each];
     let mut c = count;
-    let mut cell = d.cell;
-    let mut i = 0;
-    while i < INDICES {
-        cell += 1;
-        let lacking = both(both(asked, ids[i]), slots[from + i] == 0);
+    for i in 0..INDICES {
+        let cell = d.cell + 1 + i as u32;
+        let lacking = asked & ids[i] & (slots[from + i] == 0);
         c = put_if(places, c, lacking, d.rule, line_no, cell);
-        i += 1;
     }
     c
 }
@@ -91,16 +79,13 @@ fn judge_demand(
     ensures { Puts (want_breaks (book_in book.now) (seen slots.now flags.now end) end.line (wants_of (get_or (book_in book.now).demands k no_demand))) (length (wants_of (get_or (book_in book.now).demands k no_demand))) (lent places.old count) (lent places.new result) }
 {
     let d = nth_demand(book, k);
-    let entry = d.entry;
-    let from = start_of(book, entry);
-    let section = d.section;
-    let present = end.present;
-    let asked = both(is_asked(d.asked, end.asking), present[section]);
+    let from = start_of(book, d.entry);
+    let asked = is_asked(d.asked, end.asking) & end.present[d.section];
     if d.each != ONCE {
         return judge_ids(places, count, end.line, d, from, asked, slots, flags);
     }
-    let to = start_of(book, entry + 1);
-    let lacking = both(asked, !any_came(slots, from, to));
+    let to = start_of(book, d.entry + 1);
+    let lacking = asked & !any_came(slots, from, to);
     put_if(places, count, lacking, d.rule, end.line, d.cell)
 }
 
@@ -119,11 +104,9 @@ fn judge_demands(
     ensures { Puts (end_breaks (book_in book.now) (seen slots.now flags.now end) end.line) END_MOST (lent places.old count) (lent places.new result) }
 {
     let n = count_demands(book);
-    let mut k = 0;
     let mut c = count;
-    while k < n {
+    for k in 0..n {
         c = judge_demand(places, c, book, k, end, slots, flags);
-        k += 1;
     }
     c
 }
@@ -144,11 +127,10 @@ pub fn judge_end(
     requires count_bound { count + END_MOST ≤ CEILING }
     ensures { Puts (end_breaks (book_in book.now) (seen_by slots.now flags.now state) line_no) END_MOST (lent places.old count) (lent places.new result) }
 {
-    let asking = state.asking;
     let present = state.present;
     let end = End {
         line: line_no,
-        asking,
+        asking: state.asking,
         present,
     };
     judge_demands(places, count, book, end, slots, flags)

@@ -21,6 +21,7 @@ use value_references::{FAMILIES, INDICES};
 
 // A header, beside its bytes: its line, its section, what decides which columns are asked, the line of the first header of its section above (0 for none), and
 // whether one of a later section stands above.
+// Kept: 0 for none, as the record of a break has it that C reads.
 #[derive(Clone, Copy)]
 pub struct Head {
     pub tag: Tag,
@@ -90,7 +91,6 @@ pub fn judge_head(
 {
     let wide = MOST_CELLS < count_cells(line);
     let tag = head.tag;
-    let asking = head.asking;
     let k = head_code(places, count, head, wide);
     if wide {
         return put_if(places, k, 1 < tag.control, 1, tag.line, tag.control);
@@ -102,7 +102,7 @@ pub fn judge_head(
     let names = Names {
         tag,
         section: head.section,
-        asking,
+        asking: head.asking,
         from: e + 1,
     };
     head_names(places, k, book, line, names, flags, kinds, stamps)

@@ -18,7 +18,6 @@ use line_head_stamps::came_before;
 use scan::places::{Tag, put_again, put_if, put_rule};
 use scan::state::MOST_CELLS;
 use text::cells::cell_end;
-use text_bytes::{both, either};
 use value_references::{FAMILIES, INDICES};
 
 // The names of a header: its line, its section, what decides which of them are asked, and where the first begins.
@@ -31,6 +30,7 @@ pub struct Names {
 }
 
 // A name among them: its cell, the cell where it stands first if it comes again (0 for none), and whether any `opt_` name came before.
+// Kept: 0 for none, as the record of a break has it that C reads.
 #[derive(Clone, Copy)]
 struct Naming {
     tag: Tag,
@@ -64,7 +64,7 @@ fn name_cell(
     requires within { Within found }
     ensures { Puts (name_cell at.first at.opt (ids_of flags.now) found at.tag.control at.tag.line at.cell name.now) NAME_MOST (lent places.old count) (lent places.new result) }
 {
-    let late = both(!is_opt(name), at.opt);
+    let late = !is_opt(name) & at.opt;
     let rule = name_rule(flags, found);
     let k1 = name_known(places, count, found, at);
     let k2 = put_if(places, k1, late, 14, at.tag.line, at.cell);
@@ -122,6 +122,7 @@ pub fn head_cells(
     let mut c: u32 = 2;
     let mut k = count;
     let mut opt = false;
+    // Kept: walks by the ends of cells, and the line ends it: a range over the cells would need their number, which is found by this walk alone.
     loop {
         let e = cell_end(line, at);
         let first = came_before(stamps, tag.line, line, (c - 2) as usize, at, e);
@@ -141,7 +142,7 @@ pub fn head_cells(
             flags,
             kinds,
         );
-        opt = either(opt, is_opt(&line[at..e]));
+        opt |= is_opt(&line[at..e]);
         if e == line.len() {
             return k;
         }

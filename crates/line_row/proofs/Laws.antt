@@ -1,14 +1,16 @@
 -- Cell 1 of a row, the cells after it, and a cell that breaks nothing. Assumes nothing.
-use mathlib.Core.Path.{◌≡◌, refl}
+use mathlib.Core.Path.{◌≡◌, refl, subst}
 use mathlib.Core.Bool.{Bool, true, false, not, ◌&&◌, ◌||◌}
 use mathlib.Core.List.{List}
-use Prim.Native.Nat.{ℕ, ◌≤◌}
+use Prim.Native.Nat.{ℕ, ◌+◌, ◌-◌, ◌≤◌, ◌<◌}
 use native.Mathlib.Omega.{arith}
 use lib.Dec.{eqb, leb}
-use lib.ListN.{length, drop}
+use lib.ListN.{length, drop, get_or}
 use borrow.Author.Tests.{leb-true, eqb-true, not-true, not-false}
 use Rattle.text_bytes.specs.Bytes.{Bytes, is_empty}
 use Rattle.text_bytes.proofs.Laws.Tests.{and_left, and_right}
+use Rattle.text_bytes.proofs.Laws.Each.{split_some}
+use Rattle.text.specs.Lines.{TAB, cells}
 use Rattle.book_kinds.specs.Kinds.{cell_of_kind}
 use Rattle.rules.specs.Breaks.{break_at, when}
 use Rattle.scan.specs.Places.{CELLS_MOST, LINE_MOST, Lent, Puts}
@@ -16,15 +18,23 @@ use Rattle.scan.specs.Machine.{each_cell, plain_rest, kind_cell, row_cell, row_b
 use Rattle.scan.proofs.Laws.Putting.{puts2}
 
 -- a cell that has not the first control byte, is not empty, and is of its kind
-pub cell_good : (kind first n c : ℕ) (x : Bytes) (o : Lent) → not (eqb first c || (is_empty x || not (cell_of_kind kind x))) ≡ true → Puts (kind_cell kind first n c x) 3 o o
+pub cell_good : (kind first n c : ℕ) (x : Bytes) (o : Lent) → not ((eqb first c || is_empty x) || not (cell_of_kind kind x)) ≡ true → Puts (kind_cell kind first n c x) 3 o o
 cell_good kind first n c x o = go (eqb first c) (is_empty x) (cell_of_kind kind x)
   where
-    go : (hit empty good : Bool) → not (hit || (empty || not good)) ≡ true
+    go : (hit empty good : Bool) → not ((hit || empty) || not good) ≡ true
         → Puts (λ rest. when hit (break_at n c 1) (when empty (break_at n c 19) (when (not empty && not good) (break_at n c 20) rest))) 3 o o
     go false false true e = record { does = λ rest. refl; most = omega arith }
     go false false false e = absurd (let z : ◌≡◌ {A = ℕ} 0 1 = cc in omega arith)
     go false true good e = absurd (let z : ◌≡◌ {A = ℕ} 0 1 = cc in omega arith)
     go true empty good e = absurd (let z : ◌≡◌ {A = ℕ} 0 1 = cc in omega arith)
+
+-- a line has at least one cell
+pub cell_left : (l : List ℕ) → 0 < length (cells l)
+cell_left l = omega (arith, split_some TAB l)
+
+-- the kind of cell c stands at place c - 1
+pub row_turn : (kinds : List ℕ) (first n i : ℕ) (x : Bytes) {o o' : Lent} → Puts (kind_cell (get_or kinds i 0) first n (i + 1) x) 3 o o' → Puts (row_cell kinds first n (i + 1) x) 3 o o'
+row_turn kinds first n i x {o} {o'} p = let z : i ≡ i + 1 - 1 = omega arith in subst (λ (j : ℕ). Puts (kind_cell (get_or kinds j 0) first n (i + 1) x) 3 o o') z p
 
 -- a row under its header has as many cells, at most 256
 pub row_narrow : (t : Bool) (w v : ℕ) → not ((t && leb w 256) && eqb v w) ≡ false → v ≤ 256

@@ -10,7 +10,6 @@ use book_kinds::cell_of_kind;
 use scan::places::{Tag, put_if};
 use scan::state::MOST_CELLS;
 use text::cells::{cell_end, count_cells};
-use text_bytes::{both, either};
 
 // Cell c of a row, whose column has the kind: it is empty (19), or not of the kind (20).
 fn row_cell(places: &mut [u32], count: u32, cell: &[u8], c: u32, tag: Tag, kind: u8) -> u32
@@ -18,17 +17,18 @@ fn row_cell(places: &mut [u32], count: u32, cell: &[u8], c: u32, tag: Tag, kind:
     ensures { Puts (kind_cell kind tag.control tag.line c cell.now) 3 (lent places.old count) (lent places.new result) }
 {
     let good = cell_of_kind(kind, cell);
-    let empty = cell.len() == 0;
+    let empty = cell.is_empty();
     let hit = tag.control == c;
-    if !either(hit, either(empty, !good)) {
+    let bad = hit | empty | !good;
+    if !bad {
         return count;
     }
     let k1 = put_if(places, count, hit, 1, tag.line, c);
     let k2 = put_if(places, k1, empty, 19, tag.line, c);
-    put_if(places, k2, both(!empty, !good), 20, tag.line, c)
+    put_if(places, k2, !empty & !good, 20, tag.line, c)
 }
 
-// The cells of a row from cell 2 on, which begins at `from`.
+// The cells of a row from cell 2 on, which begins at `from`. Cell i + 1 has the kind at place i, and there are no more cells than kinds.
 fn row_cells(
     places: &mut [u32],
     count: u32,
@@ -43,18 +43,17 @@ fn row_cells(
     ensures { Puts (each_cell (row_cell kinds.now tag.control tag.line) 2 (cells (drop from line.now))) CELLS_MOST (lent places.old count) (lent places.new result) }
 {
     let mut at = from;
-    let mut c: u32 = 2;
     let mut k = count;
-    loop {
+    for i in 1..MOST_CELLS {
         let e = cell_end(line, at);
-        let kind = kinds[(c - 1) as usize];
-        k = row_cell(places, k, &line[at..e], c, tag, kind);
+        let kind = kinds[i];
+        k = row_cell(places, k, &line[at..e], i as u32 + 1, tag, kind);
         if e == line.len() {
             return k;
         }
         at = e + 1;
-        c += 1;
     }
+    k
 }
 
 // Cell 1 of a row: it is not under a header of its section (17), or is and has another number of cells (18).
@@ -83,10 +82,10 @@ pub fn judge_row(
     ensures { Puts (row_breaks header width kinds.now section tag.control tag.line (cells line.now)) LINE_MOST (lent places.old count) (lent places.new result) }
 {
     let headed = header == section;
-    let under = both(headed, width <= MOST_CELLS);
+    let under = headed & (width <= MOST_CELLS);
     let even = count_cells(line) == width;
-    let k = row_code(places, count, tag, headed, both(under, !even));
-    if !both(under, even) {
+    let k = row_code(places, count, tag, headed, under & !even);
+    if !(under & even) {
         return put_if(places, k, 1 < tag.control, 1, tag.line, tag.control);
     }
     let e = cell_end(line, 0);

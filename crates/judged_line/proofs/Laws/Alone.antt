@@ -4,24 +4,44 @@ use mathlib.Core.Bool.{Bool, true, false, ◌&&◌}
 use mathlib.Core.List.{List, [], ◌++◌, append_assoc}
 use Prim.Native.Nat.{ℕ, suc, ◌+◌, ◌-◌, ◌≤◌, ◌<◌}
 use native.Mathlib.Omega.{arith}
-use borrow.Author.Tests.{le-leb, lt-leb, leb-true}
+use borrow.Author.Tests.{le-leb, lt-leb, leb-true, le-ltb}
+use Rattle.std.specs.Bool.{then_some}
+use Rattle.std.specs.Option.{MatchOption, ok_or}
+use Rattle.std.specs.Prelude.{Option, Some, None}
 use lib.Dec.{leb}
 use lib.Seq.{drop-cons}
 use lib.ListN.{length, take, get_or}
 use Rattle.text_bytes.specs.Bytes.{Bytes}
-use Rattle.text.specs.Lines.{lines}
+use Rattle.text.specs.Lines.{LIMIT, lines}
 use Rattle.book.specs.Book.{Book}
 use Rattle.book_facts.specs.declared.Asking.{Asking}
 use Rattle.rules.specs.Breaks.{Break, spot, at_line}
 use Rattle.rules.specs.Rules.{rules}
-use Rattle.rules.specs.Edited.{line_of}
+use Rattle.rules.specs.Edited.{line_of, of_line}
 use Rattle.scan.specs.Places.{lent, put_all}
 use Rattle.scan.specs.Carried.{Scan, from, last}
 use Rattle.scan.proofs.Laws.Scanning.{from_next}
 use Rattle.judging.specs.Parts.{beginning, ahead, Lined}
 use Rattle.judging.specs.declared.parts.Stand.{Stand}
 use Rattle.judging.proofs.Laws.Parting.{parted_front}
-use Rattle.judged_line.specs.Judged.{is_line}
+use Rattle.numbers.specs.Numbers.{NO_ROW}
+use Rattle.numbers.specs.Refusals.{number_in, answer_or}
+use Rattle.numbers.specs.declared.Refusal.TheVariants.{NoRow}
+use Rattle.judged.specs.Judged.{outcome, ended}
+use Rattle.judged_line.specs.Judged.{is_line, judged_line}
+
+-- what may be told where a test says so
+pub told_when : {A : Type 0} (P : Type 0) (Q : A → Type 0) (t : Bool) (x : A) → (t ≡ false → P) → (t ≡ true → Q x) → MatchOption (then_some t x) P Q
+told_when P Q true x f g = g refl
+told_when P Q false x f g = f refl
+
+-- the answer of the call, where the limit lets it judge: what was put of the line, or that there is none
+pub answered : (file : Bytes) (n : ℕ) (ys zs : List ℕ) → length file ≤ LIMIT → (r : Option ℕ)
+    → MatchOption r ((is_line file n ≡ false) × (zs ≡ ys)) (λ k. (is_line file n ≡ true) × (lent zs k ≡ put_all (lent ys 0) (of_line file n)))
+    → outcome (number_in (ok_or r NoRow)) (answer_or 0 (ok_or r NoRow)) zs ≡ judged_line file n ys
+unfolding judged_line
+answered file n ys zs limit None h = rw (le-ltb LIMIT (length file) limit, h.0) (ap (outcome NO_ROW 0) h.1)
+answered file n ys zs limit (Some k) h = rw (le-ltb LIMIT (length file) limit, h.0) (ap ended h.1)
 
 -- before the first line no line is passed
 pub scan_first : {b : Book} {file : Bytes} {stand : Stand} {a : Asking} {kinds slots : List ℕ} → stand ≡ beginning a → Scan b file stand.at stand.lines stand.state kinds slots

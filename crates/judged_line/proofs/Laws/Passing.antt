@@ -4,7 +4,7 @@ use mathlib.Core.Path.{◌≡◌, refl, sym, ap, subst, ◌∙◌}
 use mathlib.Core.Bool.{Bool, true, false, cond}
 use mathlib.Core.List.{List, [], ◌∷◌}
 use mathlib.Core.Logic.{◌⊎◌, inl, inr, ⊎_elim}
-use Prim.Native.Nat.{ℕ, zero, suc, ◌+◌, ◌<◌, ◌≤◌}
+use Prim.Native.Nat.{ℕ, zero, suc, ◌+◌, ◌-◌, ◌<◌, ◌≤◌}
 use native.Mathlib.Nat.{not-suc-le-zero}
 use native.Mathlib.Numerals.{add-one}
 use native.Mathlib.Omega.{arith}
@@ -96,6 +96,24 @@ module _ {b : Book} (sized : Sized b) {file : Bytes} {at n end next : ℕ} {s s'
       let same : nearest b (take (n + 1) (lines file)) ≡ nearest b (take n (lines file)) = nearest_next ∙ rw (← e) in
       let low' : 0 < s.section = omega (arith, low, reaches_step.1.1.stands.section ∙ ap (header b) same, r.1.1.stands.section) in
       ((h low').0, ((h low').1.0, (h low').1.1 ∙ ap (λ (l : Bytes). l ∷ (h low').1.0) (sym same)))
+
+-- the same of line n, where those before it are passed
+module _ {b : Book} (sized : Sized b) {file : Bytes} {at end next : ℕ} (n : ℕ) {s s' : State} {slots slots' : List ℕ} (low : 1 ≤ n)
+    (r : Reaches b file at (n - 1) s slots) (line : LineAt file at end next) (p : Passes b s slots n (part at end file) s' slots') where
+  its_number : n ≡ n - 1 + 1
+  its_number = omega (arith, low)
+
+  passed_line : Passes b s slots (n - 1 + 1) (part at end file) s' slots'
+  passed_line = subst (λ (k : ℕ). Passes b s slots k (part at end file) s' slots') its_number p
+
+  after_line : n - 1 + 1 ≡ n + 1 - 1
+  after_line = omega (arith, low)
+
+  pub next_reached : Reaches b file next (n + 1 - 1) s' slots'
+  next_reached = subst (λ (k : ℕ). Reaches b file next k s' slots') after_line (reaches_step sized r line passed_line)
+
+  pub next_headed : {head : ℕ} (t : Bool) → t ≡ is_header b (part at end file) → at < length file → Headed b file (n - 1) head s → Headed b file (n + 1 - 1) (cond t at head) s'
+  next_headed {head} t e lt h = subst (λ (k : ℕ). Headed b file k (cond t at head) s') after_line (headed_step sized r line passed_line t e lt h)
 
 -- WITH ITS KINDS a scan is whole
 pub scan_known : {b : Book} {file : Bytes} {at n : ℕ} {s : State} {kinds slots : List ℕ} → Reaches b file at n s slots → Kinds b (nearest b (take n (lines file))) kinds → Scan b file at n s kinds slots

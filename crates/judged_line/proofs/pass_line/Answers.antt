@@ -1,6 +1,7 @@
 -- `judged_line::pass_line` meets its contract: a row and a header change what is carried by their section, a metadata line by its key, and any other line changes
 -- nothing. Assumes nothing.
-use mathlib.Core.Path.{refl, sym, ap, ◌∙◌}
+use mathlib.Core.Path.{◌≡◌, refl, sym, ap, ◌∙◌}
+use mathlib.Core.Logic.{⊎_elim}
 use Prim.Native.Nat.{◌<◌}
 use native.Mathlib.Omega.{arith}
 use borrow.Author.Tests.{lt-ltb}
@@ -8,6 +9,7 @@ use lib.ListN.{length}
 use Rattle.book.specs.Book.{Book}
 use Rattle.book.specs.Text.{book_in}
 use Rattle.book.proofs.Laws.Sized.{book_sized}
+use Rattle.rules.specs.declared.sorts.Sort.TheVariants.{Silent, Unknown}
 use Rattle.rules.proofs.Laws.Sorting.{meta_in, meta_sort, header_section, row_section_lem}
 use Rattle.scan.specs.Machine.{FIRSTS}
 use Rattle.judged_line.proofs.Laws.Passing.{passes_kept, passes_meta, passes_header}
@@ -54,30 +56,24 @@ bounds-slots-slot-in-Header c =
     let slot_in : c.header_slot-slot.result < length c.args.slots.now = omega (arith, slot_low, c.requires.slots_len) in
     slot_in
 
-pub after_header-next-requires : goal.after_header-next-requires
-after_header-next-requires c =
+pub after_header-state-requires : goal.after_header-state-requires
+after_header-state-requires c =
     let book : Book = book_in c.args.book.now in
     let section_low : (0 < c.in-Header.h) × (c.in-Header.h < 5) = header_section book (book_sized _) c.args.line.now c.in-Header.h (sym c.sort_of-sort.ensures ∙ c.in-Header.is) in
     section_low.1
 
-pub after_row-next-requires : goal.after_row-next-requires
-after_row-next-requires c =
+pub after_row-state-requires : goal.after_row-state-requires
+after_row-state-requires c =
     let book : Book = book_in c.args.book.now in
     (row_section_lem book (book_sized _) c.args.line.now c.in-Row.r (sym c.sort_of-sort.ensures ∙ c.in-Row.is)).1
 
--- a silent line
+-- a silent line, or one with an unknown code
 pub returns-in-Silent : goal.returns-in-Silent
 returns-in-Silent c =
-    let book : Book = book_in c.args.book.now in
-    let e = (sym c.sort_of-sort.ensures ∙ c.in-Silent.is) in
-    record { passes = passes_kept e c.requires.slots_len refl refl; header_value = rw e }
-
--- one with an unknown code
-pub returns-in-Unknown : goal.returns-in-Unknown
-returns-in-Unknown c =
-    let book : Book = book_in c.args.book.now in
-    let e = (sym c.sort_of-sort.ensures ∙ c.in-Unknown.is) in
-    record { passes = passes_kept e c.requires.slots_len refl refl; header_value = rw e }
+    ⊎_elim
+    (λ (q : c.sort_of-sort.result ≡ Silent). let e = sym c.sort_of-sort.ensures ∙ q in record { passes = passes_kept e c.requires.slots_len refl refl; header_value = rw e })
+    (λ (q : c.sort_of-sort.result ≡ Unknown). let e = sym c.sort_of-sort.ensures ∙ q in record { passes = passes_kept e c.requires.slots_len refl refl; header_value = rw e })
+    c.in-Silent.is
 
 -- a metadata line
 pub returns-in-Meta : goal.returns-in-Meta
@@ -96,7 +92,7 @@ returns-in-Header c =
     let section_low : (0 < c.in-Header.h) × (c.in-Header.h < 5) = header_section book (book_sized _) c.args.line.now c.in-Header.h (sym c.sort_of-sort.ensures ∙ c.in-Header.is) in
     let e = (sym c.sort_of-sort.ensures ∙ c.in-Header.is) in
     record {
-      passes = passes_header (book_sized _) c.in-Header.h e c.header_slot-slot.ensures c.after_header-next.ensures c.count_cells-width.ensures c.first_kept.ensures c.requires.slots_len;
+      passes = passes_header (book_sized _) c.in-Header.h e c.header_slot-slot.ensures c.after_header-state.ensures c.count_cells-width.ensures c.first_kept.ensures c.requires.slots_len;
       header_value = rw e (sym (lt-ltb 0 c.in-Header.h section_low.0));
     }
 
@@ -105,4 +101,4 @@ pub returns-in-Row : goal.returns-in-Row
 returns-in-Row c =
     let book : Book = book_in c.args.book.now in
     let e = (sym c.sort_of-sort.ensures ∙ c.in-Row.is) in
-    record { passes = rw c.after_row-next.ensures (passes_kept e c.requires.slots_len refl refl); header_value = rw e }
+    record { passes = rw c.after_row-state.ensures (passes_kept e c.requires.slots_len refl refl); header_value = rw e }

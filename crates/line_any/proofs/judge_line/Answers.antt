@@ -14,8 +14,8 @@ use Rattle.book.specs.Text.{book_in}
 use Rattle.book.proofs.Laws.Sized.{book_sized}
 use Rattle.line_any.proofs.judge_line.Goals as goal
 
-pub judge_meta-k-requires : goal.judge_meta-k-requires
-judge_meta-k-requires c =
+pub judge_meta-count-requires : goal.judge_meta-count-requires
+judge_meta-count-requires c =
     let book : Book = book_in c.args.book.now in
     record {
       book = c.requires.book;
@@ -42,8 +42,8 @@ bounds-slots-slot c =
     let slot_in : c.header_slot-slot.result < length c.args.slots.now = omega (arith, slot_low, c.requires.slots_len) in
     slot_in
 
-pub judge_head-k-requires : goal.judge_head-k-requires
-judge_head-k-requires c =
+pub judge_head-count-requires : goal.judge_head-count-requires
+judge_head-count-requires c =
     let book : Book = book_in c.args.book.now in
     let section_of_lem : is_section book c.in-Header.h ≡ true = header_is book c.args.line.now c.in-Header.h (sym c.sort_of-sort.ensures ∙ c.in-Header.is) in
     record {
@@ -72,15 +72,15 @@ bounds-slots-slot-in-Header c =
     let slot_in : c.header_slot-slot.result < length c.args.slots.now = omega (arith, slot_low, c.requires.slots_len) in
     slot_in
 
-pub after_header-next-requires : goal.after_header-next-requires
-after_header-next-requires c =
+pub after_header-state-requires : goal.after_header-state-requires
+after_header-state-requires c =
     let book : Book = book_in c.args.book.now in
     let section_of_lem : is_section book c.in-Header.h ≡ true = header_is book c.args.line.now c.in-Header.h (sym c.sort_of-sort.ensures ∙ c.in-Header.is) in
     let section_low : c.in-Header.h < 5 = (section_in book (book_sized _) _ section_of_lem).1 in
     section_low
 
-pub after_row-next-requires : goal.after_row-next-requires
-after_row-next-requires c =
+pub after_row-state-requires : goal.after_row-state-requires
+after_row-state-requires c =
     let book : Book = book_in c.args.book.now in
     (row_section_lem book (book_sized _) c.args.line.now c.in-Row.r (sym c.sort_of-sort.ensures ∙ c.in-Row.is)).1
 
@@ -99,7 +99,7 @@ returns-in-Unknown c =
     let book : Book = book_in c.args.book.now in
     let e = (sym c.sort_of-sort.ensures ∙ c.in-Unknown.is) in
     record {
-      puts = line_puts book (ids_of c.args.flags.now) c.args.step.state c.args.kinds.now c.args.slots.now c.args.step.line c.args.line.now Unknown e (rw c.control_of-control.ensures at c.judge_unknown.ensures) (omega arith);
+      puts = line_puts book (ids_of c.args.flags.now) c.args.step.state c.args.kinds.now c.args.slots.now c.args.step.line c.args.line.now Unknown e (rw c.control_of-control.ensures at c.judge_unknown-count.ensures) (omega arith);
       follows = follows_kept e c.requires.kinds_len c.requires.slots_len refl refl;
       stamps_len_2 = c.requires.stamps_len;
     }
@@ -109,8 +109,8 @@ returns-in-Meta c =
     let book : Book = book_in c.args.book.now in
     let e = (sym c.sort_of-sort.ensures ∙ c.in-Meta.is) in
     record {
-      puts = line_puts book (ids_of c.args.flags.now) c.args.step.state c.args.kinds.now c.args.slots.now c.args.step.line c.args.line.now Meta e (rw c.control_of-control.ensures at c.judge_meta-k.ensures.puts) (omega arith);
-      follows = follows_meta e c.requires.kinds_len c.judge_meta-k.ensures.keeps_keys.keys c.judge_meta-k.ensures.keeps_keys.headers c.judge_meta-k.ensures.keeps_keys.places;
+      puts = line_puts book (ids_of c.args.flags.now) c.args.step.state c.args.kinds.now c.args.slots.now c.args.step.line c.args.line.now Meta e (rw c.control_of-control.ensures at c.judge_meta-count.ensures.puts) (omega arith);
+      follows = follows_meta e c.requires.kinds_len c.judge_meta-count.ensures.keeps_keys.keys c.judge_meta-count.ensures.keeps_keys.headers c.judge_meta-count.ensures.keeps_keys.places;
       stamps_len_2 = c.requires.stamps_len;
     }
 
@@ -119,9 +119,9 @@ returns-in-Header c =
     let book : Book = book_in c.args.book.now in
     let e = (sym c.sort_of-sort.ensures ∙ c.in-Header.is) in
     record {
-      puts = header_puts book (ids_of c.args.flags.now) c.args.step.state c.args.kinds.now c.args.slots.now c.args.step.line c.args.line.now c.in-Header.h e c.header_slot-slot.ensures c.control_of-control.ensures c.judge_head-k.ensures.puts (omega arith);
-      follows = header_follows (book_sized _) c.in-Header.h e c.header_slot-slot.ensures c.after_header-next.ensures c.count_cells-width.ensures c.first_kept.ensures c.requires.slots_len c.judge_head-k.ensures.keeps_kinds.columns c.judge_head-k.ensures.keeps_kinds.kind_places;
-      stamps_len_2 = c.judge_head-k.ensures.keeps_kinds.stamp_places;
+      puts = header_puts book (ids_of c.args.flags.now) c.args.step.state c.args.kinds.now c.args.slots.now c.args.step.line c.args.line.now c.in-Header.h e c.header_slot-slot.ensures c.control_of-control.ensures c.judge_head-count.ensures.puts (omega arith);
+      follows = header_follows (book_sized _) c.in-Header.h e c.header_slot-slot.ensures c.after_header-state.ensures c.count_cells-width.ensures c.first_kept.ensures c.requires.slots_len c.judge_head-count.ensures.keeps_kinds.columns c.judge_head-count.ensures.keeps_kinds.kind_places;
+      stamps_len_2 = c.judge_head-count.ensures.keeps_kinds.stamp_places;
     }
 
 pub returns-in-Row : goal.returns-in-Row
@@ -129,7 +129,7 @@ returns-in-Row c =
     let book : Book = book_in c.args.book.now in
     let e = (sym c.sort_of-sort.ensures ∙ c.in-Row.is) in
     record {
-      puts = line_puts book (ids_of c.args.flags.now) c.args.step.state c.args.kinds.now c.args.slots.now c.args.step.line c.args.line.now (Row c.in-Row.r) e (rw c.control_of-control.ensures at c.judge_row-k.ensures) (omega arith);
-      follows = rw c.after_row-next.ensures (follows_kept e c.requires.kinds_len c.requires.slots_len refl refl);
+      puts = line_puts book (ids_of c.args.flags.now) c.args.step.state c.args.kinds.now c.args.slots.now c.args.step.line c.args.line.now (Row c.in-Row.r) e (rw c.control_of-control.ensures at c.judge_row-count.ensures) (omega arith);
+      follows = rw c.after_row-state.ensures (follows_kept e c.requires.kinds_len c.requires.slots_len refl refl);
       stamps_len_2 = c.requires.stamps_len;
     }

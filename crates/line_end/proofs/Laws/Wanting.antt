@@ -1,16 +1,18 @@
 -- What a demand wants, as it is read from the book: one thing, or one for each id of a family. Assumes nothing.
 use mathlib.Core.Path.{◌≡◌, refl, sym, ap, ◌∙◌}
-use mathlib.Core.Bool.{Bool, true, false, not, ◌&&◌, and-true, or-false}
+use mathlib.Core.Bool.{Bool, true, false, not, ◌&&◌, ◌||◌, and-true, or-false}
 use mathlib.Core.List.{List, [], ◌∷◌, ◌++◌, map}
 use mathlib.Core.Logic.{inl, inr}
 use Prim.Native.Nat.{ℕ, zero, suc, ◌+◌, ◌-◌, ◌≤◌, ◌<◌}
 use native.Mathlib.Numerals.{add-one}
 use native.Mathlib.Omega.{arith}
 use lib.Dec.{eqb}
-use lib.ListN.{length, get_or, get_or-map}
+use lib.ListN.{length, take, drop, get_or, get_or-map}
 use borrow.Author.Tests.{eq-eqb, ne_eqb}
+use Rattle.std.specs.List.{list_any}
 use Rattle.text_bytes.specs.Bytes.{any}
 use Rattle.text_bytes.proofs.Laws.Each.{all_at}
+use Rattle.text_bytes.proofs.Laws.Pieces.{drop_step}
 use Rattle.value_references.specs.Index.{MOST}
 use Rattle.book_names.specs.Names.{start_of}
 use Rattle.book.specs.Book.{SECTIONS, SLOTS, Demand, ONCE, no_demand, Want, want, cell_of, up_from, wants_of, Book, key_entries}
@@ -46,6 +48,18 @@ absent_at slots k = rw (came_at slots k) (go (eqb (get_or slots k 0) 0))
     go : (t : Bool) → t ≡ not (not t)
     go true = refl
     go false = refl
+
+-- some of these slots has a line
+abbrev came : ℕ → Bool
+came n = not (eqb n 0)
+
+pub came_any : (slots : List ℕ) (n from : ℕ) → from + n ≤ length slots → list_any came (take n (drop from slots)) ≡ any (λ i. get_or (marks slots) i false) (up_from n from)
+unfolding any up_from
+came_any slots zero from h = refl
+came_any slots (suc n) from h =
+    ap (λ (l : List ℕ). list_any came (take (suc n) l)) (drop_step slots from (omega arith))
+    ∙ ap (λ (t : Bool). came (get_or slots from 0) || t) (ap (λ (i : ℕ). list_any came (take n (drop i slots))) (add-one from) ∙ came_any slots n (suc from) (omega arith))
+    ∙ ap (λ (t : Bool). t || any (λ i. get_or (marks slots) i false) (up_from n (suc from))) (sym (came_at slots from))
 
 -- THE IDS of a family: the next one, and none
 module _ (d : Read) (asked : Bool) (slots ids : List Bool) (from n i : ℕ) (rest : List Break) where

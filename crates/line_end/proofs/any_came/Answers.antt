@@ -1,29 +1,14 @@
--- `line_end::any_came` meets its contract: the slots that are left decide. Assumes nothing.
-use mathlib.Core.Path.{refl, sym, ap, ◌∙◌}
-use mathlib.Core.Bool.{not}
-use Prim.Native.Nat.{◌-◌}
-use borrow.Author.Rules.{rules}
-use borrow.Author.Tests.{eq-eqb, ne_eqb}
-use lib.ListN.{get_or}
+-- `line_end::any_came` meets its contract: the slots of the part that is read are those from one up to another. Assumes nothing.
+use Rattle.std.proofs.Common.{◌-◌, not, eqb, take, drop, ◌∙◌, rules, tests, arith}
+use Rattle.std.proofs.lemmas.Iterator.{YieldsList-from_slice}
+use Rattle.std.proofs.lemmas.Iterator.Search.{any_from_yields_List}
 use Rattle.book_ids.specs.Ids.{is_marked}
-use Rattle.book_ids.proofs.Laws.Flagging.{mark_here, mark_next, mark_none}
-use Rattle.scan.specs.Machine.{marks}
-use Rattle.line_end.proofs.Laws.Wanting.{came_at}
+use Rattle.line_end.proofs.Laws.Wanting.{came_any}
 use Rattle.line_end.proofs.any_came.Goals as goal
 
-pub loop-i-init : goal.loop-i-init
-unfolding is_marked
-loop-i-init c = (search rules, refl)
-
-pub returns-then-slots-i-ne0 : goal.returns-then-slots-i-ne0
-returns-then-slots-i-ne0 c =
-    let here = came_at c.args.slots.now c.loop-i.i ∙ ap not (ne_eqb (get_or c.args.slots.now c.loop-i.i 0) 0 c.if-slots-i-ne0.true) in
-    sym (c.loop-i.invariant.1 ∙ mark_here (marks c.args.slots.now) c.loop-i.i c.args.to c.loop-i-test.true here)
-
-pub loop-i-preserved : goal.loop-i-preserved
-loop-i-preserved c =
-    let here = came_at c.args.slots.now c.loop-i.i ∙ ap not (eq-eqb (get_or c.args.slots.now c.loop-i.i 0) 0 c.if-slots-i-ne0.false) in
-    (search rules, c.loop-i.invariant.1 ∙ mark_next (marks c.args.slots.now) c.loop-i.i c.args.to c.loop-i-test.true here)
-
 pub returns : goal.returns
-returns c = sym (c.loop-i.invariant.1 ∙ mark_none (marks c.args.slots.now) c.loop-i.i c.args.to c.loop-i-test.false)
+unfolding is_marked
+returns c =
+    let part = take (c.args.to - c.args.from) (drop c.args.from c.args.slots.now) in
+    any_from_yields_List (λ s. not (eqb s 0)) _ _ _ c.any.ensures.ran (YieldsList-from_slice part cc) (λ x b q k. search (rules, tests))
+    ∙ came_any c.args.slots.now (c.args.to - c.args.from) c.args.from (omega (arith, c.requires))

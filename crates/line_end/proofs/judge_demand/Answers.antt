@@ -1,5 +1,6 @@
 -- `line_end::judge_demand` meets its contract: the slots of the demanded key say whether a line has it. Assumes nothing.
 use mathlib.Core.Path.{◌≡◌, refl}
+use mathlib.Core.Bool.{false, ◌&&◌}
 use Prim.Native.Nat.{◌<◌}
 use native.Mathlib.Omega.{arith}
 use lib.ListN.{length, get_or}
@@ -16,8 +17,8 @@ start_of-from-requires c =
     let inside : c.nth_demand-d.result.entry < length (key_entries (book_in c.args.book.now)) = entry_in _ (book_sized c.args.book.now) _ c.requires.k_in_bounds _ c.nth_demand-d.ensures in
     record { book = c.requires.book; in_bounds = omega (arith, inside) }
 
-pub bounds-present-section : goal.bounds-present-section
-bounds-present-section c =
+pub bounds-end-d : goal.bounds-end-d
+bounds-end-d c =
     let section : c.nth_demand-d.result.section < SECTIONS = section_in _ (book_sized c.args.book.now) _ c.requires.k_in_bounds _ c.nth_demand-d.ensures in
     section
 
@@ -36,12 +37,12 @@ judge_ids-requires c =
 
 pub returns-then-d-ne-ONCE : goal.returns-then-d-ne-ONCE
 returns-then-d-ne-ONCE c =
-    let asked : c.both-asked.result ≡ is_asked_in (seen c.args.slots.now c.args.flags.now c.args.end) (get_or (book_in c.args.book.now).demands c.args.k no_demand) = asked_is _ (book_sized c.args.book.now) _ c.requires.k_in_bounds _ c.nth_demand-d.ensures c.args.slots.now c.args.flags.now c.args.end c.requires.whole c.both-asked.ensures c.is_asked.ensures refl in
+    let asked : (c.is_asked.result && get_or c.args.end.present c.nth_demand-d.result.section false) ≡ is_asked_in (seen c.args.slots.now c.args.flags.now c.args.end) (get_or (book_in c.args.book.now).demands c.args.k no_demand) = asked_is _ (book_sized c.args.book.now) _ c.requires.k_in_bounds _ c.nth_demand-d.ensures c.args.slots.now c.args.flags.now c.args.end c.requires.whole refl c.is_asked.ensures refl in
     ids_puts _ (book_sized c.args.book.now) _ c.requires.k_in_bounds _ c.nth_demand-d.ensures c.args.slots.now c.args.flags.now c.args.end c.requires.whole c.if-d-ne-ONCE.true c.args.end.line asked
     c.start_of-from.ensures c.judge_ids.ensures
 
-pub overflow_add-entry : goal.overflow_add-entry
-overflow_add-entry c =
+pub overflow_add-d : goal.overflow_add-d
+overflow_add-d c =
     let inside : c.nth_demand-d.result.entry < length (key_entries (book_in c.args.book.now)) = entry_in _ (book_sized c.args.book.now) _ c.requires.k_in_bounds _ c.nth_demand-d.ensures in
     omega (arith, inside)
 
@@ -62,6 +63,6 @@ put_if-requires c =
 
 pub returns : goal.returns
 returns c =
-    let asked : c.both-asked.result ≡ is_asked_in (seen c.args.slots.now c.args.flags.now c.args.end) (get_or (book_in c.args.book.now).demands c.args.k no_demand) = asked_is _ (book_sized c.args.book.now) _ c.requires.k_in_bounds _ c.nth_demand-d.ensures c.args.slots.now c.args.flags.now c.args.end c.requires.whole c.both-asked.ensures c.is_asked.ensures refl in
+    let asked : (c.is_asked.result && get_or c.args.end.present c.nth_demand-d.result.section false) ≡ is_asked_in (seen c.args.slots.now c.args.flags.now c.args.end) (get_or (book_in c.args.book.now).demands c.args.k no_demand) = asked_is _ (book_sized c.args.book.now) _ c.requires.k_in_bounds _ c.nth_demand-d.ensures c.args.slots.now c.args.flags.now c.args.end c.requires.whole refl c.is_asked.ensures refl in
     once_puts _ (book_sized c.args.book.now) _ c.requires.k_in_bounds _ c.nth_demand-d.ensures c.args.slots.now c.args.flags.now c.args.end c.requires.whole c.if-d-ne-ONCE.false c.args.end.line asked
-    c.any_came.ensures c.start_of-from.ensures c.start_of-to.ensures c.both-lacking.ensures c.put_if.ensures
+    c.any_came.ensures c.start_of-from.ensures c.start_of-to.ensures refl c.put_if.ensures

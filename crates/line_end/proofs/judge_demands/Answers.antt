@@ -1,7 +1,7 @@
 -- `line_end::judge_demands` meets its contract. The loop's invariant: what was put, and what the demands left will put, is what all demands put. Assumes nothing.
 use mathlib.Core.Path.{◌≡◌, refl, sym, ap, ◌∙◌}
 use mathlib.Core.List.{List, ◌∷◌}
-use Prim.Native.Nat.{suc, ◌+◌, ◌-◌, ◌≤◌}
+use Prim.Native.Nat.{suc, ◌+◌, ◌≤◌}
 use native.Mathlib.Numerals.{add-one}
 use native.Mathlib.Omega.{arith}
 use borrow.Author.Rules.{rules}
@@ -17,7 +17,7 @@ use Rattle.line_end.proofs.Laws.Wanting.{wants_append}
 use Rattle.line_end.proofs.judge_demands.Goals as goal
 
 pub loop-k-init : goal.loop-k-init
-loop-k-init c = (search rules, search rules, search rules, λ rest. refl)
+loop-k-init c = (search rules, search rules, λ rest. refl)
 
 pub judge_demand-c-requires : goal.judge_demand-c-requires
 unfolding wants_in
@@ -33,7 +33,7 @@ judge_demand-c-requires c =
       book = c.requires.book;
       k_in_bounds = omega (arith, many, c.loop-k-test.true);
       whole = c.requires.whole;
-      no_demand_bound = omega (arith, c.loop-k.invariant.1, sizes c.loop-k-test.true, (book_sized c.args.book.now).many, c.requires.count_bound);
+      no_demand_bound = omega (arith, c.loop-k.invariant.0, sizes (omega (arith, c.loop-k-test.true)), (book_sized c.args.book.now).many, c.requires.count_bound);
     }
 
 pub loop-k-preserved : goal.loop-k-preserved
@@ -49,14 +49,13 @@ loop-k-preserved c =
     let b = book_in c.args.book.now in
     let x = seen c.args.slots.now c.args.flags.now c.args.end in
     let D = get_or b.demands c.loop-k.k no_demand in
-    let e = cut c.loop-k-test.true in (
-      omega (arith, c.loop-k-test.true),
-      omega (arith, c.judge_demand-c.ensures.most, c.loop-k.invariant.1, sizes c.loop-k-test.true),
+    let e = cut (omega (arith, c.loop-k-test.true)) in (
+      omega (arith, c.judge_demand-c.ensures.most, c.loop-k.invariant.0, sizes (omega (arith, c.loop-k-test.true))),
       search rules,
       λ rest. c.judge_demand-c.ensures.does (want_breaks b x c.args.end.line (wants_in (drop (c.loop-k.k + 1) b.demands)) rest)
           ∙ ap (put_all (lent c.loop-k.places c.loop-k.c))
           (sym (wants_append b x c.args.end.line (wants_of D) (wants_in (drop (c.loop-k.k + 1) b.demands)) rest) ∙ ap (λ (ds : List Demand). want_breaks b x c.args.end.line (wants_in ds) rest) (sym e))
-          ∙ c.loop-k.invariant.3 rest,
+          ∙ c.loop-k.invariant.2 rest,
     )
 
 pub returns : goal.returns
@@ -67,6 +66,6 @@ returns c =
     let x = seen c.args.slots.now c.args.flags.now c.args.end in
     let none = drop_of_length-le b.demands {i = c.loop-k.k} (omega (arith, many, c.loop-k-test.false)) in
     record {
-      does = λ rest. ap (λ (ds : List Demand). put_all (lent c.loop-k.places c.loop-k.c) (want_breaks b x c.args.end.line (wants_in ds) rest)) (sym none) ∙ c.loop-k.invariant.3 rest;
-      most = omega (arith, c.loop-k.invariant.1, (book_sized c.args.book.now).many);
+      does = λ rest. ap (λ (ds : List Demand). put_all (lent c.loop-k.places c.loop-k.c) (want_breaks b x c.args.end.line (wants_in ds) rest)) (sym none) ∙ c.loop-k.invariant.2 rest;
+      most = omega (arith, c.loop-k.invariant.0, (book_sized c.args.book.now).many);
     }

@@ -11,8 +11,5 @@ use Rattle.line_end.specs.Ends.{id_breaks}
 use Rattle.line_end.proofs.judge_ids.Given as goal
 
 abbrev pub invariant-loop-i : goal.invariant-loop-i
-invariant-loop-i l = (l.i ≤ 64) × (l.c ≤ l.count + l.i) × (l.cell ≡ l.initial.cell + l.i) × (length l.places ≡ length l.initial.places)
+invariant-loop-i l = (l.c ≤ l.count + l.i) × (length l.places ≡ length l.initial.places)
     × ((rest : List Break) → put_all (lent l.places l.c) (id_breaks l.d l.asked (marks l.slots) l.ids l.from l.line_no (up_from (64 - l.i) (l.i + 1)) rest) ≡ put_all (lent l.initial.places l.count) (id_breaks l.d l.asked (marks l.slots) l.ids l.from l.line_no (up_from 64 1) rest))
-
-abbrev pub decreases-loop-i : goal.decreases-loop-i
-decreases-loop-i l = 64 - l.i

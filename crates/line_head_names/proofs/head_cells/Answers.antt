@@ -91,7 +91,7 @@ loop-names-preserved c =
       column_next xs c.loop-names.c c.loop-names.invariant.1 here ∙ cells_next c.cell_end-e.ensures lt,
       rw c.head_cell-k.ensures.kinds_after kinds,
       rw c.head_cell-k.ensures.kinds_after kept,
-      c.either-opt.ensures ∙ rw (c.is_opt.ensures, c.loop-names.invariant.9) (any_more is_opt xs c.loop-names.c c.loop-names.invariant.1 here),
+      rw (c.is_opt-opt.ensures, c.loop-names.invariant.9) (any_more is_opt xs c.loop-names.c c.loop-names.invariant.1 here),
       rw one c.came_before-first.ensures.noted,
       (λ z.
           ap (λ (j : ℕ). first_named c.came_before-first.new.stamps c.args.line.now z j) one ∙ c.came_before-first.ensures.names z

@@ -4,10 +4,10 @@ use Rattle.rules.proofs.Laws.Sorting.{empty_test}
 use Rattle.line_row.proofs.Laws.{cell_good}
 use Rattle.line_row.proofs.row_cell.Goals as goal
 
-pub returns-then-not-either : goal.returns-then-not-either
-returns-then-not-either c =
+pub returns-then-not-bad : goal.returns-then-not-bad
+returns-then-not-bad c =
     cell_good c.args.kind c.args.tag.control c.args.tag.line c.args.c c.args.cell.now _
-    (rw (c.either-2.ensures, c.either.ensures, c.cell_of_kind-good.ensures, empty_test c.args.cell.now) at c.if-not-either.true-raw)
+    (rw (c.cell_of_kind-good.ensures, c.is_empty-empty.ensures, empty_test c.args.cell.now) at c.if-not-bad.true-raw)
 
 pub returns : goal.returns
-returns c = rw (c.both.ensures, c.cell_of_kind-good.ensures, empty_test c.args.cell.now) at (puts3 c.put_if-k1.ensures c.put_if-k2.ensures c.put_if.ensures)
+returns c = rw (c.cell_of_kind-good.ensures, c.is_empty-empty.ensures, empty_test c.args.cell.now) at (puts3 c.put_if-k1.ensures c.put_if-k2.ensures c.put_if.ensures)

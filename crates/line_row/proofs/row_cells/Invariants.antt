@@ -2,7 +2,7 @@
 -- Assumes nothing.
 use mathlib.Core.Path.{◌≡◌}
 use mathlib.Core.List.{List}
-use Prim.Native.Nat.{◌+◌, ◌-◌, ◌*◌, ◌≤◌}
+use Prim.Native.Nat.{◌+◌, ◌*◌, ◌≤◌}
 use lib.ListN.{length, drop}
 use Rattle.text.specs.Lines.{cells}
 use Rattle.rules.specs.Breaks.{Break}
@@ -10,10 +10,7 @@ use Rattle.scan.specs.Places.{lent, put_all}
 use Rattle.scan.specs.Machine.{each_cell, row_cell}
 use Rattle.line_row.proofs.row_cells.Given as goal
 
-abbrev pub invariant-loop-tag : goal.invariant-loop-tag
-invariant-loop-tag l = (l.at ≤ length l.line) × (2 ≤ l.c) × (l.c + length (cells (drop l.at l.line)) ≤ 257) × (l.k + 6 ≤ l.count + 3 * l.c) × (length l.places ≡ length l.initial.places)
-    × ((rest : List Break) → put_all (lent l.places l.k) (each_cell (row_cell l.kinds l.tag.control l.tag.line) l.c (cells (drop l.at l.line)) rest)
+abbrev pub invariant-loop-i : goal.invariant-loop-i
+invariant-loop-i l = (l.at ≤ length l.line) × (l.i + length (cells (drop l.at l.line)) ≤ 256) × (l.k + 3 ≤ l.count + 3 * l.i) × (length l.places ≡ length l.initial.places)
+    × ((rest : List Break) → put_all (lent l.places l.k) (each_cell (row_cell l.kinds l.tag.control l.tag.line) (l.i + 1) (cells (drop l.at l.line)) rest)
     ≡ put_all (lent l.initial.places l.count) (each_cell (row_cell l.kinds l.tag.control l.tag.line) 2 (cells (drop l.from l.line)) rest))
-
-abbrev pub decreases-loop-tag : goal.decreases-loop-tag
-decreases-loop-tag l = length l.line - l.at
