@@ -6,7 +6,10 @@ use lib.ListN.{length, drop, length-take, length-drop}
 use mathlib.Core.Bool.{true, false}
 use lib.Seq.{take-length}
 use Rattle.text_bytes.specs.Bytes.{Bytes, is}
-use Rattle.mztab.specs.Shown.{Sought, Placed, or_else}
+use Rattle.std.specs.Prelude.{Result}
+use Rattle.numbers.specs.declared.Refusal.{Refusal}
+use Rattle.numbers.specs.Refusals.{number_in, answer_or}
+use Rattle.mztab.specs.Shown.{Sought, Placed, nowhere, or_else}
 use Rattle.mztab.specs.declared.cells.Place.{Place}
 use lib.IntN.{ℤ}
 use lib.Ieee.{Float}
@@ -15,8 +18,12 @@ use Rattle.mztab.specs.Readings.{Told, told}
 use Rattle.mztab.specs.declared.records.Reading.{Reading}
 use Rattle.capi.specs.Answers.{CellAt, CellOrAt, ReadAs}
 
-pub placed_at : {file : Bytes} {s : Sought} {p : Place} → Placed file s p → CellAt file s p.number p.start (p.end - p.start)
-placed_at {file} {s} {p} h = record {
+-- what a host is told of a place
+pub told_placed : {file : Bytes} {s : Sought} {r : Result Place Refusal} {n : ℕ} {p : Place} → Placed file s (number_in r) (answer_or nowhere r) → n ≡ number_in r → p ≡ answer_or nowhere r → Placed file s n p
+told_placed h e d = rw (e, d) h
+
+pub placed_at : {file : Bytes} {s : Sought} {n : ℕ} {p : Place} → Placed file s n p → CellAt file s n p.start (p.end - p.start)
+placed_at {file} {s} {n} {p} h = record {
   says = h.says;
   from = h.from;
   long = omega (arith, length-take (p.end - p.start) (drop p.start file), length-drop p.start file, h.starts, h.ends) ∙ ap (λ (l : Bytes). length l) h.views;
@@ -25,32 +32,32 @@ placed_at {file} {s} {p} h = record {
 }
 
 -- the stand-in, and the cell
-module _ {file other : Bytes} {s : Sought} {p : Place} (h : Placed file s p) where
-  pub stood_in : {v : Bytes} → v ≡ s.view → is v "null" ≡ true → CellOrAt file other s p.number 0 (length other) 1
+module _ {file other : Bytes} {s : Sought} {n : ℕ} {p : Place} (h : Placed file s n p) where
+  pub stood_in : {v : Bytes} → v ≡ s.view → is v "null" ≡ true → CellOrAt file other s n 0 (length other) 1
   unfolding or_else
   stood_in e t =
-      let n : is s.view "null" ≡ true = ap (λ (b : Bytes). is b "null") (sym e) ∙ t in
+      let e0 : is s.view "null" ≡ true = ap (λ (b : Bytes). is b "null") (sym e) ∙ t in
       record {
         says = h.says;
-        stands = rw n;
-        from = rw n;
-        long = rw n;
-        ends = rw n (omega arith);
-        views = rw n (take-length other);
+        stands = rw e0;
+        from = rw e0;
+        long = rw e0;
+        ends = rw e0 (omega arith);
+        views = rw e0 (take-length other);
       }
 
-  pub stood_out : {v : Bytes} → v ≡ s.view → is v "null" ≡ false → CellOrAt file other s p.number p.start (p.end - p.start) 0
+  pub stood_out : {v : Bytes} → v ≡ s.view → is v "null" ≡ false → CellOrAt file other s n p.start (p.end - p.start) 0
   unfolding or_else
   stood_out e t =
-      let n : is s.view "null" ≡ false = ap (λ (b : Bytes). is b "null") (sym e) ∙ t in
+      let e0 : is s.view "null" ≡ false = ap (λ (b : Bytes). is b "null") (sym e) ∙ t in
       let c = placed_at h in
       record {
         says = c.says;
-        stands = rw n;
-        from = rw n c.from;
-        long = rw n c.long;
-        ends = rw n c.ends;
-        views = rw n c.views;
+        stands = rw e0;
+        from = rw e0 c.from;
+        long = rw e0 c.long;
+        ends = rw e0 c.ends;
+        views = rw e0 c.views;
       }
 
 -- a record, and the values of its case

@@ -24,20 +24,39 @@ use fee::{Cents, split_places};
 use judged::judge_places;
 use judged_line::judge_line_places;
 use mender::mend;
-use mztab::cells::{locate, reading};
+use mender_places::Copied;
+use mztab::cells::{Place, locate, reading};
+use mztab::records::Reading;
+use numbers::told;
 use rows::rows;
-use tally::{TOTALS, add, from_places, to_places};
+use tally::{TOTALS, add, from_places, nothing, to_places};
 use tally_files::tally;
 use tally_records::{read, write};
 use text_bytes::same_bytes;
 use value_cases::{double_of, number_of, power_of, whole_of};
+use value_readings::Value;
+
+// Where a view stands that is refused: the first zero bytes.
+const NOWHERE: Place = Place {
+    line: 0,
+    cell: 0,
+    start: 0,
+    end: 0,
+};
+
+// A reading that is refused.
+const UNREAD: Reading = Reading {
+    line: 0,
+    cell: 0,
+    value: Value::Missing,
+};
 
 // The judging call over plain places: answers the count of all breaks, and writes those that fit, four places each: rule, line, cell, first.
 #[unsafe(no_mangle)]
 pub extern "C" fn mztab_judge(file: &[u8], places: &mut [u32], number: &mut u32) -> u32
     ensures { outcome number.new result places.new ≡ judged file.now places.old }
 {
-    judge_places(file, places, number)
+    told(judge_places(file, places), 0, number)
 }
 
 // The judging call for one line, 1 to N, under the whole file: answers the count of its breaks, and writes those that fit, as mztab_judge does.
@@ -50,7 +69,7 @@ pub extern "C" fn mztab_judge_line(
 ) -> u32
     ensures { outcome number.new result places.new ≡ judged_line file.now line places.old }
 {
-    judge_line_places(file, line, places, number)
+    told(judge_line_places(file, line, places), 0, number)
 }
 
 // The mending call: answers the length of the copy, and writes the copy, the count of changes, and those that fit, two places each: line, cell.
@@ -64,7 +83,9 @@ pub extern "C" fn mztab_mend(
 ) -> usize
     ensures { mendedAs number.new result count.new copy.new changes.new ≡ mended file.now copy.old changes.old }
 {
-    mend(file, copy, changes, number, count)
+    let done = told(mend(file, copy, changes), Copied { to: 0, count: 0 }, number);
+    *count = done.count;
+    done.to
 }
 
 // The judging call over records: the same, with a record for each break.
@@ -72,7 +93,7 @@ pub extern "C" fn mztab_mend(
 pub extern "C" fn mztab_faults(file: &[u8], faults: &mut [Fault], number: &mut u32) -> u32
     ensures { recorded number.new result faults.new ≡ judgedRecords file.now faults.old }
 {
-    judge(file, faults, number)
+    told(judge(file, faults), 0, number)
 }
 
 // The plain cell call: answers where the view starts in the file, 0 in a refusal, and writes its length and the number.
@@ -87,8 +108,7 @@ pub extern "C" fn mztab_cell(
 ) -> usize
     ensures { CellAt file.now (sought file.now section row column) number.new result length.new }
 {
-    let place = locate(file, section, row, column);
-    *number = place.number;
+    let place = told(locate(file, section, row, column), NOWHERE, number);
     *length = place.end - place.start;
     place.start
 }
@@ -108,10 +128,9 @@ pub extern "C" fn mztab_cell_or(
 ) -> usize
     ensures { CellOrAt file.now stand_in.now (sought file.now section row column) number.new result length.new stood_in.new }
 {
-    let place = locate(file, section, row, column);
+    let place = told(locate(file, section, row, column), NOWHERE, number);
     let start = place.start;
     let end = place.end;
-    *number = place.number;
     if same_bytes(&file[start..end], b"null") {
         *length = stand_in.len();
         *stood_in = 1;
@@ -138,7 +157,7 @@ pub extern "C" fn mztab_reading(
 ) -> u32
     ensures { ReadAs (reading_of (sought file.now section row column)) number.new result line.new cell.new whole.new power.new double.new }
 {
-    let record = reading(file, section, row, column, number);
+    let record = told(reading(file, section, row, column), UNREAD, number);
     let value = record.value;
     *line = record.line;
     *cell = record.cell;
@@ -153,7 +172,7 @@ pub extern "C" fn mztab_reading(
 pub extern "C" fn mztab_rows(file: &[u8], section: u32, number: &mut u32) -> u32
     ensures { counted number.new result ≡ rows_in file.now section }
 {
-    rows(file, section, number)
+    told(rows(file, section), 0, number)
 }
 
 // The sum of two amounts in cents.
@@ -161,7 +180,7 @@ pub extern "C" fn mztab_rows(file: &[u8], section: u32, number: &mut u32) -> u32
 pub extern "C" fn mztab_add_cents(a: u64, b: u64, number: &mut u32) -> u64
     ensures { added number.new result ≡ sum_of a b }
 {
-    let sum = Cents(a).add(Cents(b), number);
+    let sum = told(Cents(a).add(Cents(b)), Cents(0), number);
     sum.0
 }
 
@@ -170,7 +189,7 @@ pub extern "C" fn mztab_add_cents(a: u64, b: u64, number: &mut u32) -> u64
 pub extern "C" fn mztab_split_fee(fee: u64, weights: &[u32], shares: &mut [u64], number: &mut u32)
     ensures { splitAs number.new shares.new ≡ split_of plain fee weights.now shares.old }
 {
-    split_places(fee, weights, shares, number);
+    told(split_places(fee, weights, shares), (), number);
 }
 
 // The weights of a file's study variables, one to a place.
@@ -178,7 +197,7 @@ pub extern "C" fn mztab_split_fee(fee: u64, weights: &[u32], shares: &mut [u64],
 pub extern "C" fn mztab_weights(file: &[u8], weights: &mut [u32], number: &mut u32)
     ensures { weighedAs number.new weights.new ≡ weighed file.now weights.old }
 {
-    weights::weights(file, weights, number);
+    told(weights::weights(file, weights), (), number);
 }
 
 // The tally of a file, its eight totals one to a place.
@@ -186,8 +205,8 @@ pub extern "C" fn mztab_weights(file: &[u8], weights: &mut [u32], number: &mut u
 pub extern "C" fn mztab_tally(file: &[u8], totals: &mut [u64; TOTALS], number: &mut u32)
     ensures { placed number.new totals.new ≡ in_places (tallied file.now) }
 {
-    let t = tally(file, number);
-    to_places(t, totals);
+    let t = told(tally(file), nothing(), number);
+    *totals = to_places(t);
 }
 
 // The sum of two tallies.
@@ -200,10 +219,10 @@ pub extern "C" fn mztab_tally_add(
 )
     ensures { placed number.new sum.new ≡ in_places (addedTally (tally_of a.now) (tally_of b.now)) }
 {
-    let first = from_places(a);
-    let second = from_places(b);
-    let t = add(first, second, number);
-    to_places(t, sum);
+    let first = from_places(*a);
+    let second = from_places(*b);
+    let t = told(add(first, second), nothing(), number);
+    *sum = to_places(t);
 }
 
 // Writes the record of a tally, and answers how many bytes it has.
@@ -215,8 +234,8 @@ pub extern "C" fn mztab_tally_write(
 ) -> usize
     ensures { writtenAs number.new result buffer.new ≡ written (tally_of totals.now) buffer.old }
 {
-    let t = from_places(totals);
-    write(t, buffer, number)
+    let t = from_places(*totals);
+    told(write(t, buffer), 0, number)
 }
 
 // The tally that a record holds.
@@ -224,6 +243,6 @@ pub extern "C" fn mztab_tally_write(
 pub extern "C" fn mztab_tally_read(bytes: &[u8], totals: &mut [u64; TOTALS], number: &mut u32)
     ensures { placed number.new totals.new ≡ in_places (read_as bytes.now) }
 {
-    let t = read(bytes, number);
-    to_places(t, totals);
+    let t = told(read(bytes), nothing(), number);
+    *totals = to_places(t);
 }

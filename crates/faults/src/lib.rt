@@ -4,10 +4,12 @@
 ghost use Rattle.std.specs.Prelude.{◌≡◌, ◌<◌, ◌≤◌, ◌+◌, ◌*◌, length, set};
 ghost use Rattle.std.proofs.lemmas.List.Edits.{sets};
 ghost use Rattle.fault_steps.specs.Steps.{record_at, records};
+ghost use Rattle.numbers.specs.Refusals.{number_in, answer_or};
 ghost use Rattle.faults.specs.Records.{outcome, judged};
 
 use book_text::book;
 use fault_steps::{Fault, PLACES, begin, next};
+use numbers::Refusal;
 use scan::state::FIRSTS;
 
 // The record whose numbers begin at place j.
@@ -36,29 +38,23 @@ fn copy_out(places: &[u32], faults: &mut [Fault], at: usize, n: usize)
     requires { (n * 4 ≤ length places.now) × (at + n ≤ length faults.old) }
     ensures { faults.new ≡ sets faults.old at (records places.now 0 n) }
 {
-    let mut j = 0;
-    let mut k = at;
-    let end = at + n;
-    while k < end {
-        put_record(places, faults, j, k);
-        j = j + 4;
-        k = k + 1;
+    for i in 0..n {
+        put_record(places, faults, 4 * i, at + i);
     }
 }
 
 // All breaks of a file, in order of line, then cell, then rule: their count is the answer, and those that fit are written, a record each. A file over the
-// limit gives number 1 and count 0, and the list stays as it was.
-pub fn judge(file: &[u8], faults: &mut [Fault], number: &mut u32) -> u32
-    ensures { outcome number.new result faults.new ≡ judged file.now faults.old }
+// limit is refused as too long, and the list stays as it was.
+pub fn judge(file: &[u8], faults: &mut [Fault]) -> Result<u32, Refusal>
+    ensures { outcome (number_in result) (answer_or 0 result) faults.new ≡ judged file.now faults.old }
 {
     let rows = book();
     let mut slots = [0u32; FIRSTS];
     let mut places = [0u32; PLACES];
-    let mut s = begin(&rows, file, faults.len());
+    let mut s = begin(&rows, file, faults.len())?;
     while s.more {
         s = next(&rows, file, s, &mut slots, &mut places);
         copy_out(&places, faults, s.from, s.fit);
     }
-    *number = s.number;
-    s.count
+    Ok(s.count)
 }

@@ -5,6 +5,7 @@ use Rattle.text_bytes.specs.Bytes.{Bytes}
 use Rattle.text.specs.Lines.{LIMIT}
 use Rattle.rules.specs.Breaks.{Break}
 use Rattle.rules.specs.Mended.{changes_of, copy_of}
+use Rattle.mender_places.specs.declared.Copied.{Copied}
 
 -- the number, the copy's length, the count of all changes, and the lent buffer and list afterwards
 pub record Outcome : Type 0 where
@@ -16,6 +17,10 @@ pub record Outcome : Type 0 where
 
 abbrev pub outcome : ℕ → ℕ → ℕ → Bytes → List ℕ → Outcome
 outcome n m k ys zs = record { number = n; length = m; count = k; copy = ys; changes = zs }
+
+-- of a refusal: no byte and no change
+abbrev pub none : Copied
+none = record { to = 0; count = 0 }
 
 -- a buffer with these bytes from its first place on, as far as it goes; the places behind them stay as they were
 unfoldable pub with_bytes : Bytes → Bytes → Bytes

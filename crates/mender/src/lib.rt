@@ -10,20 +10,20 @@ ghost use Rattle.rules.specs.Sorts.{sort_of};
 ghost use Rattle.rules.specs.Mended.{changes_by, copy_by};
 ghost use Rattle.scan.specs.Places.{lent};
 ghost use Rattle.mender_places.specs.Places.{lay_all, Mends, COPY_MOST, CHANGES_MOST};
-ghost use Rattle.mender.specs.Mended.{outcome, mended};
+ghost use Rattle.numbers.specs.Refusals.{number_in, answer_or};
+ghost use Rattle.mender.specs.Mended.{outcome, none, mended};
 ghost use Rattle.mender.specs.Walk.{sort_filled, sort_found, Passes};
 
 use book_text::book;
 use line_head_kinds::learn_kinds;
 use mender_places::{Copied, lay};
 use mender_rows::{Above, fill_row};
-use numbers::{NO_ROOM, TOO_LONG};
+use numbers::Refusal;
 use rules::sorts::{Sort, sort_of};
 use scan::state::MOST_CELLS;
 use text::LIMIT;
 use text::cells::count_cells;
 use text::lines::line_at;
-use text_bytes::either;
 
 // Where a walk stands: the number of the line, how many bytes are laid and changes noted, and the section and the number of cells of the nearest header above.
 #[derive(Clone, Copy)]
@@ -46,9 +46,7 @@ fn keep_line(copy: &mut [u8], walk: Walk, line: &[u8]) -> Walk
     Walk {
         line: n,
         to,
-        count: walk.count,
-        section: walk.section,
-        width: walk.width,
+        ..walk
     }
 }
 
@@ -71,9 +69,7 @@ fn mend_line(
     let n = walk.line + 1;
     let sort = sort_of(book, line);
     match sort {
-        Sort::Silent => keep_line(copy, walk, line),
-        Sort::Unknown => keep_line(copy, walk, line),
-        Sort::Meta => keep_line(copy, walk, line),
+        Sort::Silent | Sort::Unknown | Sort::Meta => keep_line(copy, walk, line),
         Sort::Header(h) => {
             let width = count_cells(line);
             learn_kinds(book, line, h, width, kinds);
@@ -81,9 +77,9 @@ fn mend_line(
             Walk {
                 line: n,
                 to,
-                count: walk.count,
                 section: h,
                 width,
+                ..walk
             }
         }
         Sort::Row(r) => {
@@ -100,8 +96,7 @@ fn mend_line(
                 line: n,
                 to: done.to,
                 count: done.count,
-                section: walk.section,
-                width: walk.width,
+                ..walk
             }
         }
     }
@@ -128,13 +123,7 @@ fn mend_lines(copy: &mut [u8], changes: &mut [u32], book: &[u8], file: &[u8]) ->
         let next = line.next;
         let done = mend_line(copy, changes, walk, book, &file[at..end], &mut kinds);
         let to = lay(copy, done.to, &file[end..next]);
-        walk = Walk {
-            line: done.line,
-            to,
-            count: done.count,
-            section: done.section,
-            width: done.width,
-        };
+        walk = Walk { to, ..done };
         at = next;
     }
     Copied {
@@ -144,33 +133,22 @@ fn mend_lines(copy: &mut [u8], changes: &mut [u32], book: &[u8], file: &[u8]) ->
 }
 
 // Writes a copy of the file with `null` in every empty cell of a row where it may stand, and line and cell of each change, two places each, those that fit; the
-// answer is the copy's length, and the count is of all changes. A file over the limit gives number 1, a copy over the limit or with no room in the buffer number 5,
-// and then length and count are 0 and nothing is written.
-pub fn mend(
-    file: &[u8],
-    copy: &mut [u8],
-    changes: &mut [u32],
-    number: &mut u32,
-    count: &mut u32,
-) -> usize
-    ensures { outcome number.new result count.new copy.new changes.new ≡ mended file.now copy.old changes.old }
+// answer is the copy's length and the count of all changes. A file over the limit is refused as too long, a copy over the limit or with no room in the buffer as
+// without room, and then nothing is written.
+pub fn mend(file: &[u8], copy: &mut [u8], changes: &mut [u32]) -> Result<Copied, Refusal>
+    ensures { outcome (number_in result) (answer_or none result).to (answer_or none result).count copy.new changes.new ≡ mended file.now copy.old changes.old }
 {
-    *count = 0;
     if LIMIT < file.len() {
-        *number = TOO_LONG;
-        return 0;
+        return Err(Refusal::TooLong);
     }
     let rows = book();
     let mut no_copy = [0u8; 1];
     let mut no_changes = [0u32; 1];
     let planned = mend_lines(&mut no_copy, &mut no_changes, &rows, file);
     let size = planned.to;
-    if either(LIMIT < size, copy.len() < size) {
-        *number = NO_ROOM;
-        return 0;
+    let no_room = (LIMIT < size) | (copy.len() < size);
+    if no_room {
+        return Err(Refusal::NoRoom);
     }
-    let done = mend_lines(copy, changes, &rows, file);
-    *number = 0;
-    *count = done.count;
-    done.to
+    Ok(mend_lines(copy, changes, &rows, file))
 }

@@ -14,30 +14,15 @@ pub struct Copied {
     pub count: u32,
 }
 
-// How many of n bytes, from place `to` on, have a place.
-fn fitting(places: usize, to: usize, n: usize) -> usize
-    ensures { (result ≤ n) × (0 < result → to + result ≤ places) × (result < n → places ≤ to + result) }
-{
-    if places <= to {
-        return 0;
-    }
-    if n <= places - to {
-        return n;
-    }
-    places - to
-}
-
 // Bytes more, from place `to` on; the answer is the place behind them. The loop has nothing but the copying in it, so that it is compiled to that of many bytes at
 // once.
 pub fn lay(copy: &mut [u8], to: usize, bytes: &[u8]) -> usize
     requires { to + length bytes.now ≤ COPY_MOST }
     ensures { lent copy.new result ≡ lay_all (lent copy.old to) bytes.now }
 {
-    let n = fitting(copy.len(), to, bytes.len());
-    let mut i = 0;
-    while i < n {
+    let n = bytes.len().min(copy.len().saturating_sub(to));
+    for i in 0..n {
         copy[to + i] = bytes[i];
-        i += 1;
     }
     to + bytes.len()
 }

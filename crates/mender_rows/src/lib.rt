@@ -13,7 +13,6 @@ ghost use Rattle.mender_rows.specs.Rows.{fills_in, filled, found, is_even, row_f
 use mender_places::{Copied, lay, note};
 use scan::state::MOST_CELLS;
 use text::cells::{TAB, cell_end, count_cells};
-use text_bytes::both;
 
 // The kind of a column where `null` may not stand.
 const KEPT: u8 = b'K';
@@ -28,10 +27,8 @@ fn has_hole(line: &[u8]) -> bool
     }
     let last = line.len() - 1;
     let mut hit = line[last] == TAB;
-    let mut i = 0;
-    while i < last {
-        hit = hit | ((line[i] == TAB) & (line[i + 1] == TAB));
-        i += 1;
+    for i in 0..last {
+        hit |= (line[i] == TAB) & (line[i + 1] == TAB);
     }
     hit
 }
@@ -50,7 +47,8 @@ fn fill_cell(
     ensures { Mends (cond (fills_in kind cell.now) NULL cell.now) (when (fills_in kind cell.now) (break_at n c 19) []) (length cell.now + 4) 1 (lent copy.old so.to) (lent copy.new result.to) (lent changes.old so.count) (lent changes.new result.count) }
 {
     let count = so.count;
-    if both(cell.len() == 0, kind != KEPT) {
+    let fills = cell.is_empty() & (kind != KEPT);
+    if fills {
         let to = lay(copy, so.to, b"null");
         let more = note(changes, count, n, c);
         return Copied { to, count: more };
@@ -104,13 +102,10 @@ pub struct Above {
 fn is_holed(line: &[u8], section: u32, above: Above) -> bool
     ensures { result ≡ (is_even above.section above.width section (cells line.now) && has_hole (cells line.now)) }
 {
-    if !both(above.section == section, above.width <= MOST_CELLS) {
-        return false;
-    }
-    if !has_hole(line) {
-        return false;
-    }
-    count_cells(line) == above.width
+    above.section == section
+        && above.width <= MOST_CELLS
+        && has_hole(line)
+        && count_cells(line) == above.width
 }
 
 // A row of the section, on line n, under that header, whose columns have these kinds: most have no empty cell, and are laid as they stand.

@@ -1,8 +1,9 @@
 -- What the cell calls show of a file: paper 01, 'Calls and what they give back'. Assumes nothing.
-use Rattle.std.specs.Prelude.{ℕ, ◌+◌, ◌-◌, ◌≤◌, ◌≡◌, Bool, true, false, cond, [], length, take, drop, ltb}
+use Rattle.std.specs.Prelude.{ℕ, ◌+◌, ◌-◌, ◌≤◌, ◌≡◌, Bool, true, false, cond, [], length, take, drop, ltb, Result, Ok, Err}
 use Rattle.std.proofs.Math.Option.{Option, none, some}
 use Rattle.std.specs.Borrow.{Bor}
 use Rattle.numbers.specs.Numbers.{TOO_LONG, NO_SECTION, NO_ROW, NO_CELL}
+use Rattle.numbers.specs.declared.Refusal.{Refusal}
 use Rattle.text_bytes.specs.Bytes.{Bytes, is}
 use Rattle.text_bytes.specs.Places.{part, after}
 use Rattle.text.specs.Lines.{LIMIT, TAB, LF, lines}
@@ -58,12 +59,17 @@ unfoldable pub or_else : Bytes → Shown → Shown
 or_else other s = cond (is s.view "null") (given s.number other) s
 
 -- a refusal's place: line 0 and the first zero bytes
-abbrev pub nowhere : ℕ → Place
-nowhere n = record { number = n; line = 0; cell = 0; start = 0; end = 0 }
+abbrev pub nowhere : Place
+nowhere = record { line = 0; cell = 0; start = 0; end = 0 }
 
--- a place in the file that answers what is sought
-pub record Placed (file : Bytes) (s : Sought) (p : Place) : Type 0 where
-  pub says : p.number ≡ s.number
+-- the bytes of a view, none of a refusal
+abbrev pub view_in : Result (Bor Bytes) Refusal → Bytes
+view_in (Ok v) = v.now
+view_in (Err e) = []
+
+-- a number and a place in the file that answer what is sought
+pub record Placed (file : Bytes) (s : Sought) (number : ℕ) (p : Place) : Type 0 where
+  pub says : number ≡ s.number
   pub on : p.line ≡ s.line
   pub at : p.cell ≡ s.cell
   pub from : p.start ≡ s.start

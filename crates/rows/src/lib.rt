@@ -6,12 +6,13 @@ ghost use Rattle.std.proofs.Math.ListN.{get_elem?};
 ghost use Rattle.text_bytes.specs.Bytes.{count};
 ghost use Rattle.text.specs.Lines.{LIMIT as limit, lines, coded};
 ghost use Rattle.book.specs.Book.{is_section, book_of};
+ghost use Rattle.numbers.specs.Refusals.{number_in, answer_or};
 ghost use Rattle.rows.specs.Rows.{numbered, having, row_of, FindsRow, FindsColumn};
 ghost use Rattle.rows.specs.Counted.{counted, rows_in};
 
 use book::directory::{code_of, is_section};
 use book_text::directory;
-use numbers::{NO_SECTION, TOO_LONG};
+use numbers::Refusal;
 use text::{LIMIT, Part, cells, lines};
 
 // A line of the file: its number, and where its text starts and ends.
@@ -91,20 +92,17 @@ fn count_coded(file: &[u8], code: &[u8]) -> u32
     n
 }
 
-// How many rows a section has, whatever breaks the file has; 0 with the number of the refusal, tried in the order 1, 2.
-pub fn rows(file: &[u8], section: u32, number: &mut u32) -> u32
-    ensures { counted number.new result ≡ rows_in file.now section }
+// How many rows a section has, whatever breaks the file has; or why it is refused, tried in the order 1, 2.
+pub fn rows(file: &[u8], section: u32) -> Result<u32, Refusal>
+    ensures { counted (number_in result) (answer_or 0 result) ≡ rows_in file.now section }
 {
     if LIMIT < file.len() {
-        *number = TOO_LONG;
-        return 0;
+        return Err(Refusal::TooLong);
     }
     let book = directory();
     if !is_section(&book, section) {
-        *number = NO_SECTION;
-        return 0;
+        return Err(Refusal::NoSection);
     }
-    *number = 0;
     let code = code_of(&book, section, 1);
-    count_coded(file, code)
+    Ok(count_coded(file, code))
 }

@@ -9,7 +9,6 @@ use book::{column, key};
 use book_ids::{Id, key_id};
 use book_names::Found;
 use text::lines::LF;
-use text_bytes::seek;
 
 // One byte more, where there is room.
 fn push(out: &mut [u8], at: usize, b: u8) -> usize
@@ -54,11 +53,11 @@ fn push_found(out: &mut [u8], at: usize, found: Found) -> usize
     match found {
         Found::Unknown(_) => push(out, at, b'-'),
         Found::Known {
-            entry: _,
             kind,
             family,
             i,
             j,
+            ..
         } => {
             let a = push(out, at, kind);
             let b = push(out, a, family);
@@ -145,14 +144,10 @@ fn show(out: &mut [u8], book: &[u8], name: &[u8])
 fn run(out: &mut [u8], book: &[u8], names: &[u8])
     requires { IsBook book.now }
 {
-    let mut at = 0;
-    while at < names.len() {
-        let e = seek(names, at, LF);
-        if e == names.len() {
-            return;
+    for line in names.split_inclusive(|b| *b == LF) {
+        if let Some(name) = line.strip_suffix(&[LF]) {
+            show(out, book, name);
         }
-        show(out, book, &names[at..e]);
-        at = e + 1;
     }
 }
 

@@ -6,10 +6,12 @@
 ghost use Rattle.std.specs.Prelude.{◌≤◌, length};
 
 use mztab::cells::{cell, cell_or, reading};
+use mztab::records::Reading;
 use test_fields::{next_field, short_at};
 use test_telling::tell;
 use text::lines::line_at;
-use text_bytes::{same_bytes, seek};
+use text_bytes::same_bytes;
+use value_readings::Value;
 
 const CASE_END: u8 = 30;
 
@@ -19,17 +21,20 @@ fn show(view: &[u8]) {
     io::write_all(1, b">");
 }
 
-// The reading of a cell: its line, its number and its value.
+// The reading of a cell: its line, its number and its value; 0, 0 and missing where it is refused.
 fn tell_reading(file: &[u8], section: u32, row: u32, column: u32) {
-    let mut refusal: u32 = 9;
-    let record = reading(file, section, row, column, &mut refusal);
-    let value = record.value;
+    let unread = Reading {
+        line: 0,
+        cell: 0,
+        value: Value::Missing,
+    };
+    let record = reading(file, section, row, column).unwrap_or(unread);
     io::write_all(1, b" ");
-    io::print_decimal(1, record.line as u64);
+    io::print_decimal(1, u64::from(record.line));
     io::write_all(1, b" ");
-    io::print_decimal(1, record.cell as u64);
+    io::print_decimal(1, u64::from(record.cell));
     io::write_all(1, b" ");
-    tell(value);
+    tell(record.value);
 }
 
 // Asks one question of a file.
@@ -39,12 +44,10 @@ fn ask(question: &[u8], file: &[u8]) {
     let section = short_at(question, 0);
     let row = short_at(question, second);
     let column = short_at(question, third);
-    let mut refusal: u32 = 9;
-    let view = cell(file, section, row, column, &mut refusal);
-    io::print_decimal(1, refusal as u64);
-    show(view);
-    let other = cell_or(file, section, row, column, b"-", &mut refusal);
-    show(other);
+    let view = cell(file, section, row, column);
+    io::print_decimal(1, view.err().map_or(0, |refusal| u64::from(refusal.number())));
+    show(view.unwrap_or(b""));
+    show(cell_or(file, section, row, column, b"-").unwrap_or(b""));
     tell_reading(file, section, row, column);
     io::write_all(1, b"\n");
 }
@@ -86,14 +89,8 @@ fn run_case(case: &[u8]) {
 
 // Runs all cases of a table, in order.
 fn run_all(table: &[u8]) {
-    let mut at = 0;
-    while at < table.len() {
-        let e = seek(table, at, CASE_END);
-        run_case(&table[at..e]);
-        if e == table.len() {
-            return;
-        }
-        at = e + 1;
+    for part in table.split_inclusive(|b| *b == CASE_END) {
+        run_case(part.strip_suffix(&[CASE_END]).unwrap_or(part));
     }
 }
 

@@ -9,17 +9,13 @@ ghost use Rattle.fault_steps.specs.Steps.{fault};
 use fault_steps::Fault;
 use faults::judge;
 use judge_report::{print_break, print_count};
-use text_bytes::seek;
 
 const FILE_END: u8 = 30;
 
-// How many breaks are printed.
-const SHOWN: usize = 4096;
-
 // A list of records, as the judging call leaves it, and the count that it answers.
-fn listed(file: &[u8], count: &mut u32) -> [Fault; 4096]
-    ensures value { result ≡ (judged file.now (replicate 4096 (fault 0 0 0 0))).faults }
-    ensures count_after { count.new ≡ (judged file.now (replicate 4096 (fault 0 0 0 0))).count }
+fn listed(file: &[u8]) -> ([Fault; 4096], u32)
+    ensures value { result.0 ≡ (judged file.now (replicate 4096 (fault 0 0 0 0))).faults }
+    ensures count { result.1 ≡ (judged file.now (replicate 4096 (fault 0 0 0 0))).count }
 {
     let mut list = [Fault {
         rule: 0,
@@ -27,43 +23,30 @@ fn listed(file: &[u8], count: &mut u32) -> [Fault; 4096]
         cell: 0,
         first: 0,
     }; 4096];
-    let mut number: u32 = 0;
-    *count = judge(file, &mut list, &mut number);
-    list
+    let count = judge(file, &mut list).unwrap_or(0);
+    (list, count)
 }
 
 // The first records of a list of `count`, in order.
-fn print_records(list: [Fault; 4096], count: usize) {
-    let mut k = 0;
-    while k < count {
-        if k == SHOWN {
-            return;
-        }
-        let f = list[k];
-        print_break(f.line, f.cell, f.rule, f.first);
-        k += 1;
+fn print_records(list: &[Fault], count: usize) {
+    for fault in list.iter().take(count) {
+        print_break(fault.line, fault.cell, fault.rule, fault.first);
     }
 }
 
 // Prints what the judging call over records gives of the file.
 fn print_listed(file: &[u8]) {
-    let mut count: u32 = 0;
-    let list = listed(file, &mut count);
+    let (list, count) = listed(file);
     print_count(count);
-    print_records(list, count as usize);
+    print_records(&list, count as usize);
 }
 
 // Judges all files of a table, in order.
 fn run_all(table: &[u8]) {
-    let mut at = 0;
-    while at < table.len() {
-        let e = seek(table, at, FILE_END);
-        print_listed(&table[at..e]);
+    for part in table.split_inclusive(|b| *b == FILE_END) {
+        let file = part.strip_suffix(&[FILE_END]).unwrap_or(part);
+        print_listed(file);
         io::write_all(1, b".\n");
-        if e == table.len() {
-            return;
-        }
-        at = e + 1;
     }
 }
 

@@ -3,21 +3,15 @@
 #![tactic(auto)]
 
 use judge_report::print_judged;
-use text_bytes::seek;
 
 const FILE_END: u8 = 30;
 
 // Judges all files of a table, in order.
 fn run_all(table: &[u8]) {
-    let mut at = 0;
-    while at < table.len() {
-        let e = seek(table, at, FILE_END);
-        print_judged(&table[at..e]);
+    for part in table.split_inclusive(|b| *b == FILE_END) {
+        let file = part.strip_suffix(&[FILE_END]).unwrap_or(part);
+        print_judged(file);
         io::write_all(1, b".\n");
-        if e == table.len() {
-            return;
-        }
-        at = e + 1;
     }
 }
 

@@ -3,7 +3,6 @@
 #![tactic(auto)]
 
 use test_telling::tell;
-use text_bytes::seek;
 use value_parameters::{is_parameter, is_parameters};
 use value_readings::read;
 use value_references::{reference, references};
@@ -14,11 +13,7 @@ const LF: u8 = 10;
 const OUT: i32 = 1;
 
 fn flag(yes: bool) {
-    if yes {
-        io::write_all(OUT, b"1");
-    } else {
-        io::write_all(OUT, b"0");
-    }
+    io::write_all(OUT, if yes { b"1" } else { b"0" });
 }
 
 fn space() {
@@ -66,14 +61,8 @@ fn line(s: &[u8]) {
 }
 
 fn lines(s: &[u8]) {
-    let mut at = 0;
-    while at < s.len() {
-        let e = seek(s, at, LF);
-        line(&s[at..e]);
-        if e == s.len() {
-            return;
-        }
-        at = e + 1;
+    for part in s.split_inclusive(|b| *b == LF) {
+        line(part.strip_suffix(&[LF]).unwrap_or(part));
     }
 }
 

@@ -5,7 +5,6 @@
 
 use judged_line::judge_line_places;
 use test_places::{print_next, print_places};
-use text_bytes::seek;
 
 const FILE_END: u8 = 30;
 
@@ -17,39 +16,31 @@ const PLACES: usize = 10;
 // What the call says of one line; whether it was refused.
 fn run_line(file: &[u8], line: u32) -> bool {
     let mut places = [9u32; PLACES];
-    let mut number: u32 = 9;
-    let count = judge_line_places(file, line, &mut places, &mut number);
+    let answer = judge_line_places(file, line, &mut places);
     io::write_all(1, b"line ");
-    io::print_decimal(1, line as u64);
+    io::print_decimal(1, u64::from(line));
     io::write_all(1, b":");
-    print_next(number);
-    print_next(count);
+    print_next(answer.err().map_or(0, |refusal| refusal.number()));
+    print_next(answer.unwrap_or(0));
     print_places(&places);
-    number != 0
+    answer.is_err()
 }
 
 fn run_lines(file: &[u8]) {
     run_line(file, 0);
-    let mut line: u32 = 1;
-    while line < MOST {
+    for line in 1..MOST {
         if run_line(file, line) {
             return;
         }
-        line += 1;
     }
 }
 
 // Runs all files of a table, in order.
 fn run_all(table: &[u8]) {
-    let mut at = 0;
-    while at < table.len() {
-        let e = seek(table, at, FILE_END);
-        run_lines(&table[at..e]);
+    for part in table.split_inclusive(|b| *b == FILE_END) {
+        let file = part.strip_suffix(&[FILE_END]).unwrap_or(part);
+        run_lines(file);
         io::write_all(1, b".\n");
-        if e == table.len() {
-            return;
-        }
-        at = e + 1;
     }
 }
 

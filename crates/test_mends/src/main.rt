@@ -4,73 +4,44 @@
 #![tactic(auto)]
 
 use mender::mend;
+use mender_places::Copied;
 use test_places::{print_next, print_places};
-use text_bytes::seek;
 
 const FILE_END: u8 = 30;
 
-const ROOM: usize = 4096;
-
-const LITTLE: usize = 60;
-
 const PLACES: usize = 5;
-
-// What the call says and lists.
-fn print_outcome(room: u32, number: u32, length: usize, count: u32, places: &[u32]) {
-    io::write_all(1, b"mend ");
-    io::print_decimal(1, room as u64);
-    io::write_all(1, b":");
-    print_next(number);
-    io::write_all(1, b" ");
-    io::print_decimal(1, length as u64);
-    print_next(count);
-    print_places(places);
-}
 
 // The first n bytes of a buffer, and one behind them, where it has so many.
 fn print_front(buffer: &[u8], n: usize) {
-    if n < buffer.len() {
-        let end = n + 1;
-        io::write_all(1, &buffer[..end]);
-        io::write_all(1, b"\n");
-        return;
-    }
-    io::write_all(1, buffer);
+    let end = buffer.len().min(n.saturating_add(1));
+    io::write_all(1, &buffer[..end]);
     io::write_all(1, b"\n");
 }
 
-fn run_roomy(file: &[u8]) {
+// Mends a file into a buffer of so many bytes, and prints what the call says and lists, and of the buffer the copy, or all.
+fn run<const ROOM: usize>(file: &[u8], all: bool) {
     let mut copy = [b'#'; ROOM];
     let mut places = [9u32; PLACES];
-    let mut number: u32 = 9;
-    let mut count: u32 = 9;
-    let length = mend(file, &mut copy, &mut places, &mut number, &mut count);
-    print_outcome(ROOM as u32, number, length, count, &places);
-    print_front(&copy, length);
-}
-
-fn run_little(file: &[u8]) {
-    let mut copy = [b'#'; LITTLE];
-    let mut places = [9u32; PLACES];
-    let mut number: u32 = 9;
-    let mut count: u32 = 9;
-    let length = mend(file, &mut copy, &mut places, &mut number, &mut count);
-    print_outcome(LITTLE as u32, number, length, count, &places);
-    print_front(&copy, LITTLE);
+    let answer = mend(file, &mut copy, &mut places);
+    let done = answer.unwrap_or(Copied { to: 0, count: 0 });
+    io::write_all(1, b"mend ");
+    io::print_decimal(1, ROOM as u64);
+    io::write_all(1, b":");
+    print_next(answer.err().map_or(0, |refusal| refusal.number()));
+    io::write_all(1, b" ");
+    io::print_decimal(1, done.to as u64);
+    print_next(done.count);
+    print_places(&places);
+    print_front(&copy, if all { ROOM } else { done.to });
 }
 
 // Runs all files of a table, in order.
 fn run_all(table: &[u8]) {
-    let mut at = 0;
-    while at < table.len() {
-        let e = seek(table, at, FILE_END);
-        run_roomy(&table[at..e]);
-        run_little(&table[at..e]);
+    for part in table.split_inclusive(|b| *b == FILE_END) {
+        let file = part.strip_suffix(&[FILE_END]).unwrap_or(part);
+        run::<4096>(file, false);
+        run::<60>(file, true);
         io::write_all(1, b".\n");
-        if e == table.len() {
-            return;
-        }
-        at = e + 1;
     }
 }
 

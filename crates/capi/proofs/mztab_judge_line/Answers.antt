@@ -1,5 +1,5 @@
--- `capi::mztab_judge_line` meets its contract: it is that of `judge_line_places`. Assumes nothing.
+-- `capi::mztab_judge_line` meets its contract: it is that of `judge_line_places`, as a host is told it. Assumes nothing.
 use Rattle.capi.proofs.mztab_judge_line.Goals as goal
 
 pub returns : goal.returns
-returns c = c.judge_line_places.ensures
+returns c = rw (c.told.ensures.number_value, c.told.ensures.answer_value) c.judge_line_places.ensures

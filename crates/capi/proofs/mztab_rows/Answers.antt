@@ -1,5 +1,5 @@
--- `capi::mztab_rows` meets its contract: it is that of `rows`. Assumes nothing.
+-- `capi::mztab_rows` meets its contract: it is that of `rows`, as a host is told it. Assumes nothing.
 use Rattle.capi.proofs.mztab_rows.Goals as goal
 
 pub returns : goal.returns
-returns c = c.rows.ensures
+returns c = rw (c.told.ensures.number_value, c.told.ensures.answer_value) c.rows.ensures

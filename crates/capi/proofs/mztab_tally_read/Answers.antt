@@ -3,4 +3,4 @@ use Rattle.tally.proofs.Laws.Placing.{placed_is}
 use Rattle.capi.proofs.mztab_tally_read.Goals as goal
 
 pub returns : goal.returns
-returns c = placed_is c.to_places.ensures c.read-t.ensures
+returns c = placed_is c.to_places.ensures (rw (c.told-t.ensures.number_value, c.told-t.ensures.answer_value, c.nothing.ensures) c.read.ensures)

@@ -1,5 +1,5 @@
--- `capi::mztab_weights` meets its contract: it is that of `weights`. Assumes nothing.
+-- `capi::mztab_weights` meets its contract: it is that of `weights`, as a host is told it. Assumes nothing.
 use Rattle.capi.proofs.mztab_weights.Goals as goal
 
 pub returns : goal.returns
-returns c = c.weights.ensures
+returns c = rw c.told.ensures.number_value c.weights.ensures

@@ -7,6 +7,11 @@ use native.Mathlib.Omega.{arith}
 use lib.ListN.{length, drop, drop_of_length-le}
 use lib.Seq.{sets}
 use lib.Dec.{ltb}
+use borrow.Author.Tests.{le-ltb}
+use Rattle.numbers.specs.Numbers.{TOO_LONG}
+use Rattle.numbers.specs.Refusals.{number_of}
+use Rattle.numbers.specs.declared.Refusal.{Refusal}
+use Rattle.numbers.specs.declared.Refusal.TheVariants.{TooLong, NoSection, NoRow, NoCell, NoRoom, NotAccepted, BelowZero, Past64Bits, NoRecord, NotAsMany, TooLarge, AllZero}
 use Rattle.text_bytes.specs.Bytes.{Bytes}
 use Rattle.text.specs.Lines.{LIMIT}
 use Rattle.rules.specs.Breaks.{Break}
@@ -34,16 +39,35 @@ none_left bs n e =
     let le : length bs ≤ n = omega (arith, e) in
     ap (map fault_of) (drop_of_length-le bs le)
 
-by_limit : (b : Bool) (bs : List Break) (ys : List Fault)
-    → outcome (cond b 1 0) (length (cond b [] bs)) (sets ys 0 (map fault_of (cond b [] bs))) ≡ cond b (outcome 1 0 ys) (outcome 0 (length bs) (sets ys 0 (map fault_of bs)))
-by_limit true bs ys = refl
-by_limit false bs ys = refl
+all_is : (file : Bytes) (ys : List Fault) → length file ≤ LIMIT → outcome 0 (length (reported file)) (whole file ys) ≡ judged file ys
+unfolding reported judged
+all_is file ys h = rw (le-ltb LIMIT (length file) h)
 
-all_is : (file : Bytes) (ys : List Fault) → outcome (length_number file) (length (reported file)) (whole file ys) ≡ judged file ys
-unfolding reported length_number judged
-all_is file ys = by_limit (ltb LIMIT (length file)) (breaks file) ys
-
-pub ended : (file : Bytes) (s : Progress) (slots : List ℕ) (cur ys : List Fault) → Between file s slots → s.more ≡ false → sets cur s.count (remaining file s) ≡ whole file ys → outcome s.number s.count cur ≡ judged file ys
+pub ended : (file : Bytes) (s : Progress) (slots : List ℕ) (cur ys : List Fault) → Between file s slots → s.more ≡ false → sets cur s.count (remaining file s) ≡ whole file ys → outcome 0 s.count cur ≡ judged file ys
 ended file s slots cur ys g e ahead =
-    ap (λ (n : ℕ). outcome n s.count cur) g.number ∙ ap (λ (k : ℕ). outcome (length_number file) k cur) (g.done e)
-    ∙ ap (outcome (length_number file) (length (reported file))) (sym (ap (sets cur s.count) (none_left (reported file) s.count (g.done e))) ∙ ahead) ∙ all_is file ys
+    ap (λ (k : ℕ). outcome 0 k cur) (g.done e)
+    ∙ ap (outcome 0 (length (reported file))) (sym (ap (sets cur s.count) (none_left (reported file) s.count (g.done e))) ∙ ahead) ∙ all_is file ys g.limit
+
+-- no refusal has the number 0
+refusal_numbered : (e : Refusal) → number_of e ≡ 0 → ⊥
+refusal_numbered TooLong h = omega arith
+refusal_numbered NoSection h = omega arith
+refusal_numbered NoRow h = omega arith
+refusal_numbered NoCell h = omega arith
+refusal_numbered NoRoom h = omega arith
+refusal_numbered NotAccepted h = omega arith
+refusal_numbered BelowZero h = omega arith
+refusal_numbered Past64Bits h = omega arith
+refusal_numbered NoRecord h = omega arith
+refusal_numbered NotAsMany h = omega arith
+refusal_numbered TooLarge h = omega arith
+refusal_numbered AllZero h = omega arith
+
+-- a file that is refused is too long
+pub refused_is : (file : Bytes) (ys : List Fault) (e : Refusal) → number_of e ≡ length_number file → outcome (number_of e) 0 ys ≡ judged file ys
+unfolding length_number judged
+refused_is file ys e h = go (ltb LIMIT (length file)) refl h
+  where
+    go : (t : Bool) → ltb LIMIT (length file) ≡ t → number_of e ≡ cond t TOO_LONG 0 → outcome (number_of e) 0 ys ≡ cond t (outcome TOO_LONG 0 ys) (outcome 0 (length (breaks file)) (sets ys 0 (map fault_of (breaks file))))
+    go true q h = rw h
+    go false q h = absurd (refusal_numbered e h)

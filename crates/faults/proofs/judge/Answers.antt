@@ -1,17 +1,23 @@
 -- `faults::judge` meets its contract: the records that are still to come at the start, after a step, and when nothing is left to judge. Assumes nothing.
 use Rattle.std.proofs.Common.{ℕ, refl, sym, ◌∙◌}
 use Rattle.std.proofs.lemmas.List.{length-replicate}
+use Rattle.std.proofs.lemmas.Result.{err_from_is_err_and}
 use Rattle.fault_steps.specs.Steps.{PLACES}
-use Rattle.faults.proofs.Laws.Closing.{ahead_first, ahead_next, ended}
+use Rattle.faults.proofs.Laws.Closing.{ahead_first, ahead_next, ended, refused_is}
 use Rattle.faults.proofs.judge.Goals as goal
+
+pub returns-in_err-s : goal.returns-in_err-s
+returns-in_err-s c =
+    let p = err_from_is_err_and c.from_residual.result c.from_residual.ensures.1 in
+    rw (p.1, p.2) (refused_is c.args.file.now c.args.faults.now _ c.in_err-s.ensures.number)
 
 pub loop-s-init : goal.loop-s-init
 loop-s-init c = record {
-  between = c.begin-s.ensures.between;
+  between = c.in_ok-s.ensures.between;
   places_len = length-replicate {A = ℕ} PLACES 0;
-  cap = c.begin-s.ensures.cap_value.0;
+  cap = c.in_ok-s.ensures.cap_value.0;
   long = refl;
-  ahead = ahead_first c.args.file.now c.begin-s.result c.args.faults.now c.begin-s.ensures.cap_value.1;
+  ahead = ahead_first c.args.file.now c.in_ok-s.s c.args.faults.now c.in_ok-s.ensures.cap_value.1;
 }
 
 pub loop-s-preserved : goal.loop-s-preserved

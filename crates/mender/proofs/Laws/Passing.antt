@@ -1,6 +1,7 @@
 -- A line that stays as it is, and one that is a header: what is laid, and what is carried after it. Assumes nothing.
-use mathlib.Core.Path.{◌≡◌, sym, ap, ◌∙◌}
+use mathlib.Core.Path.{◌≡◌, refl, sym, ap, ◌∙◌}
 use mathlib.Core.List.{List, []}
+use mathlib.Core.Logic.{◌⊎◌, inl, inr}
 use Prim.Native.Nat.{ℕ, ◌+◌, ◌*◌, ◌≤◌, ◌<◌}
 use native.Mathlib.Omega.{arith}
 use lib.ListN.{length, drop}
@@ -12,7 +13,7 @@ use Rattle.text.proofs.Laws.Joining.{cells_tabbed}
 use Rattle.book.specs.Book.{Book}
 use Rattle.rules.specs.Sorts.{sort_of, header_in}
 use Rattle.rules.specs.declared.sorts.Sort.{Sort}
-use Rattle.rules.specs.declared.sorts.Sort.TheVariants.{Header}
+use Rattle.rules.specs.declared.sorts.Sort.TheVariants.{Silent, Unknown, Meta, Header}
 use Rattle.scan.specs.Places.{Lent, lent}
 use Rattle.scan.specs.Machine.{KindsOf}
 use Rattle.mender_places.specs.Places.{lay_all, note_all, Mends}
@@ -38,16 +39,18 @@ module _ (b : Book) (l : Bytes) {σ : Sort} (e : sort_of b l ≡ σ) (h w : ℕ)
   kept_passes none s v p q k = record { section_next = p ∙ rw e (sym s); width_next = q ∙ rw e (sym v); columns_after = λ l₀ c. rw (e, none) c; kind_places = k }
 
 -- both, of a walk that passes it
-pub kept_line : (b : Book) (l : Bytes) {σ : Sort} → sort_of b l ≡ σ → (walk : Walk) (kinds : List ℕ)
-    → sort_filled σ walk.section walk.width kinds (cells l) ≡ cells l → sort_found σ walk.section walk.width kinds (walk.line + 1) (cells l) ≡ []
-    → header_in σ ≡ 0 → section_after σ walk.section ≡ walk.section → width_after σ walk.width (length (cells l)) ≡ walk.width → length kinds ≡ 256
+pub kept_plain : (b : Book) (l : Bytes) → (sort_of b l ≡ Silent) ⊎ ((sort_of b l ≡ Unknown) ⊎ (sort_of b l ≡ Meta)) → (walk : Walk) (kinds : List ℕ) → length kinds ≡ 256
     → {copy copy' changes : List ℕ} {r : Walk} → lent copy' r.to ≡ lay_all (lent copy walk.to) l
     → (r.line ≡ walk.line + 1) × (r.count ≡ walk.count) × (r.section ≡ walk.section) × (r.width ≡ walk.width)
     → Mends (tabbed (sort_filled (sort_of b l) walk.section walk.width kinds (cells l))) (sort_found (sort_of b l) walk.section walk.width kinds (walk.line + 1) (cells l)) (5 * length l) (length l)
     (lent copy walk.to) (lent copy' r.to) (lent changes walk.count) (lent changes r.count)
     × (Passes b l walk.section walk.width kinds r.section r.width kinds × (r.line ≡ walk.line + 1))
-kept_line b l e walk kinds same none z s v k lays q =
-    (kept_mends b l e walk.section walk.width kinds (walk.line + 1) same none lays q.1, (kept_passes b l e walk.section walk.width kinds z s v q.2 q.3 k, q.0))
+kept_plain b l (inl e) walk kinds k lays q =
+    (kept_mends b l e walk.section walk.width kinds (walk.line + 1) refl refl lays q.1, (kept_passes b l e walk.section walk.width kinds refl refl refl q.2 q.3 k, q.0))
+kept_plain b l (inr (inl e)) walk kinds k lays q =
+    (kept_mends b l e walk.section walk.width kinds (walk.line + 1) refl refl lays q.1, (kept_passes b l e walk.section walk.width kinds refl refl refl q.2 q.3 k, q.0))
+kept_plain b l (inr (inr e)) walk kinds k lays q =
+    (kept_mends b l e walk.section walk.width kinds (walk.line + 1) refl refl lays q.1, (kept_passes b l e walk.section walk.width kinds refl refl refl q.2 q.3 k, q.0))
 
 -- a header
 pub head_passes : (b : Book) (l : Bytes) (s : ℕ) → sort_of b l ≡ Header s → 0 < s → (h w : ℕ) (kinds : List ℕ) {w' : ℕ} {kinds' : List ℕ} → w' ≡ length (cells l)

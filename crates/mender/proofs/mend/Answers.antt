@@ -1,5 +1,4 @@
 -- `mender::mend` meets its contract: the limit decides, then what a first walk says of the copy's length, and else a second walk writes. Assumes nothing.
-use mathlib.Core.Path.{sym, ◌∙◌}
 use Rattle.book.specs.Book.{book_of}
 use Rattle.book.specs.Text.{book_in}
 use Rattle.mender.proofs.Laws.Writing.{mended_long, mended_none, mended_room, mended_done}
@@ -8,13 +7,13 @@ use Rattle.mender.proofs.mend.Goals as goal
 pub returns-then-file-gt-LIMIT : goal.returns-then-file-gt-LIMIT
 returns-then-file-gt-LIMIT c = mended_long c.args.file.now c.args.copy.now c.args.changes.now c.if-file-gt-LIMIT.true
 
-pub returns-then-either : goal.returns-then-either
+pub returns-then-no_room : goal.returns-then-no_room
 unfolding book_in book_of
-returns-then-either c = mended_none c.args.file.now c.args.copy.now c.args.changes.now c.if-file-gt-LIMIT.false c.mend_lines-planned.ensures (sym c.either.ensures ∙ c.if-either.true)
+returns-then-no_room c = mended_none c.args.file.now c.args.copy.now c.args.changes.now c.if-file-gt-LIMIT.false c.mend_lines-planned.ensures c.if-no_room.true
 
 pub returns : goal.returns
 unfolding book_in book_of
 returns c =
     mended_done c.args.file.now c.args.copy.now c.args.changes.now c.if-file-gt-LIMIT.false
-    (mended_room c.args.file.now c.args.copy.now c.args.changes.now c.if-file-gt-LIMIT.false c.mend_lines-planned.ensures (sym c.either.ensures ∙ c.if-either.false))
-    c.mend_lines-done.ensures
+    (mended_room c.args.file.now c.args.copy.now c.args.changes.now c.if-file-gt-LIMIT.false c.mend_lines-planned.ensures c.if-no_room.false)
+    c.mend_lines.ensures

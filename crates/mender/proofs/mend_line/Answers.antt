@@ -5,28 +5,14 @@ use Rattle.book.specs.Book.{Book}
 use Rattle.book.specs.Text.{book_in}
 use Rattle.book.proofs.Laws.Sized.{book_sized}
 use Rattle.rules.proofs.Laws.Sorting.{header_section}
-use Rattle.mender.proofs.Laws.Passing.{kept_mends, kept_passes, kept_line, head_passes}
+use Rattle.mender.proofs.Laws.Passing.{kept_mends, kept_passes, kept_plain, head_passes}
 use Rattle.mender.proofs.mend_line.Goals as goal
 
--- a silent line
+-- a line of no section, or a metadata line
 pub returns-in-Silent : goal.returns-in-Silent
 returns-in-Silent c =
     let book : Book = book_in c.args.book.now in
-    let whole = kept_line book c.args.line.now (sym c.sort_of-sort.ensures ∙ c.in-Silent.is) c.args.walk c.args.kinds.now refl refl refl refl refl c.requires.kinds_len c.keep_line.ensures.to_after c.keep_line.ensures.line_value in
-    record { mends = whole.0; passes = whole.1.0; line_value = whole.1.1 }
-
--- one with an unknown code
-pub returns-in-Unknown : goal.returns-in-Unknown
-returns-in-Unknown c =
-    let book : Book = book_in c.args.book.now in
-    let whole = kept_line book c.args.line.now (sym c.sort_of-sort.ensures ∙ c.in-Unknown.is) c.args.walk c.args.kinds.now refl refl refl refl refl c.requires.kinds_len c.keep_line-in-Unknown.ensures.to_after c.keep_line-in-Unknown.ensures.line_value in
-    record { mends = whole.0; passes = whole.1.0; line_value = whole.1.1 }
-
--- a metadata line
-pub returns-in-Meta : goal.returns-in-Meta
-returns-in-Meta c =
-    let book : Book = book_in c.args.book.now in
-    let whole = kept_line book c.args.line.now (sym c.sort_of-sort.ensures ∙ c.in-Meta.is) c.args.walk c.args.kinds.now refl refl refl refl refl c.requires.kinds_len c.keep_line-in-Meta.ensures.to_after c.keep_line-in-Meta.ensures.line_value in
+    let whole = kept_plain book c.args.line.now (rw c.sort_of-sort.ensures at c.in-Silent.is) c.args.walk c.args.kinds.now c.requires.kinds_len c.keep_line.ensures.to_after c.keep_line.ensures.line_value in
     record { mends = whole.0; passes = whole.1.0; line_value = whole.1.1 }
 
 -- a header

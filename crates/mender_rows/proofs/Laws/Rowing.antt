@@ -9,7 +9,7 @@ use native.Mathlib.Omega.{arith}
 use lib.Dec.{eqb, leb}
 use lib.ListN.{length, take, drop}
 use lib.Seq.{length-take-le}
-use borrow.Author.Tests.{leb-true, eqb-true, not-true, not-false}
+use borrow.Author.Tests.{leb-true, eqb-true, not-false}
 use Rattle.text_bytes.specs.Bytes.{Bytes, any, is_empty}
 use Rattle.text_bytes.specs.Places.{up_to, Ends}
 use Rattle.text_bytes.proofs.Laws.Pieces.{piece_cut}
@@ -23,22 +23,6 @@ use Rattle.mender_places.specs.Places.{lay_all, note_all, Mends}
 use Rattle.mender_places.proofs.Laws.Laying.{lay_append, lay_count}
 use Rattle.mender_rows.specs.Rows.{filled, found, is_even, row_filled, row_found, has_hole}
 use Rattle.mender_rows.proofs.Laws.Filling.{tabbed_next}
-
--- WHETHER A ROW IS FILLED, by its tests
-pub holed_other : (u e k : Bool) → not u ≡ true → false ≡ ((u && e) && k)
-holed_other u e k h = rw (not-true u h)
-
-pub holed_none : (u e k : Bool) → not k ≡ true → false ≡ ((u && e) && k)
-holed_none u e false h = go (u && e)
-  where
-    go : (t : Bool) → false ≡ (t && false)
-    go true = refl
-    go false = refl
-holed_none u e true h = absurd_bool h
-
-pub holed_some : (u e k : Bool) → not u ≡ false → not k ≡ false → e ≡ ((u && e) && k)
-holed_some u true k h j = rw (not-false u h, not-false k j)
-holed_some u false k h j = rw (not-false u h)
 
 -- WITHOUT A HOLE nothing changes
 filled_none : (kinds : List ℕ) (c : ℕ) (xs : List Bytes) → any is_empty xs ≡ false → filled kinds c xs ≡ xs

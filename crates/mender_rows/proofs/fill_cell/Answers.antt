@@ -4,9 +4,9 @@ use Rattle.rules.specs.Mended.{NULL}
 use Rattle.mender_rows.proofs.Laws.Filling.{cell_new, cell_same}
 use Rattle.mender_rows.proofs.fill_cell.Goals as goal
 
-pub returns-then-both : goal.returns-then-both
+pub returns-then-fills : goal.returns-then-fills
 unfolding NULL bytes
-returns-then-both c = cell_new c.args.kind c.args.n c.args.c c.args.cell.now (rw c.both.ensures at c.if-both.true) c.lay-to.ensures c.note-more.ensures
+returns-then-fills c = cell_new c.args.kind c.args.n c.args.c c.args.cell.now (rw c.is_empty.ensures at c.if-fills.true) c.lay-to.ensures c.note-more.ensures
 
 pub returns : goal.returns
-returns c = cell_same c.args.kind c.args.n c.args.c c.args.cell.now (rw c.both.ensures at c.if-both.false) c.lay-to-2.ensures
+returns c = cell_same c.args.kind c.args.n c.args.c c.args.cell.now (rw c.is_empty.ensures at c.if-fills.false) c.lay-to-2.ensures

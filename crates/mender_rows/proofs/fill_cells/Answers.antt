@@ -1,7 +1,7 @@
 -- `mender_rows::fill_cells` meets its contract. The loop's invariant: the bytes laid so far and those of the cells that are left are those of all cells, and so are
 -- the changes. Assumes nothing.
 use mathlib.Core.Path.{refl, ap, ◌∙◌}
-use Prim.Native.Nat.{◌-◌, ◌<◌}
+use Prim.Native.Nat.{◌<◌}
 use native.Mathlib.Omega.{arith}
 use borrow.Author.Rules.{rules}
 use lib.ListN.{length}

@@ -1,9 +1,7 @@
 -- `mender_rows::has_hole` meets its contract. The invariant: the line has a hole where one was met or what is left has two tabs, one directly after the other.
 -- Assumes nothing.
 use mathlib.Core.Path.{sym, ◌∙◌}
-use Prim.Native.Nat.{◌-◌}
 use native.Mathlib.Omega.{arith}
-use borrow.Author.Rules.{rules}
 use Rattle.mender_rows.proofs.Laws.Holes.{holes_none, holes_start, pairs_more, pairs_end}
 use Rattle.mender_rows.proofs.has_hole.Goals as goal
 
@@ -11,10 +9,10 @@ pub returns-then-line-eq0 : goal.returns-then-line-eq0
 returns-then-line-eq0 c = sym (holes_none c.args.line.now c.if-line-eq0.true)
 
 pub loop-i-init : goal.loop-i-init
-loop-i-init c = (search rules, holes_start c.args.line.now c.if-line-eq0.false)
+loop-i-init c = holes_start c.args.line.now c.if-line-eq0.false
 
 pub loop-i-preserved : goal.loop-i-preserved
-loop-i-preserved c = (search rules, c.loop-i.invariant.1 ∙ pairs_more c.args.line.now c.loop-i.i c.loop-i.hit (omega arith))
+loop-i-preserved c = c.loop-i.invariant ∙ pairs_more c.args.line.now c.loop-i.i c.loop-i.hit (omega arith)
 
 pub returns : goal.returns
-returns c = sym (c.loop-i.invariant.1 ∙ pairs_end c.args.line.now c.loop-i.i c.loop-i.hit (omega arith) (omega arith))
+returns c = sym (c.loop-i.invariant ∙ pairs_end c.args.line.now c.loop-i.i c.loop-i.hit (omega arith) (omega arith))

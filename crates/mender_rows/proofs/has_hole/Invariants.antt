@@ -2,7 +2,6 @@
 -- Assumes nothing.
 use mathlib.Core.Path.{◌≡◌}
 use mathlib.Core.Bool.{◌||◌}
-use Prim.Native.Nat.{◌-◌, ◌≤◌}
 use lib.ListN.{drop}
 use Rattle.text.specs.Lines.{cells}
 use Rattle.mender_rows.specs.Rows.{has_hole}
@@ -10,7 +9,4 @@ use Rattle.mender_rows.proofs.Laws.Holes.{pairs}
 use Rattle.mender_rows.proofs.has_hole.Given as goal
 
 abbrev pub invariant-loop-i : goal.invariant-loop-i
-invariant-loop-i l = (l.i ≤ l.last) × (has_hole (cells l.line) ≡ (l.hit || pairs (drop l.i l.line)))
-
-abbrev pub decreases-loop-i : goal.decreases-loop-i
-decreases-loop-i l = l.last - l.i
+invariant-loop-i l = has_hole (cells l.line) ≡ (l.hit || pairs (drop l.i l.line))

@@ -6,8 +6,11 @@ use mathlib.Core.Option.{none, some}
 use Prim.Native.Nat.{ℕ, zero, suc, ◌+◌, ◌-◌, ◌≤◌, ◌<◌}
 use native.Mathlib.Omega.{arith}
 use lib.ListN.{length, take, drop, length-take, length-drop}
-use borrow.Author.Tests.{lt-ltb, le-ltb, eq-eqb, ne_eqb}
+use borrow.Author.Tests.{lt-ltb, le-ltb, ne_eqb}
 use Rattle.numbers.specs.Numbers.{TOO_LONG, NO_SECTION, NO_ROW, NO_CELL}
+use Rattle.numbers.specs.Refusals.{number_of}
+use Rattle.numbers.specs.declared.Refusal.{Refusal}
+use Rattle.numbers.specs.declared.Refusal.TheVariants.{TooLong, NoSection, NoRow, NoCell, NoRoom, NotAccepted, BelowZero, Past64Bits, NoRecord, NotAsMany, TooLarge, AllZero}
 use Rattle.text_bytes.specs.Bytes.{Bytes, is}
 use Rattle.text_bytes.specs.Places.{part, after}
 use Rattle.text.specs.Lines.{LIMIT, TAB, LF, lines}
@@ -21,20 +24,35 @@ use Rattle.value_readings.specs.Reading.{value_of}
 use Rattle.value_readings.specs.declared.Value.{Value}
 use Rattle.book.specs.Book.{is_section, book_of}
 
+-- no refusal has the number 0
+refusal_numbered : (e : Refusal) → number_of e ≡ 0 → ⊥
+refusal_numbered TooLong h = omega arith
+refusal_numbered NoSection h = omega arith
+refusal_numbered NoRow h = omega arith
+refusal_numbered NoCell h = omega arith
+refusal_numbered NoRoom h = omega arith
+refusal_numbered NotAccepted h = omega arith
+refusal_numbered BelowZero h = omega arith
+refusal_numbered Past64Bits h = omega arith
+refusal_numbered NoRecord h = omega arith
+refusal_numbered NotAsMany h = omega arith
+refusal_numbered TooLarge h = omega arith
+refusal_numbered AllZero h = omega arith
+
 -- a refusal's place
-pub placed_refused : (f : Bytes) {s : Sought} {n : ℕ} {p : Place} → p ≡ nowhere n → refused n ≡ s → Placed f s p
-placed_refused f {s} {n} {p} e q = record {
-  says = ap (λ (x : Place). x.number) e ∙ ap (λ (x : Sought). x.number) q;
-  on = ap (λ (x : Place). x.line) e ∙ ap (λ (x : Sought). x.line) q;
-  at = ap (λ (x : Place). x.cell) e ∙ ap (λ (x : Sought). x.cell) q;
-  from = ap (λ (x : Place). x.start) e ∙ ap (λ (x : Sought). x.start) q;
-  starts = rw e (omega arith);
-  ends = rw e (omega arith);
-  views = rw e (ap (λ (x : Sought). x.view) q);
+pub placed_refused : (f : Bytes) {s : Sought} {n : ℕ} → refused n ≡ s → Placed f s n nowhere
+placed_refused f q = record {
+  says = ap (λ (x : Sought). x.number) q;
+  on = ap (λ (x : Sought). x.line) q;
+  at = ap (λ (x : Sought). x.cell) q;
+  from = ap (λ (x : Sought). x.start) q;
+  starts = omega arith;
+  ends = omega arith;
+  views = ap (λ (x : Sought). x.view) q;
 }
 
 -- what a place says and shows is the answer
-pub placed_shown : {f : Bytes} {s : Sought} {p : Place} → Placed f s p → given p.number (part p.start p.end f) ≡ shown s
+pub placed_shown : {f : Bytes} {s : Sought} {n : ℕ} {p : Place} → Placed f s n p → given n (part p.start p.end f) ≡ shown s
 placed_shown h = rw (h.says, h.views)
 
 -- the stand-in, by whether the cell is `null`
@@ -86,7 +104,7 @@ module _ (f : Bytes) (section row column : ℕ) where
       pub placed_cell :
           (n a e from to : ℕ) → a ≤ e → e ≤ length f → a ≡ after LF (n - 1) f → row_of f section row ≡ some (line_of n (part a e f))
           → from ≤ to → to ≤ length (part a e f) → from ≡ after TAB column (part a e f) → cell_at (part a e f) column ≡ some (part from to (part a e f))
-          → Placed f (sought f section row column) (record { number = 0; line = n; cell = column + 1; start = a + from; end = a + to })
+          → Placed f (sought f section row column) 0 (record { line = n; cell = column + 1; start = a + from; end = a + to })
       placed_cell n a e from to ae ef at here ft tl after-tabs cell =
           let q = sought_cell_lem (line_of n (part a e f)) here (part from to (part a e f)) cell in
           let k : to ≤ e - a = omega (arith, length-take (e - a) (drop a f), length-drop a f) in
@@ -101,15 +119,14 @@ module _ (f : Bytes) (section row column : ℕ) where
             views = rw (j, ← part_part f a (e - a) from (to - from) (omega arith)) (ap (λ (x : Sought). x.view) q);
           }
 
--- a reading, by whether the place is a refusal's
-module _ {f : Bytes} {s : Sought} {p : Place} (h : Placed f s p) where
-  pub placed_unread : (p.number ≡ 0 → ⊥) → told p.number unread ≡ reading_of s
-  unfolding reading_of
-  placed_unread ne = rw (← h.says, ne_eqb p.number 0 ne)
+-- a reading that is refused, and one that is read
+pub placed_unread : {f : Bytes} {s : Sought} (e : Refusal) {p : Place} → Placed f s (number_of e) p → told (number_of e) unread ≡ reading_of s
+unfolding reading_of
+placed_unread e h = rw (← h.says, ne_eqb (number_of e) 0 (refusal_numbered e))
 
-  pub placed_read : (v : Value) → v ≡ value_of (part p.start p.end f) → p.number ≡ 0 → told p.number (record { line = p.line; cell = p.cell; value = v }) ≡ reading_of s
-  unfolding reading_of
-  placed_read v e z = rw (e, h.views, h.on, h.at, ← h.says, eq-eqb p.number 0 z)
+pub placed_read : {f : Bytes} {s : Sought} {p : Place} → Placed f s 0 p → (v : Value) → v ≡ value_of (part p.start p.end f) → told 0 (record { line = p.line; cell = p.cell; value = v }) ≡ reading_of s
+unfolding reading_of
+placed_read h v e = rw (e, h.views, h.on, h.at, ← h.says)
 
 -- a part is as many bytes as it has of those from its start on
 part_own : (n : ℕ) (l : Bytes) → take n l ≡ take (length (take n l)) l
@@ -117,5 +134,5 @@ part_own zero l = refl
 part_own (suc n) [] = refl
 part_own (suc n) (x ∷ xs) = ap (λ (t : Bytes). x ∷ t) (part_own n xs)
 
-pub part_stands : {f : Bytes} {s : Sought} {p : Place} → Placed f s p → part p.start p.end f ≡ take (length (part p.start p.end f)) (drop s.start f)
-part_stands {f} {s} {p} h = part_own (p.end - p.start) (drop p.start f) ∙ ap (λ (a : ℕ). take (length (part p.start p.end f)) (drop a f)) h.from
+pub part_stands : {f : Bytes} {s : Sought} {n : ℕ} {p : Place} → Placed f s n p → part p.start p.end f ≡ take (length (part p.start p.end f)) (drop s.start f)
+part_stands {f} {s} {n} {p} h = part_own (p.end - p.start) (drop p.start f) ∙ ap (λ (a : ℕ). take (length (part p.start p.end f)) (drop a f)) h.from

@@ -1,7 +1,6 @@
 -- `mztab::cells::locate` meets its contract: at each `return` the tests and the calls that led there say which answer it is. Assumes nothing.
 use mathlib.Core.Path.{◌≡◌, sym, ◌∙◌}
 use mathlib.Core.Bool.{true}
-use mathlib.Core.Option.{some}
 use Prim.Native.Nat.{ℕ, ◌+◌, ◌-◌, ◌≤◌}
 use native.Mathlib.Omega.{arith}
 use borrow.Author.Tests.{not-true, not-false}
@@ -9,20 +8,20 @@ use lib.ListN.{length, drop, length-take, length-drop}
 use Rattle.text_bytes.specs.Bytes.{Bytes}
 use Rattle.book.specs.Book.{is_section, book_of}
 use Rattle.book.specs.Text.{book_in}
-use Rattle.text_bytes.specs.Places.{part, after}
-use Rattle.text.specs.Lines.{TAB, LF, lines}
-use Rattle.rows.specs.Rows.{line_of, row_of, cell_at}
+use Rattle.text_bytes.specs.Places.{part}
+use Rattle.text.specs.Lines.{lines}
+use Rattle.rows.specs.Rows.{line_of, row_of}
 use Rattle.rows.proofs.Laws.Finding.{row_missing, column_missing, column_below}
 use Rattle.mztab.proofs.Laws.Locating.{placed_refused, placed_cell, sought_long, sought_nowhere, sought_no_row, sought_no_cell}
 use Rattle.mztab.proofs.cells.locate.Goals as goal
 
 pub returns-then-file-gt-LIMIT : goal.returns-then-file-gt-LIMIT
-returns-then-file-gt-LIMIT c = placed_refused c.args.file.now c.refused.ensures (sought_long c.args.file.now c.args.section c.args.row c.args.column c.if-file-gt-LIMIT.true)
+returns-then-file-gt-LIMIT c = placed_refused c.args.file.now (sought_long c.args.file.now c.args.section c.args.row c.args.column c.if-file-gt-LIMIT.true)
 
 pub returns-then-not-is_section : goal.returns-then-not-is_section
 unfolding book_in book_of
 returns-then-not-is_section c =
-    placed_refused c.args.file.now c.refused-then-not-is_section.ensures
+    placed_refused c.args.file.now
     (sought_nowhere c.args.file.now c.args.section c.args.row c.args.column c.if-file-gt-LIMIT.false (sym c.is_section.ensures ∙ not-true c.is_section.result c.if-not-is_section.true-raw))
 
 pub row_of-requires : goal.row_of-requires
@@ -35,7 +34,7 @@ pub returns-in_default : goal.returns-in_default
 unfolding book_in book_of
 returns-in_default c =
     let of_section : is_section (book_of (lines c.args.file.now)) c.args.section ≡ true = sym c.is_section.ensures ∙ not-false c.is_section.result c.if-not-is_section.false-raw in
-    placed_refused c.args.file.now c.refused-in_default.ensures
+    placed_refused c.args.file.now
     (sought_no_row c.args.file.now c.args.section c.args.row c.args.column c.if-file-gt-LIMIT.false of_section
     (row_missing c.args.file.now (row_of c.args.file.now c.args.section c.args.row) c.row_of.result c.in_default.is c.row_of.ensures))
 
@@ -44,7 +43,7 @@ unfolding book_in book_of
 returns-in_default-column_of c =
     let of_section : is_section (book_of (lines c.args.file.now)) c.args.section ≡ true = sym c.is_section.ensures ∙ not-false c.is_section.result c.if-not-is_section.false-raw in
     let text_of : Bytes = part c.in-Some.on.start c.in-Some.on.end c.args.file.now in
-    placed_refused c.args.file.now c.refused-in_default-column_of.ensures
+    placed_refused c.args.file.now
     (sought_no_cell c.args.file.now c.args.section c.args.row c.args.column c.if-file-gt-LIMIT.false of_section (line_of c.in-Some.on.line text_of) c.in-Some.ensures.3
     (column_missing text_of c.args.column c.column_of.result c.in_default-column_of.is c.column_of.ensures))
 

@@ -1,2 +1,0 @@
--- The laws that proofs cite.
-pub mod Laws
