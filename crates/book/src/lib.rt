@@ -15,7 +15,7 @@ ghost use Rattle.book.specs.Text.{rows_of, IsTable, book_in, IsBook};
 use crate::directory::{links_at, rows_at};
 use book_lookup::lookup;
 use book_names::Found;
-use text_bytes::{begins_with, wide};
+use text_bytes::begins_with;
 use value_references::index::Flaw;
 
 // The numbers of sections are below this, in every book.
@@ -67,12 +67,12 @@ fn find_column(book: &[u8], section: usize, name: &[u8]) -> Found
     requires { IsBook book.now }
     ensures { result ≡ lookup_in (column_entries (book_in book.now) section) name.now }
 {
-    let first = wide(book[0]);
+    let first = usize::from(book[0]);
     if section < first {
         return Found::Unknown(Flaw::Form);
     }
     let k = section - first;
-    if wide(book[1]) <= k {
+    if usize::from(book[1]) <= k {
         return Found::Unknown(Flaw::Form);
     }
     search(book, k + 1, name)

@@ -12,7 +12,7 @@ ghost use Rattle.book_names.specs.declared.Match.TheVariants.{Differs};
 
 use book_fits::{byte_of, fits};
 use book_names::{Found, HEADS, Match, NAME, PLACE, WIDTH};
-use text_bytes::{SPACE, seek, wide};
+use text_bytes::{SPACE, seek};
 use value_references::index::{Flaw, digits_end, sooner};
 
 // Whether a pattern whose second byte is q may fit a name that begins with x and y: an index may stand at either, or the pattern may end there.
@@ -132,7 +132,7 @@ pub fn lookup(table: &[u8], links: &[u8], name: &[u8]) -> Found
     let n = extent(name);
     let rows = table.len() / WIDTH;
     let mut flaw = Flaw::Form;
-    let mut entry = wide(links[wide(x)]);
+    let mut entry = usize::from(links[usize::from(x)]);
     while entry < rows {
         let at = entry * WIDTH;
         let end = at + WIDTH;
@@ -147,7 +147,7 @@ pub fn lookup(table: &[u8], links: &[u8], name: &[u8]) -> Found
             };
         }
         flaw = noted(flaw, row);
-        entry = wide(links[HEADS + entry]);
+        entry = usize::from(links[HEADS + entry]);
     }
     Found::Unknown(flaw)
 }
