@@ -8,4 +8,3 @@ use Rattle.book_links.proofs.link.Given as goal
 
 abbrev pub invariant-loop-row : goal.invariant-loop-row
 invariant-loop-row l = (l.row ≤ length l.table / 54) × (length l.book ≡ length l.initial.book) × (take l.at l.book ≡ take l.at l.initial.book) × Linked l.row (entries l.table) (drop l.at l.book)
-

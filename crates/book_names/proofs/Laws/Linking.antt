@@ -198,18 +198,6 @@ linked_turn es b at r h x k l d e lh =
     rw (i, ← get_or-drop at b h 0, drop-set-add at (set b (at + (256 + r)) (get_or (drop at b) h 0)) h r, drop-set-add at b (256 + r) (get_or (drop at b) h 0))
     (linked_more es (drop at b) r h x k l d e lh)
 
--- one byte more that is linked to v
-pub heads_next : (b : List ℕ) (at v k : ℕ) → at + k < length b → ((i : ℕ) → i < k → get_or (drop at b) i 0 ≡ v) → (i : ℕ) → i < k + 1 → get_or (drop at (set b (at + k) v)) i 0 ≡ v
-heads_next b at v k h f i l = rw (drop-set-add at b k v) (go (eqb i k) refl)
-  where
-    go : (t : Bool) → eqb i k ≡ t → get_or (set (drop at b) k v) i 0 ≡ v
-    go true e =
-        ap (λ (j : ℕ). get_or (set (drop at b) k v) j 0) (eqb-true i k e) ∙ get_or-set_same (drop at b) k v 0 (omega (arith, length-drop at b))
-    go false e = let other = eqb-false i k e in get_or-set_other (drop at b) k i v 0 other ∙ f i (below other)
-      where
-        below : (i ≡ k → ⊥) → i < k
-        below n = omega arith
-
 -- links that are cut after the last
 pub linked_part : (es : List Entry) (links : List ℕ) (m : ℕ) → Linked 0 es links → 256 + length es ≤ m → Linked 0 es (take m links)
 linked_part es links m k h =
