@@ -11,7 +11,7 @@ ghost use Rattle.book_names.specs.Links.{Linked};
 ghost use Rattle.book_names.specs.declared.Match.TheVariants.{Differs};
 
 use book_fits::{byte_of, fits};
-use book_names::{Found, HEADS, Match, NAME, PLACE, WIDTH};
+use book_names::{HEADS, Known, Match, NAME, PLACE, WIDTH};
 use text_bytes::{SPACE, seek};
 use value_references::index::{Flaw, digits_end, sooner};
 
@@ -102,7 +102,7 @@ fn noted(flaw: Flaw, row: Match) -> Flaw
 }
 
 // What the table says of the name: the first row whose pattern it fits, else the flaw for which it misses the first that it would fit but for its indices. The links lead past the rows that begin with another byte.
-pub fn lookup(table: &[u8], links: &[u8], name: &[u8]) -> Found
+pub fn lookup(table: &[u8], links: &[u8], name: &[u8]) -> Result<Known, Flaw>
     requires { Linked 0 (entries table.now) links.now }
     ensures { result ≡ lookup_in (entries table.now) name.now }
 {
@@ -118,16 +118,16 @@ pub fn lookup(table: &[u8], links: &[u8], name: &[u8]) -> Found
         let end = at + WIDTH;
         let row = fits_row(&table[at..end], name, n, x, y);
         if let Match::Fits(i, j) = row {
-            return Found::Known {
+            return Ok(Known {
                 entry,
                 kind: table[at],
                 family: table[at + 1],
                 i,
                 j,
-            };
+            });
         }
         flaw = noted(flaw, row);
         entry = usize::from(links[HEADS + entry]);
     }
-    Found::Unknown(flaw)
+    Err(flaw)
 }

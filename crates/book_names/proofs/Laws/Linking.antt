@@ -8,16 +8,16 @@ use lib.Dec.{eqb}
 use lib.ListN.{length, get_or, take, drop, set, length-drop, length-take, length-set, drop_of_length-le}
 use lib.Seq.{drop-drop, get_or-take, get_or-drop, get_or-set_same, get_or-set_other, drop-set-add}
 use borrow.Author.Tests.{eqb-true, eqb-false}
+use Rattle.std.specs.Prelude.{Err}
 use Rattle.value_references.specs.declared.index.Flaw.{Flaw}
 use Rattle.value_references.specs.declared.index.Flaw.TheVariants.{Form}
 use Rattle.value_references.specs.Index.{sooner}
-use Rattle.book_names.specs.Names.{Entry, pieces, form_of, entry_of, fits, misses, first_of, lookup_in}
+use Rattle.book_names.specs.Names.{Entry, pieces, form_of, entry_of, fits, misses, first_of, lookup_in, known_as}
 use Rattle.book_names.specs.Steps.{flaw_of}
 use Rattle.book_names.specs.Table.{cut, rows, entries}
 use Rattle.book_names.specs.Links.{head_of, next_head, Linked}
 use Rattle.book_names.specs.declared.Match.{Match}
 use Rattle.book_names.specs.declared.Match.TheVariants.{Fits}
-use Rattle.book_names.specs.declared.Found.TheVariants.{Unknown, Known}
 use Rattle.value_references.proofs.Laws.Firsts.{sooner_none}
 use Rattle.book_names.proofs.Laws.Flaws.{misses_none, misses_again, on_miss}
 use Rattle.book_names.proofs.Laws.Turns.{head_at, head_other}
@@ -116,12 +116,12 @@ module _ (t name : List ℕ) where
         reached_next g q eg eq = rw (eg, eq ∙ next_link) (reached (sooner z (flaw_of m)) (e + 1) _ missed (leads name (drop (e + 1) (entries t)) (e + 1)))
 
   module _ (z : Flaw) (e : ℕ) (a : Reached t name z e) where
-    pub reached_none : length t / 54 ≤ e → lookup_in (entries t) name ≡ Unknown z
+    pub reached_none : length t / 54 ≤ e → lookup_in (entries t) name ≡ Err z
     unfolding first_of
     reached_none h = a.same ∙ rw (drop_of_length-le (entries t) {i = e} (omega (arith, entry_count t)), sooner_none z)
 
     pub reached_hit : (i j : ℕ) → e < length t / 54 → fits (pieces (drop 3 (take 54 (drop (e * 54) t)))) name 0 0 ≡ Fits i j
-        → lookup_in (entries t) name ≡ Known e (get_or t (e * 54) 0) (get_or t (e * 54 + 1) 0) i j
+        → lookup_in (entries t) name ≡ known_as e (get_or t (e * 54) 0) (get_or t (e * 54 + 1) 0) i j
     unfolding first_of entry_of
     reached_hit i j h m =
         let o : e * 54 + 0 ≡ e * 54 = omega arith in
