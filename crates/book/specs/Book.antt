@@ -1,12 +1,10 @@
 -- A rule book: what a version of the format says of sections and their line codes, of keys and of columns. Every definition that asks a table takes the
 -- book. Then the one book that there is. Assumes nothing.
-use Rattle.std.specs.Prelude.{ℕ, zero, suc, ◌+◌, ◌-◌, Bool, true, false, cond, ◌&&◌, List, [], ◌∷◌, ◌++◌, map, length, get_or, drop, eqb, leb, ltb}
+use Rattle.std.specs.Prelude.{ℕ, zero, suc, ◌+◌, ◌-◌, Bool, true, false, cond, ◌&&◌, List, [], ◌∷◌, ◌++◌, map, length, get_or, drop, eqb, leb, ltb, Err}
 use Prim.Native.String.{String}
 use Rattle.text_bytes.specs.Bytes.{Bytes, bytes, same, is, begins}
-use Rattle.book_names.specs.Names.{Entry, entry_of, lookup_in}
+use Rattle.book_names.specs.Names.{Entry, entry_of, lookup_in, Found, known_as}
 use Rattle.value_references.specs.declared.index.Flaw.TheVariants.{Form}
-use Rattle.book_names.specs.declared.Found.{Found}
-use Rattle.book_names.specs.declared.Found.TheVariants.{Unknown, Known}
 use Rattle.value_references.specs.Index.{MOST}
 use Rattle.book.specs.Letters.{TEXT, NONE, ALWAYS, TYPED, COMPLETE, QUANTIFIED, BOTH, ASSAYED, ASSAYS, STUDY_VARIABLES, OPT}
 use Rattle.book.specs.Keys.{keys}
@@ -168,7 +166,7 @@ is_opt name = begins (bytes "opt_") name
 
 -- an `opt_` column: text, and names no id; it has a byte more than `opt_`
 unfoldable pub opt_of : Bytes → Found
-opt_of name = cond (ltb 4 (length name)) (Known OPT TEXT NONE 0 0) (Unknown Form)
+opt_of name = cond (ltb 4 (length name)) (known_as OPT TEXT NONE 0 0) (Err Form)
 
 abbrev pub column_entries : Book → ℕ → List Entry
 column_entries b s = entries_of (section_of b s).columns

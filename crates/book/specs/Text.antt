@@ -1,7 +1,7 @@
 -- A book as the code holds it, in one text: a directory, the lines of all tables as rows of one width, the required columns, where the slots of each key
 -- begin, and the links of each table.
 -- No public contract cites this file. Assumes nothing.
-use Rattle.std.specs.Prelude.{ℕ, zero, suc, ◌+◌, ◌*◌, ◌/◌, ◌%◌, ◌≤◌, ◌<◌, ◌≡◌, Bool, true, false, cond, List, [], ◌∷◌, ◌++◌, map, eqb, length, get_or, drop}
+use Rattle.std.specs.Prelude.{ℕ, zero, suc, ◌+◌, ◌*◌, ◌/◌, ◌%◌, ◌≤◌, ◌<◌, ◌≡◌, Bool, true, false, cond, List, [], ◌∷◌, ◌++◌, map, length, get_or}
 use Prim.Native.String.{String}
 use Rattle.text_bytes.specs.Bytes.{Bytes, bytes, SPACE}
 use Rattle.text_bytes.specs.Places.{part}

@@ -2,8 +2,7 @@
 ghost use Rattle.std.specs.Prelude.{◌≡◌, ◌<◌, length};
 ghost use Rattle.book.specs.Text.{book_in, IsBook, Demanded};
 
-use crate::directory::{CODES, STEP, narrow};
-use text_bytes::wide;
+use crate::directory::{CODES, STEP};
 
 // The bytes of a demand: two for its cell, and one each for its key's entry, when it is asked, its section, its family and its rule.
 const SIZE: usize = 7;
@@ -28,7 +27,7 @@ pub fn count_demands(book: &[u8]) -> usize
     requires { IsBook book.now }
     ensures { result ≡ length (book_in book.now).demands }
 {
-    wide(book[CODES + STEP * wide(book[1])])
+    usize::from(book[CODES + STEP * usize::from(book[1])])
 }
 
 // Demand k, from 0.
@@ -37,20 +36,14 @@ pub fn nth_demand(book: &[u8], k: usize) -> Demand
     requires k_in_bounds { k < length (book_in book.now).demands }
     ensures { Demanded (book_in book.now) k result }
 {
-    let at = CODES + STEP * (wide(book[1]) + 1) + SIZE * k;
-    let low = narrow(book[at]);
-    let high = narrow(book[at + 1]);
-    let cell = low + 256 * high;
-    let entry = wide(book[at + 2]);
-    let section = wide(book[at + 4]);
-    let each = wide(book[at + 5]);
-    let rule = narrow(book[at + 6]);
+    let at = CODES + STEP * (usize::from(book[1]) + 1) + SIZE * k;
+    let demand = &book[at..at + SIZE];
     Demand {
-        entry,
-        rule,
-        cell,
-        asked: book[at + 3],
-        section,
-        each,
+        entry: usize::from(demand[2]),
+        rule: u32::from(demand[6]),
+        cell: u32::from(u16::from_le_bytes([demand[0], demand[1]])),
+        asked: demand[3],
+        section: usize::from(demand[4]),
+        each: usize::from(demand[5]),
     }
 }

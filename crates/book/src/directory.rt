@@ -3,7 +3,7 @@ ghost use Rattle.std.specs.Prelude.{◌≡◌, true, ◌+◌, ◌*◌, ◌<◌, 
 ghost use Rattle.book.specs.Book.{is_section, code_for, section_by};
 ghost use Rattle.book.specs.Text.{code_at, number_at, rows_at, wanted_at, links_at, book_in, HasDirectory};
 
-use text_bytes::{same_bytes, wide};
+use text_bytes::same_bytes;
 
 // Where the entry of the first section begins, and how many bytes each has: two line codes and three places.
 pub const CODES: usize = 14;
@@ -18,7 +18,7 @@ pub fn number_at(text: &[u8], i: usize) -> usize
     requires { i + 1 < length text.now }
     ensures { result ≡ number_at text.now i }
 {
-    wide(text[i]) + 256 * wide(text[i + 1])
+    usize::from(u16::from_le_bytes([text[i], text[i + 1]]))
 }
 
 // Where the rows of table k begin.
@@ -45,20 +45,13 @@ pub fn links_at(text: &[u8], k: usize) -> usize
     number_at(text, 12 + STEP * k)
 }
 
-// A byte as a number of a section's width.
-pub fn narrow(b: u8) -> u32
-    ensures { result ≡ b }
-{
-    b as u32
-}
-
 // Whether a number is that of a section.
 pub fn is_section(text: &[u8], section: u32) -> bool
     requires { HasDirectory text.now }
     ensures { result ≡ is_section (book_in text.now) section }
 {
-    let first = narrow(text[0]);
-    let count = narrow(text[1]);
+    let first = u32::from(text[0]);
+    let count = u32::from(text[1]);
     if section < first {
         return false;
     }
@@ -78,7 +71,7 @@ pub fn code_of<'a>(text: &'a [u8], section: u32, row: u32) -> &'a [u8]
     requires section_value { is_section (book_in text.now) section ≡ true }
     ensures { result.now ≡ code_for (book_in text.now) section row }
 {
-    let j = section as usize - wide(text[0]);
+    let j = section as usize - usize::from(text[0]);
     let at = code_place(row != 0) + STEP * j;
     let end = at + CODE;
     &text[at..end]
@@ -89,17 +82,15 @@ pub fn section_of(text: &[u8], row: bool, code: &[u8]) -> u32
     requires { HasDirectory text.now }
     ensures { result ≡ section_by (book_in text.now) row code.now }
 {
-    let first = narrow(text[0]);
-    let count = narrow(text[1]);
+    let first = u32::from(text[0]);
+    let count = u32::from(text[1]);
     let from = code_place(row);
-    let mut j: u32 = 0;
-    while j < count {
+    for j in 0..count {
         let at = from + STEP * (j as usize);
         let end = at + CODE;
         if same_bytes(code, &text[at..end]) {
             return first + j;
         }
-        j += 1;
     }
     0
 }

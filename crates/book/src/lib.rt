@@ -14,8 +14,8 @@ ghost use Rattle.book.specs.Text.{rows_of, IsTable, book_in, IsBook};
 
 use crate::directory::{links_at, rows_at};
 use book_lookup::lookup;
-use book_names::Found;
-use text_bytes::{begins_with, wide};
+use book_names::Known;
+use text_bytes::begins_with;
 use value_references::index::Flaw;
 
 // The numbers of sections are below this, in every book.
@@ -42,7 +42,7 @@ pub fn is_colunit(name: &[u8]) -> bool
 }
 
 // What table k of the book says of the name.
-fn search(book: &[u8], k: usize, name: &[u8]) -> Found
+fn search(book: &[u8], k: usize, name: &[u8]) -> Result<Known, Flaw>
     requires table { IsTable book.now k }
     requires k_in_bounds { 25 + 12 * k < length book.now }
     ensures { result ≡ lookup_in (entries (rows_of book.now k)) name.now }
@@ -55,7 +55,7 @@ fn search(book: &[u8], k: usize, name: &[u8]) -> Found
 }
 
 // The key of a metadata line.
-pub fn key(book: &[u8], name: &[u8]) -> Found
+pub fn key(book: &[u8], name: &[u8]) -> Result<Known, Flaw>
     requires { IsBook book.now }
     ensures { result ≡ key_of (book_in book.now) name.now }
 {
@@ -63,40 +63,40 @@ pub fn key(book: &[u8], name: &[u8]) -> Found
 }
 
 // The name in the table of a section's columns, unknown where there is no such section.
-fn find_column(book: &[u8], section: usize, name: &[u8]) -> Found
+fn find_column(book: &[u8], section: usize, name: &[u8]) -> Result<Known, Flaw>
     requires { IsBook book.now }
     ensures { result ≡ lookup_in (column_entries (book_in book.now) section) name.now }
 {
-    let first = wide(book[0]);
+    let first = usize::from(book[0]);
     if section < first {
-        return Found::Unknown(Flaw::Form);
+        return Err(Flaw::Form);
     }
     let k = section - first;
-    if wide(book[1]) <= k {
-        return Found::Unknown(Flaw::Form);
+    if usize::from(book[1]) <= k {
+        return Err(Flaw::Form);
     }
     search(book, k + 1, name)
 }
 
 // A column of a section. A name that begins `opt_` and has a byte more is text in every section; no column has fewer than three bytes, so that many short names cost little.
-pub fn column(book: &[u8], section: usize, name: &[u8]) -> Found
+pub fn column(book: &[u8], section: usize, name: &[u8]) -> Result<Known, Flaw>
     requires { IsBook book.now }
     ensures { result ≡ column_of (book_in book.now) section name.now }
 {
     if name.len() < SHORTEST {
-        return Found::Unknown(Flaw::Form);
+        return Err(Flaw::Form);
     }
     if is_opt(name) {
         if name.len() <= 4 {
-            return Found::Unknown(Flaw::Form);
+            return Err(Flaw::Form);
         }
-        return Found::Known {
+        return Ok(Known {
             entry: OPT,
             kind: b'T',
             family: b'-',
             i: 0,
             j: 0,
-        };
+        });
     }
     find_column(book, section, name)
 }

@@ -5,7 +5,6 @@ ghost use Rattle.book.specs.Book.{key_entries};
 ghost use Rattle.book.specs.Text.{book_in, IsBook};
 
 use crate::directory::{number_at, wanted_at};
-use text_bytes::wide;
 
 // The slots of the keys are below this, in every book.
 pub const SLOTS: usize = 43279;
@@ -16,6 +15,6 @@ pub fn start_of(book: &[u8], entry: usize) -> usize
     requires in_bounds { entry ≤ length (key_entries (book_in book.now)) }
     ensures { result ≡ start_of (key_entries (book_in book.now)) entry }
 {
-    let at = wanted_at(book, wide(book[1]) + 1);
+    let at = wanted_at(book, usize::from(book[1]) + 1);
     number_at(book, at + 2 * entry)
 }

@@ -66,6 +66,7 @@ pub fn fits(p: &[u8], from: usize, s: &[u8]) -> Match
     let mut i = 0;
     let mut j = 0;
     let mut flaw = Flaw::Form;
+    // Kept: a turn passes over one byte of the pattern or the three of a place, so that a `for` would have to count the bytes still to pass over.
     while a < p.len() {
         let x = p[a];
         if x == SPACE {

@@ -6,7 +6,6 @@ ghost use Rattle.book.specs.Text.{book_in, IsBook};
 ghost use Rattle.book_ids.specs.Ids.{index_after, id_of, key_id, line_id, marked, is_marked};
 
 use book::key;
-use book_names::Found;
 use text::cells::{count_cells, has_code, nth_cell};
 use text_bytes::begins_with;
 use value_references::index::{index_in, read_index};
@@ -55,14 +54,8 @@ pub fn key_id(book: &[u8], name: &[u8]) -> Option<Id>
 {
     let id = id_of(name)?;
     match key(book, name) {
-        Found::Unknown(_) => None,
-        Found::Known {
-            entry: _,
-            kind: _,
-            family: _,
-            i: _,
-            j: _,
-        } => Some(id),
+        Err(_) => None,
+        Ok(_) => Some(id),
     }
 }
 

@@ -5,7 +5,6 @@ ghost use Rattle.std.specs.Prelude.{◌≡◌, ℕ, ◌+◌, ◌/◌, ◌≤◌,
 ghost use Rattle.book_names.specs.Links.{Links};
 
 use book_names::{HEADS, NAME, WIDTH};
-use text_bytes::wide;
 
 // Each byte is linked to the number `none`.
 fn unlink(book: &mut [u8], at: usize, none: u8)
@@ -14,11 +13,7 @@ fn unlink(book: &mut [u8], at: usize, none: u8)
     ensures book_unchanged { take at book.new ≡ take at book.old }
     ensures by_index { (b : ℕ) → b < 256 → get_or (drop at book.new) b 0 ≡ none }
 {
-    let mut b = 0;
-    while b < HEADS {
-        book[at + b] = none;
-        b += 1;
-    }
+    book[at..at + HEADS].fill(none);
 }
 
 // Writes the links of the table from `at` on, row by row from the last: each goes in front of those after it.
@@ -27,11 +22,10 @@ pub fn link(book: &mut [u8], at: usize, table: &[u8])
     requires table_in_bounds { at + 256 + length table.now / 54 ≤ length book.old }
     ensures { Links table.now at book.old book.new }
 {
-    let mut row = table.len() / WIDTH;
-    unlink(book, at, row as u8);
-    while 0 < row {
-        row -= 1;
-        let head = at + wide(table[row * WIDTH + NAME]);
+    let rows = table.len() / WIDTH;
+    unlink(book, at, rows as u8);
+    for row in (0..rows).rev() {
+        let head = at + usize::from(table[row * WIDTH + NAME]);
         book[at + HEADS + row] = book[head];
         book[head] = row as u8;
     }

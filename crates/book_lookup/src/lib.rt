@@ -11,27 +11,15 @@ ghost use Rattle.book_names.specs.Links.{Linked};
 ghost use Rattle.book_names.specs.declared.Match.TheVariants.{Differs};
 
 use book_fits::{byte_of, fits};
-use book_names::{Found, HEADS, Match, NAME, PLACE, WIDTH};
-use text_bytes::{SPACE, seek, wide};
+use book_names::{HEADS, Known, Match, NAME, PLACE, WIDTH};
+use text_bytes::{SPACE, seek};
 use value_references::index::{Flaw, digits_end, sooner};
 
 // Whether a pattern whose second byte is q may fit a name that begins with x and y: an index may stand at either, or the pattern may end there.
 fn may_fit(q: u8, x: u8, y: u8) -> bool
     ensures { result ≡ may_fit q x y }
 {
-    if q == y {
-        return true;
-    }
-    if q == b'[' {
-        return true;
-    }
-    if q == SPACE {
-        return true;
-    }
-    if x == b'[' {
-        return true;
-    }
-    x == SPACE
+    q == y || q == b'[' || q == SPACE || x == b'[' || x == SPACE
 }
 
 // Whether a pattern may end before `end` in the row where the name's last byte is `last`: a space stands there, and before it that byte, or a place for the index that `]` ends.
@@ -40,16 +28,7 @@ fn may_end(row: &[u8], end: usize, last: u8) -> bool
     requires end_in_bounds { end < length row.now }
     ensures { result ≡ may_end row.now end last }
 {
-    if row[end] != SPACE {
-        return false;
-    }
-    if row[end - 1] == last {
-        return true;
-    }
-    if last != b']' {
-        return false;
-    }
-    row[end - PLACE] == b'['
+    row[end] == SPACE && (row[end - 1] == last || (last == b']' && row[end - PLACE] == b'['))
 }
 
 // How many bytes `]` has at a place of the name: none where it does not stand there.
@@ -65,6 +44,7 @@ fn extent(name: &[u8]) -> usize
 {
     let mut at = 0;
     let mut n = 0;
+    // Kept: the walk goes from bracket to bracket, where `seek` finds them, so that no range or iterator has its steps.
     loop {
         let bracket = seek(name, at, b'[');
         n += bracket - at;
@@ -116,14 +96,13 @@ fn noted(flaw: Flaw, row: Match) -> Flaw
     ensures { result ≡ soonerOf flaw (flaw_of row) }
 {
     match row {
-        Match::Differs => flaw,
         Match::Misses(z) => sooner(flaw, z),
-        Match::Fits(_, _) => flaw,
+        Match::Differs | Match::Fits(..) => flaw,
     }
 }
 
 // What the table says of the name: the first row whose pattern it fits, else the flaw for which it misses the first that it would fit but for its indices. The links lead past the rows that begin with another byte.
-pub fn lookup(table: &[u8], links: &[u8], name: &[u8]) -> Found
+pub fn lookup(table: &[u8], links: &[u8], name: &[u8]) -> Result<Known, Flaw>
     requires { Linked 0 (entries table.now) links.now }
     ensures { result ≡ lookup_in (entries table.now) name.now }
 {
@@ -132,22 +111,23 @@ pub fn lookup(table: &[u8], links: &[u8], name: &[u8]) -> Found
     let n = extent(name);
     let rows = table.len() / WIDTH;
     let mut flaw = Flaw::Form;
-    let mut entry = wide(links[wide(x)]);
+    let mut entry = usize::from(links[usize::from(x)]);
+    // Kept: the links say which row is next, so that no range or iterator has the rows in this order.
     while entry < rows {
         let at = entry * WIDTH;
         let end = at + WIDTH;
         let row = fits_row(&table[at..end], name, n, x, y);
         if let Match::Fits(i, j) = row {
-            return Found::Known {
+            return Ok(Known {
                 entry,
                 kind: table[at],
                 family: table[at + 1],
                 i,
                 j,
-            };
+            });
         }
         flaw = noted(flaw, row);
-        entry = wide(links[HEADS + entry]);
+        entry = usize::from(links[HEADS + entry]);
     }
-    Found::Unknown(flaw)
+    Err(flaw)
 }

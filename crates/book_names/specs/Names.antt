@@ -1,5 +1,5 @@
 -- The names that a line of a table stands for, and the look-up of a name in a table. Assumes nothing.
-use Rattle.std.specs.Prelude.{ℕ, zero, suc, ◌+◌, ◌*◌, ◌-◌, Bool, true, false, cond, List, [], ◌∷◌, ◌++◌, eqb, get_or, drop}
+use Rattle.std.specs.Prelude.{ℕ, zero, suc, ◌+◌, ◌*◌, ◌-◌, Bool, true, false, cond, Result, List, [], ◌∷◌, ◌++◌, eqb, get_or, drop, Ok, Err}
 use Rattle.text_bytes.specs.Bytes.{Bytes, SPACE}
 use Rattle.value_references.specs.Index.{MOST, written, index_at, is_form, sooner}
 use Rattle.value_references.specs.declared.index.Index.{Index}
@@ -8,8 +8,7 @@ use Rattle.value_references.specs.declared.index.Flaw.{Flaw}
 use Rattle.value_references.specs.declared.index.Flaw.TheVariants.{Form}
 use Rattle.book_names.specs.declared.Match.{Match}
 use Rattle.book_names.specs.declared.Match.TheVariants.{Differs, Misses, Fits}
-use Rattle.book_names.specs.declared.Found.{Found}
-use Rattle.book_names.specs.declared.Found.TheVariants.{Unknown, Known}
+use Rattle.book_names.specs.declared.Known.{Known}
 
 -- `[`
 abbrev pub OPEN : ℕ
@@ -83,25 +82,33 @@ fits (place ∷ ps) s i j =
     let second = fits ps (drop w s) i v in
     cond (eqb i 0) first (cond (eqb j 0) second Differs)
 
+-- what a table says of a name: what it knows of it, or the flaw for which it is unknown
+abbrev pub Found : Type 0
+Found = Result Known Flaw
+
+-- a name known at entry e, with the letters k of its kind and f of its family and the indices i and j
+abbrev pub known_as : ℕ → ℕ → ℕ → ℕ → ℕ → Found
+known_as e k f i j = Ok (record { entry = e; kind = k; family = f; i = i; j = j })
+
 -- whether a table has a name
 abbrev pub is_known : Found → Bool
-is_known (Unknown w) = false
-is_known (Known e k f i j) = true
+is_known (Err w) = false
+is_known (Ok k) = true
 
 -- whether it has none like it: neither the name, nor one that is the same but for its indices
 abbrev pub is_strange : Found → Bool
-is_strange (Unknown w) = is_form w
-is_strange (Known e k f i j) = false
+is_strange (Err w) = is_form w
+is_strange (Ok k) = false
 
 -- the flaw for which a name is known but for its indices, Form for none
 abbrev pub why_not : Found → Flaw
-why_not (Unknown w) = w
-why_not (Known e k f i j) = Form
+why_not (Err w) = w
+why_not (Ok k) = Form
 
 -- what is said of a name that misses an entry with the flaw z, where those after it say d: known stays known
 abbrev pub misses : Flaw → Found → Found
-misses z (Unknown w) = Unknown (sooner z w)
-misses z (Known e k f i j) = Known e k f i j
+misses z (Err w) = Err (sooner z w)
+misses z (Ok k) = Ok k
 
 abbrev pub on_match : Match → Found → (ℕ → ℕ → Found) → Found
 on_match Differs d f = d
@@ -110,10 +117,10 @@ on_match (Fits i j) d f = f i j
 
 -- the first entry whose pattern the name fits, e numbers the entries; where there is none, the flaw for which it misses the first that it would fit but for its indices
 unfoldable pub first_of : ℕ → List Entry → Bytes → Found
-first_of e [] name = Unknown Form
+first_of e [] name = Err Form
 first_of e (x ∷ xs) name =
     let other = first_of (e + 1) xs name in
-    on_match (fits (form_of x) name 0 0) other (λ i j. Known e (kind_of x) (family_of x) i j)
+    on_match (fits (form_of x) name 0 0) other (λ i j. known_as e (kind_of x) (family_of x) i j)
 
 abbrev pub lookup_in : List Entry → Bytes → Found
 lookup_in entries name = first_of 0 entries name

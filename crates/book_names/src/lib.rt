@@ -23,15 +23,13 @@ pub enum Match {
     Fits(usize, usize),
 }
 
-// What a table says of a name: why it is unknown; or its entry there, the letters of its kind and family, and the name's indices, 0 for none.
+// What a table says of a name that it has: its entry there, the letters of its kind and family, and the name's indices, 0 for none. Of any other it says the flaw
+// for which it is unknown.
 #[derive(Clone, Copy)]
-pub enum Found {
-    Unknown(Flaw),
-    Known {
-        entry: usize,
-        kind: u8,
-        family: u8,
-        i: usize,
-        j: usize,
-    },
+pub struct Known {
+    pub entry: usize,
+    pub kind: u8,
+    pub family: u8,
+    pub i: usize,
+    pub j: usize,
 }

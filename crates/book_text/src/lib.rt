@@ -62,11 +62,7 @@ fn lay(text: &mut [u8], at: usize, bytes: &[u8])
     ensures text_len_unchanged { length text.new ≡ length text.old }
     ensures text_after { take (at + length bytes.now) text.new ≡ take at text.old ++ bytes.now }
 {
-    let mut i = 0;
-    while i < bytes.len() {
-        text[at + i] = bytes[i];
-        i += 1;
-    }
+    text[at..at + bytes.len()].copy_from_slice(bytes);
 }
 
 // The links of each table, by what stands in front of them.
@@ -76,13 +72,11 @@ fn link_tables(text: &mut [u8], front: &[u8])
     requires front_value { front.now ≡ text.old }
     ensures { IsBook text.new }
 {
-    let mut k = 0;
-    while k < TABLES {
+    for k in 0..TABLES {
         let from = rows_at(front, k);
         let to = rows_at(front, k + 1);
         let at = links_at(front, k);
         link(text, at, &front[from..to]);
-        k += 1;
     }
 }
 
@@ -108,7 +102,7 @@ pub fn book() -> [u8; LINKS]
 fn rows() -> [u8; 7938]
     ensures { result ≡ all_rows (tables_of mz_tab) }
 {
-    BOOK
+    *BOOK
 }
 
 // The required columns of the sections, each behind the letter that says of which files it is asked, with tabs between them.
@@ -138,7 +132,7 @@ fn starts() -> [u8; 124]
 }
 
 // The 61 metadata keys, then the columns of the sections: 22, 20, 20 and 24.
-const BOOK: [u8; 7938] = *b"\
+const BOOK: &[u8; 7938] = b"\
     v- mzTab-version                                      \
     m- mzTab-mode                                         \
     t- mzTab-type                                         \

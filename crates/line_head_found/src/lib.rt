@@ -7,9 +7,9 @@ ghost use Rattle.rules.specs.Rules.{last_index, kind_in};
 ghost use Rattle.scan.specs.Machine.{ids_of, column_in, Within, name_rule};
 
 use book_kinds::family_number;
-use book_names::Found;
+use book_names::Known;
 use scan::broken::{flaw_rule, rule_if};
-use value_references::index::is_form;
+use value_references::index::{Flaw, is_form};
 use value_references::{FAMILIES, INDICES};
 
 // The letter of a column that names no id.
@@ -19,34 +19,22 @@ const NO_FAMILY: u8 = b'-';
 const UNDECLARED: u32 = 15;
 
 // Whether the book has no name like it (12).
-pub fn is_strange(found: Found) -> bool
+pub fn is_strange(found: Result<Known, Flaw>) -> bool
     ensures { result ≡ is_strange found }
 {
     match found {
-        Found::Unknown(flaw) => is_form(flaw),
-        Found::Known {
-            entry: _,
-            kind: _,
-            family: _,
-            i: _,
-            j: _,
-        } => false,
+        Err(flaw) => is_form(flaw),
+        Ok(_) => false,
     }
 }
 
 // The kind of a column's cells: those under an unknown column are text.
-pub fn kind_in(found: Found) -> u8
+pub fn kind_in(found: Result<Known, Flaw>) -> u8
     ensures { result ≡ kind_in found }
 {
     match found {
-        Found::Unknown(_) => b'T',
-        Found::Known {
-            entry: _,
-            kind,
-            family: _,
-            i: _,
-            j: _,
-        } => kind,
+        Err(_) => b'T',
+        Ok(known) => known.kind,
     }
 }
 
@@ -58,42 +46,30 @@ fn last_index(i: usize, j: usize) -> usize
 }
 
 // Whether a known column names an assay, study variable or run that the file does not declare (15).
-fn undeclared(flags: &[[bool; INDICES]; FAMILIES], found: Found) -> bool
+fn undeclared(flags: &[[bool; INDICES]; FAMILIES], found: Result<Known, Flaw>) -> bool
     requires { Within found }
     ensures { result ≡ column_in (ids_of flags.now) found }
 {
     match found {
-        Found::Unknown(_) => false,
-        Found::Known {
-            entry: _,
-            kind: _,
-            family,
-            i,
-            j,
-        } => {
-            if family == NO_FAMILY {
+        Err(_) => false,
+        Ok(known) => {
+            if known.family == NO_FAMILY {
                 return false;
             }
-            let f = family_number(family);
-            let last = last_index(i, j);
+            let f = family_number(known.family);
+            let last = last_index(known.i, known.j);
             !flags[f][last - 1]
         }
     }
 }
 
 // The rule that a name breaks which is known, or known but for its indices: it names an undeclared id (15), or an index is bad (23, 24); 0 for none.
-pub fn name_rule(flags: &[[bool; INDICES]; FAMILIES], found: Found) -> u32
+pub fn name_rule(flags: &[[bool; INDICES]; FAMILIES], found: Result<Known, Flaw>) -> u32
     requires { Within found }
     ensures { result ≡ name_rule (ids_of flags.now) found }
 {
     match found {
-        Found::Unknown(flaw) => flaw_rule(flaw, 0),
-        Found::Known {
-            entry: _,
-            kind: _,
-            family: _,
-            i: _,
-            j: _,
-        } => rule_if(undeclared(flags, found), UNDECLARED),
+        Err(flaw) => flaw_rule(flaw, 0),
+        Ok(_) => rule_if(undeclared(flags, found), UNDECLARED),
     }
 }

@@ -12,12 +12,13 @@ ghost use Rattle.line_head_stamps.specs.Stamps.{ROOM as room};
 
 use book::{column, is_opt};
 use book_facts::Asking;
-use book_names::Found;
+use book_names::Known;
 use line_head_found::{is_strange, kind_in, name_rule};
 use line_head_stamps::came_before;
 use scan::places::{Tag, put_again, put_if, put_rule};
 use scan::state::MOST_CELLS;
 use text::cells::cell_end;
+use value_references::index::Flaw;
 use value_references::{FAMILIES, INDICES};
 
 // The names of a header: its line, its section, what decides which of them are asked, and where the first begins.
@@ -40,7 +41,7 @@ struct Naming {
 }
 
 // A name: the book has none like it (12), or it came before (13).
-fn name_known(places: &mut [u32], count: u32, found: Found, at: Naming) -> u32
+fn name_known(places: &mut [u32], count: u32, found: Result<Known, Flaw>, at: Naming) -> u32
     requires { count + 3 ≤ CEILING }
     ensures { Puts (known_breaks at.first found at.tag.control at.tag.line at.cell) 3 (lent places.old count) (lent places.new result) }
 {
@@ -56,7 +57,7 @@ fn name_cell(
     places: &mut [u32],
     count: u32,
     name: &[u8],
-    found: Found,
+    found: Result<Known, Flaw>,
     at: Naming,
     flags: &[[bool; INDICES]; FAMILIES],
 ) -> u32

@@ -1,9 +1,7 @@
 -- What judging a metadata key and its value finds, and the slot of a known key. No public contract cites this file. Assumes nothing.
-use Rattle.std.specs.Prelude.{ℕ, ◌≤◌, ◌<◌, ◌≡◌, true, List, length, get_or, set}
+use Rattle.std.specs.Prelude.{ℕ, ◌≤◌, ◌<◌, ◌≡◌, true, List, length, get_or, set, Ok, Err}
 use Rattle.text_bytes.specs.Bytes.{Bytes, first_kept}
-use Rattle.book_names.specs.Names.{slot_of}
-use Rattle.book_names.specs.declared.Found.{Found}
-use Rattle.book_names.specs.declared.Found.TheVariants.{Unknown, Known}
+use Rattle.book_names.specs.Names.{slot_of, Found}
 use Rattle.book.specs.Book.{SLOTS, Book, key_entries}
 use Rattle.scan.specs.Machine.{Ids, first_in, key_rule, value_rule}
 use Rattle.line_meta_keys.specs.declared.Judgement.{Judgement}
@@ -16,10 +14,10 @@ pub record Judged (b : Book) (slots : List ℕ) (ids : Ids) (found : Found) (key
 
 -- a known key has an entry of the book and one of the slots
 abbrev pub InSlots : Book → Found → Type 0
-InSlots b (Unknown w) = Unit
-InSlots b (Known e k f i j) = (e ≤ length (key_entries b)) × (slot_of (key_entries b) e i j < SLOTS)
+InSlots b (Err w) = Unit
+InSlots b (Ok k) = (k.entry ≤ length (key_entries b)) × (slot_of (key_entries b) k.entry k.i k.j < SLOTS)
 
 -- the slots with a known key on line n: its own keeps the first line
 abbrev pub slotted : Book → List ℕ → Found → ℕ → List ℕ
-slotted b slots (Unknown w) n = slots
-slotted b slots (Known e k f i j) n = set slots (slot_of (key_entries b) e i j) (first_kept (get_or slots (slot_of (key_entries b) e i j) 0) true n)
+slotted b slots (Err w) n = slots
+slotted b slots (Ok k) n = set slots (slot_of (key_entries b) k.entry k.i k.j) (first_kept (get_or slots (slot_of (key_entries b) k.entry k.i k.j) 0) true n)

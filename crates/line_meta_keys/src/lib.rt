@@ -12,10 +12,11 @@ ghost use Rattle.line_meta_keys.specs.Keys.{Judged, InSlots, slotted};
 
 use book::is_colunit;
 use book::slots::start_of;
-use book_names::Found;
+use book_names::Known;
 use line_meta_values::judge_value;
 use scan::broken::{flaw_rule, rule_if};
 use scan::state::first_kept;
+use value_references::index::Flaw;
 use value_references::{FAMILIES, INDICES};
 
 // A key that the book has none like; one that came before where it may not.
@@ -65,7 +66,7 @@ fn first_of(key: &[u8], line: u32) -> u32
 // the keys that came before.
 pub fn judge_key(
     book: &[u8],
-    found: Found,
+    found: Result<Known, Flaw>,
     key: &[u8],
     value: &[u8],
     flags: &[[bool; INDICES]; FAMILIES],
@@ -78,21 +79,15 @@ pub fn judge_key(
     ensures { Judged (book_in book.now) slots.now (ids_of flags.now) found key.now value.now result }
 {
     match found {
-        Found::Unknown(flaw) => Judgement {
+        Err(flaw) => Judgement {
             key: flaw_rule(flaw, UNKNOWN),
             first: 0,
             value: 0,
         },
-        Found::Known {
-            entry,
-            kind,
-            family,
-            i,
-            j,
-        } => {
-            let slot = slot_of(book, entry, i, j);
+        Ok(known) => {
+            let slot = slot_of(book, known.entry, known.i, known.j);
             let first = first_of(key, slots[slot]);
-            let judged = judge_value(flags, kind, family, value);
+            let judged = judge_value(flags, known.kind, known.family, value);
             Judgement {
                 key: rule_if(first != 0, AGAIN),
                 first,
@@ -103,23 +98,14 @@ pub fn judge_key(
 }
 
 // Notes the line in the slot of a known key that has none yet.
-pub fn mark(slots: &mut [u32], book: &[u8], found: Found, line: u32)
+pub fn mark(slots: &mut [u32], book: &[u8], found: Result<Known, Flaw>, line: u32)
     requires book { IsBook book.now }
     requires in_slots { InSlots (book_in book.now) found }
     requires slots_len { length slots.old ≡ FIRSTS }
     ensures { slots.new ≡ slotted (book_in book.now) slots.old found line }
 {
-    match found {
-        Found::Unknown(_) => {}
-        Found::Known {
-            entry,
-            kind: _,
-            family: _,
-            i,
-            j,
-        } => {
-            let slot = slot_of(book, entry, i, j);
-            slots[slot] = first_kept(slots[slot], line);
-        }
+    if let Ok(known) = found {
+        let slot = slot_of(book, known.entry, known.i, known.j);
+        slots[slot] = first_kept(slots[slot], line);
     }
 }

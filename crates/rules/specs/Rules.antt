@@ -1,12 +1,12 @@
 -- When a line breaks each of the 24 rules: paper 01, 'The 21 rules', one line each, in its words and order, with what stops it; rule 22 of request 2026-01;
 -- and rules 23 and 24 of request 2026-05. Rules 6, 9 and 13 say where it stands first, as request 2026-08 asks. Assumes nothing.
-use Rattle.std.specs.Prelude.{ℕ, ◌+◌, ◌-◌, Bool, false, cond, not, ◌&&◌, ◌||◌, List, [], ◌∷◌, ◌++◌, map, length, get_or, take, drop, eqb, leb, ltb}
+use Rattle.std.specs.Prelude.{ℕ, ◌+◌, ◌-◌, Bool, false, cond, not, ◌&&◌, ◌||◌, List, [], ◌∷◌, ◌++◌, map, length, get_or, take, drop, eqb, leb, ltb, Ok, Err}
 use Rattle.text_bytes.specs.Bytes.{Bytes, bytes, same, is_empty, any, all, first_from}
 use Rattle.text.specs.Lines.{lines, cells, cell, width, is_meta, is_three, is_field}
 use Rattle.book.specs.Keys.{is_colunit}
 use Rattle.book.specs.Book.{Demand, ONCE, Want, want, wants, last_cell, Book, has_form, section_of, key_of, is_opt, column_of, book_of}
 use Rattle.book.specs.Letters.{TEXT, REFERENCE, REFERENCES, NONE}
-use Rattle.book_names.specs.Names.{is_known, is_strange, why_not}
+use Rattle.book_names.specs.Names.{is_known, is_strange, why_not, Found}
 use Rattle.book_ids.specs.Ids.{declares}
 use Rattle.book_facts.specs.Asked.{asked_of}
 use Rattle.value_references.specs.Index.{MOST, is_form, is_zero, is_over}
@@ -14,8 +14,6 @@ use Rattle.value_references.specs.References.{ref_to, refs_to}
 use Rattle.value_references.specs.declared.index.Flaw.{Flaw}
 use Rattle.value_references.specs.declared.index.Flaw.TheVariants.{Form}
 use Rattle.book_kinds.specs.Kinds.{of_kind, kind_flaw, cell_of_kind, family_number, word_of}
-use Rattle.book_names.specs.declared.Found.{Found}
-use Rattle.book_names.specs.declared.Found.TheVariants.{Unknown, Known}
 use Rattle.rules.specs.Sorts.{header, row, is_header, is_row, is_table, is_unknown, control_cell}
 use Rattle.rules.specs.Breaks.{Break, Spot, Rule, again, rule, in_lines, at_end}
 
@@ -31,13 +29,13 @@ same_key l m = is_field m && same (cell 2 l) (cell 2 m)
 
 -- the flaw for which the value is no reference to ids, or list of them
 abbrev pub value_flaw : Found → Bytes → Flaw
-value_flaw (Unknown w) v = Form
-value_flaw (Known e k f i j) v = kind_flaw k f v
+value_flaw (Err w) v = Form
+value_flaw (Ok k) v = kind_flaw k.kind k.family v
 
 -- the value is not of its key's kind, and would not be with other indices
 abbrev pub is_wrong : Found → Bytes → Bool
-is_wrong (Unknown w) v = false
-is_wrong (Known e k f i j) v = not (of_kind k f v) && is_form (kind_flaw k f v)
+is_wrong (Err w) v = false
+is_wrong (Ok k) v = not (of_kind k.kind k.family v) && is_form (kind_flaw k.kind k.family v)
 
 -- the indices of the ids that a value names: only references name any
 unfoldable pub named_in : ℕ → ℕ → Bytes → List ℕ
@@ -49,8 +47,8 @@ is_undeclared b file f i = not (any (declares b f i) file)
 
 -- the value is of its kind, and names an undeclared id
 abbrev pub names_undeclared : Book → List Bytes → Found → Bytes → Bool
-names_undeclared b file (Unknown w) v = false
-names_undeclared b file (Known e k f i j) v = of_kind k f v && any (is_undeclared b file (family_number f)) (named_in k f v)
+names_undeclared b file (Err w) v = false
+names_undeclared b file (Ok k) v = of_kind k.kind k.family v && any (is_undeclared b file (family_number k.family)) (named_in k.kind k.family v)
 
 -- HEADERS AND ROWS
 
@@ -85,8 +83,8 @@ abbrev pub last_index : ℕ → ℕ → ℕ
 last_index i j = cond (eqb j 0) i j
 
 abbrev pub column_undeclared : Book → List Bytes → Found → Bool
-column_undeclared b file (Unknown w) = false
-column_undeclared b file (Known e k f i j) = not (eqb f NONE) && is_undeclared b file (family_number f) (last_index i j)
+column_undeclared b file (Err w) = false
+column_undeclared b file (Ok k) = not (eqb k.family NONE) && is_undeclared b file (family_number k.family) (last_index k.i k.j)
 
 -- a required column, by its line: it is not asked, by its letter, or its name, behind the letter and a space, is one of these
 abbrev pub has_column : (ℕ → Bool) → List Bytes → Bytes → Bool
@@ -118,8 +116,8 @@ is_as_wide b p = eqb (width p.here) (width (nearest b p.above))
 
 -- the kind of a column's cells: those under an unknown column are text
 abbrev pub kind_in : Found → ℕ
-kind_in (Unknown w) = TEXT
-kind_in (Known e k f i j) = k
+kind_in (Err w) = TEXT
+kind_in (Ok k) = k.kind
 
 abbrev pub column_kind : Book → Spot → ℕ → ℕ
 column_kind b p c = kind_in (column_found b (row b p.here) (nearest b p.above) c)
@@ -182,8 +180,8 @@ is_asked b file w = (asked_of b file w.demand.asked && is_present b file w.deman
 
 -- a key of the form that is wanted, as the table of keys writes it, and with the id's index
 abbrev pub is_wanted : Book → Want → Found → Bool
-is_wanted b w (Unknown u) = false
-is_wanted b w (Known e k f i j) = has_form w.demand.form (get_or b.keys e "") && (eqb w.index 0 || eqb w.index i)
+is_wanted b w (Err u) = false
+is_wanted b w (Ok k) = has_form w.demand.form (get_or b.keys k.entry "") && (eqb w.index 0 || eqb w.index k.i)
 
 -- an MTD line of three cells with such a key
 unfoldable pub has_key : Book → Want → Bytes → Bool

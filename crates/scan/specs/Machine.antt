@@ -1,12 +1,12 @@
 -- The same breaks from what a scan carries along: each of these sets the breaks of a cell or a line in front of `rest`, what comes after. No public
 -- contract cites this file: that it says what the rules say is the law `means` of proofs/. Assumes nothing.
-use Rattle.std.specs.Prelude.{ℕ, suc, ◌+◌, ◌-◌, ◌≤◌, ◌<◌, ◌≡◌, Bool, true, false, cond, not, ◌&&◌, ◌||◌, List, [], ◌∷◌, map, length, get_or, take, drop, eqb, leb, ltb}
+use Rattle.std.specs.Prelude.{ℕ, suc, ◌+◌, ◌-◌, ◌≤◌, ◌<◌, ◌≡◌, Bool, true, false, cond, not, ◌&&◌, ◌||◌, List, [], ◌∷◌, map, length, get_or, take, drop, eqb, leb, ltb, Ok, Err}
 use Rattle.text_bytes.specs.Bytes.{Bytes, same, is_empty, any, first_from}
 use Rattle.book.specs.Letters.{NONE, ASSAYS}
 use Rattle.book.specs.Keys.{is_colunit}
 use Rattle.book.specs.Book.{SECTIONS, SLOTS, Demand, Want, cell_of, wants, Book, key_of, key_entries, is_opt, column_of}
 use Rattle.book.specs.Text.{entry_for}
-use Rattle.book_names.specs.Names.{start_of, slot_of, is_strange}
+use Rattle.book_names.specs.Names.{start_of, slot_of, is_strange, Found}
 use Rattle.book_ids.specs.Ids.{declares, is_marked}
 use Rattle.book_facts.specs.Facts.{mode_of, type_of}
 use Rattle.book_facts.specs.Asked.{asks}
@@ -14,8 +14,6 @@ use Rattle.value_references.specs.Index.{MOST}
 use Rattle.value_references.specs.declared.index.Flaw.{Flaw}
 use Rattle.value_references.specs.declared.index.Flaw.TheVariants.{Form, Zero, Over}
 use Rattle.book_kinds.specs.Kinds.{of_kind, kind_flaw, cell_of_kind, family_number}
-use Rattle.book_names.specs.declared.Found.{Found}
-use Rattle.book_names.specs.declared.Found.TheVariants.{Unknown, Known}
 use Rattle.text.specs.Lines.{width, is_field}
 use Rattle.rules.specs.Sorts.{header}
 use Rattle.rules.specs.Breaks.{Break, break_with, break_at, when}
@@ -68,24 +66,24 @@ Asked = ℕ → Bool
 
 -- the line where a key stands first that may not come again
 abbrev pub first_in : Book → List ℕ → Bytes → Found → ℕ
-first_in b slots key (Unknown w) = 0
-first_in b slots key (Known e k f i j) = cond (is_colunit key) 0 (get_or slots (slot_of (key_entries b) e i j) 0)
+first_in b slots key (Err w) = 0
+first_in b slots key (Ok k) = cond (is_colunit key) 0 (get_or slots (slot_of (key_entries b) k.entry k.i k.j) 0)
 
 abbrev pub undeclared_in : Ids → Found → Bytes → Bool
-undeclared_in ids (Unknown w) v = false
-undeclared_in ids (Known e k f i j) v = of_kind k f v && any (λ i. not (ids (family_number f) i)) (named_in k f v)
+undeclared_in ids (Err w) v = false
+undeclared_in ids (Ok k) v = of_kind k.kind k.family v && any (λ n. not (ids (family_number k.family) n)) (named_in k.kind k.family v)
 
 -- the one rule of 5, 6, 23 and 24 that a key breaks, and of 7, 8, 23 and 24 that its value breaks, 0 for none
 abbrev pub key_rule : ℕ → Found → ℕ
-key_rule first (Unknown w) = flaw_rule w 5
-key_rule first (Known e k f i j) = cond (not (eqb first 0)) 6 0
+key_rule first (Err w) = flaw_rule w 5
+key_rule first (Ok k) = cond (not (eqb first 0)) 6 0
 
 abbrev pub kind_rule : Ids → ℕ → ℕ → Bytes → ℕ
 kind_rule ids k f v = cond (of_kind k f v) (cond (any (λ i. not (ids (family_number f) i)) (named_in k f v)) 8 0) (flaw_rule (kind_flaw k f v) 7)
 
 abbrev pub value_rule : Ids → Found → Bytes → ℕ
-value_rule ids (Unknown w) v = 0
-value_rule ids (Known e k f i j) v = kind_rule ids k f v
+value_rule ids (Err w) v = 0
+value_rule ids (Ok k) v = kind_rule ids k.kind k.family v
 
 -- the key and the value, cells 2 and 3
 abbrev pub field_rule : Book → List ℕ → Ids → Bytes → Bytes → ℕ → ℕ
@@ -111,13 +109,13 @@ meta_breaks b table slots ids cc n xs rest =
 -- HEADERS
 
 abbrev pub column_in : Ids → Found → Bool
-column_in ids (Unknown w) = false
-column_in ids (Known e k f i j) = not (eqb f NONE) && not (ids (family_number f) (last_index i j))
+column_in ids (Err w) = false
+column_in ids (Ok k) = not (eqb k.family NONE) && not (ids (family_number k.family) (last_index k.i k.j))
 
 -- a column that names an id names one of the four families, by an index of 1 to 64
 abbrev pub Within : Found → Type 0
-Within (Unknown w) = Unit
-Within (Known e k f i j) = eqb f NONE ≡ false → (family_number f < 4) × (1 ≤ last_index i j) × (last_index i j ≤ 64)
+Within (Err w) = Unit
+Within (Ok k) = eqb k.family NONE ≡ false → (family_number k.family < 4) × (1 ≤ last_index k.i k.j) × (last_index k.i k.j ≤ 64)
 
 -- a column name that the book answers so, by the cell where it stands first, 0 where it did not come before: what its bytes and the ids do not decide
 abbrev pub known_breaks : ℕ → Found → ℕ → ℕ → ℕ → List Break → List Break
@@ -125,8 +123,8 @@ known_breaks first found cc n c rest = control_at cc n c (when (is_strange found
 
 -- the one rule of 15, 23 and 24 that it breaks, 0 for none
 abbrev pub name_rule : Ids → Found → ℕ
-name_rule ids (Unknown w) = flaw_rule w 0
-name_rule ids (Known e k f i j) = cond (column_in ids (Known e k f i j)) 15 0
+name_rule ids (Err w) = flaw_rule w 0
+name_rule ids (Ok k) = cond (column_in ids (Ok k)) 15 0
 
 -- and by whether an optional one came before
 abbrev pub name_cell : ℕ → Bool → Ids → Found → ℕ → ℕ → ℕ → Bytes → List Break → List Break
@@ -193,8 +191,8 @@ unknown_breaks cc n rest = control_at cc n 1 (when true (break_at n 1 2) (plain_
 
 -- the slot of a known key is this one
 abbrev pub is_slot : Book → ℕ → Found → Bool
-is_slot b s (Unknown w) = false
-is_slot b s (Known e k f i j) = eqb (slot_of (key_entries b) e i j) s
+is_slot b s (Err w) = false
+is_slot b s (Ok k) = eqb (slot_of (key_entries b) k.entry k.i k.j) s
 
 -- an MTD line of three cells whose key has this slot
 unfoldable pub has_slot : Book → ℕ → Bytes → Bool

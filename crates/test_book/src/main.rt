@@ -7,8 +7,9 @@ ghost use Rattle.book.specs.Text.{IsBook};
 
 use book::{column, key};
 use book_ids::{Id, key_id};
-use book_names::Found;
+use book_names::Known;
 use text::lines::LF;
+use value_references::index::Flaw;
 
 // One byte more, where there is room.
 fn push(out: &mut [u8], at: usize, b: u8) -> usize
@@ -47,22 +48,16 @@ fn push_spaced(out: &mut [u8], at: usize, i: usize) -> usize
 }
 
 // What a table says of a name.
-fn push_found(out: &mut [u8], at: usize, found: Found) -> usize
+fn push_found(out: &mut [u8], at: usize, found: Result<Known, Flaw>) -> usize
     ensures { result ≤ length out.new }
 {
     match found {
-        Found::Unknown(_) => push(out, at, b'-'),
-        Found::Known {
-            kind,
-            family,
-            i,
-            j,
-            ..
-        } => {
-            let a = push(out, at, kind);
-            let b = push(out, a, family);
-            let c = push_spaced(out, b, i);
-            push_spaced(out, c, j)
+        Err(_) => push(out, at, b'-'),
+        Ok(known) => {
+            let a = push(out, at, known.kind);
+            let b = push(out, a, known.family);
+            let c = push_spaced(out, b, known.i);
+            push_spaced(out, c, known.j)
         }
     }
 }

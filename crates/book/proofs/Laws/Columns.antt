@@ -6,12 +6,12 @@ use mathlib.Core.List.{List, [], ◌∷◌}
 use native.Mathlib.Omega.{arith}
 use lib.ListN.{length, get_or}
 use borrow.Author.Tests.{lt-ltb, le-ltb}
+use Rattle.std.specs.Prelude.{Err}
 use Rattle.text_bytes.specs.Bytes.{Bytes, bytes, all}
 use Rattle.text_bytes.proofs.Laws.Begins.{begins_short}
 use Rattle.text_bytes.proofs.Laws.Tests.{and_both}
-use Rattle.book_names.specs.Names.{Entry, pieces_from, entry_of, first_of, lookup_in}
+use Rattle.book_names.specs.Names.{Entry, pieces_from, entry_of, first_of, lookup_in, known_as}
 use Rattle.value_references.specs.declared.index.Flaw.TheVariants.{Form}
-use Rattle.book_names.specs.declared.Found.TheVariants.{Unknown, Known}
 use Rattle.book_names.proofs.Laws.Lengths.{text_of, is_long, first_short}
 use Rattle.book.specs.Columns.{protein_columns, peptide_columns, psm_columns, molecule_columns}
 use Rattle.book.specs.Book.{Section, Book, no_section, is_section, section_of, entries_of, is_opt, opt_of, column_entries, column_of, mz_tab}
@@ -42,11 +42,11 @@ module _ (b : Book) (section : ℕ) (name : List ℕ) where
   unfolding column_of
   column_table h = rw h
 
-  pub column_bare : is_opt name ≡ true → length name ≤ 4 → column_of b section name ≡ Unknown Form
+  pub column_bare : is_opt name ≡ true → length name ≤ 4 → column_of b section name ≡ Err Form
   unfolding column_of opt_of
   column_bare h l = rw (h, le-ltb 4 (length name) l)
 
-  pub column_opt : is_opt name ≡ true → 4 < length name → column_of b section name ≡ Known 255 84 45 0 0
+  pub column_opt : is_opt name ≡ true → 4 < length name → column_of b section name ≡ known_as 255 84 45 0 0
   unfolding column_of opt_of
   column_opt h l = rw (h, lt-ltb 4 (length name) l)
 
@@ -55,12 +55,12 @@ columns_long : (t : Bytes) (s : ℕ) → all is_long (column_entries (book_in t)
 unfolding is_long text_of all bytes book_in mz_tab protein_columns peptide_columns psm_columns molecule_columns entry_of pieces_from
 columns_long t s = every_section (λ es. all is_long es) (book_in t) s refl refl
 
-pub column_short : (t : Bytes) (section : ℕ) (name : List ℕ) → length name < 3 → column_of (book_in t) section name ≡ Unknown Form
+pub column_short : (t : Bytes) (section : ℕ) (name : List ℕ) → length name < 3 → column_of (book_in t) section name ≡ Err Form
 unfolding is_opt bytes
 column_short t section name h =
     column_table (book_in t) section name (begins_short (bytes "opt_") name (omega arith)) ∙ first_short 0 (column_entries (book_in t) section) name (columns_long t section) h
 
 -- NO SECTION has no columns
-pub columns_none : (b : Book) (s : ℕ) (name : List ℕ) → is_section b s ≡ false → lookup_in (column_entries b s) name ≡ Unknown Form
+pub columns_none : (b : Book) (s : ℕ) (name : List ℕ) → is_section b s ≡ false → lookup_in (column_entries b s) name ≡ Err Form
 unfolding section_of first_of
 columns_none b s name h = rw h

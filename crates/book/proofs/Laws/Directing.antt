@@ -1,5 +1,5 @@
 -- What a directory says: which numbers are sections, their line codes and their columns; and that the directory of the book is one. Assumes nothing.
-use Prim.Native.Nat.{ℕ, zero, suc, ◌+◌, ◌*◌, ◌-◌, ◌≤◌, ◌<◌}
+use Prim.Native.Nat.{ℕ, suc, ◌+◌, ◌*◌, ◌-◌, ◌≤◌, ◌<◌}
 use mathlib.Core.Path.{◌≡◌, refl, ap, sym, ◌∙◌}
 use mathlib.Core.Bool.{Bool, true, false, cond, not}
 use native.Mathlib.Omega.{arith}
@@ -14,10 +14,8 @@ use Rattle.text_bytes.proofs.Laws.Tests.{and_both}
 use Rattle.book_names.specs.Names.{lookup_in}
 use Rattle.book_names.specs.Table.{entries}
 use Rattle.book_names.specs.Links.{Linked}
-use Rattle.book.specs.Keys.{keys}
-use Rattle.book.specs.Columns.{protein_columns, peptide_columns, psm_columns, molecule_columns, protein_required, peptide_required, psm_required, molecule_required}
-use Rattle.book.specs.Book.{Section, Book, no_section, is_section, section_of, code_for, code_in, coded_from, section_by, entries_of, column_entries, mz_tab, demands, has_form}
-use Rattle.book.specs.Text.{rows_at, links_at, rows_of, code_at, IsDirectory, IsTable, IsText, book_in, HasDirectory, tabbed, entries_from, directory_of, directory_text, demand_rows, entry_for}
+use Rattle.book.specs.Book.{Section, Book, no_section, is_section, section_of, code_for, code_in, coded_from, section_by, entries_of, column_entries}
+use Rattle.book.specs.Text.{rows_at, links_at, rows_of, code_at, IsDirectory, IsTable, IsText}
 
 -- A SECTION'S NUMBER
 module _ (b : Book) (s : ℕ) where

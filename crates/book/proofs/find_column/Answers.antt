@@ -15,14 +15,14 @@ returns-then-section-first c =
     let b = book_in c.args.book.now in
     sym (columns_none b c.args.section c.args.name.now (section_below b c.args.section (omega (arith, c.requires.directory.first))))
 
-pub returns-then-wide-k : goal.returns-then-wide-k
-returns-then-wide-k c =
+pub returns-then-from-k : goal.returns-then-from-k
+returns-then-from-k c =
     let b = book_in c.args.book.now in
     sym (columns_none b c.args.section c.args.name.now (section_past b c.args.section (omega (arith, c.requires.directory.first)) (omega (arith, c.requires.directory.first, c.requires.directory.count))))
 
 pub search-requires : goal.search-requires
 search-requires c =
-    let k = c.args.section - c.wide-first.result in
+    let k = c.args.section - c.from-first.result in
     let n : k < length (book_in c.args.book.now).sections = omega (arith, c.requires.directory.count) in
     record { table = (c.requires.columns k n).table; k_in_bounds = omega (arith, c.requires.directory.size) }
 
@@ -30,4 +30,4 @@ pub returns : goal.returns
 returns c =
     c.search.ensures
     ∙ ap (λ (es : List Entry). lookup_in es c.args.name.now)
-    (columns_at c.requires c.args.section (c.args.section - c.wide-first.result) (omega (arith, c.requires.directory.first)) (ap (λ (n : ℕ). c.args.section - n) (c.wide-first.ensures ∙ c.requires.directory.first)) (omega (arith, c.requires.directory.count)))
+    (columns_at c.requires c.args.section (c.args.section - c.from-first.result) (omega (arith, c.requires.directory.first)) (ap (λ (n : ℕ). c.args.section - n) (c.from-first.ensures ∙ c.requires.directory.first)) (omega (arith, c.requires.directory.count)))

@@ -18,17 +18,15 @@ use Rattle.value_references.specs.Index.{written}
 use Rattle.value_references.specs.References.{family}
 use Rattle.value_references.specs.declared.index.Flaw.{Flaw}
 use Rattle.book.specs.Book.{Book, key_of}
-use Rattle.book_names.specs.Names.{is_known}
+use Rattle.book_names.specs.Names.{is_known, Found}
 use Rattle.book_ids.specs.Ids.{declares, declared, flag, Flags, Declared, id_of, key_id, line_id, marked}
-use Rattle.book_names.specs.declared.Found.{Found}
-use Rattle.book_names.specs.declared.Found.TheVariants.{Unknown}
 use Rattle.book_ids.specs.declared.Id.{Id}
-use Rattle.std.specs.Prelude.{Option, Some, None}
+use Rattle.std.specs.Prelude.{Option, Some, None, Err}
 use Rattle.book_ids.proofs.Laws.Words.{is_id, id_is, id_range}
 
 -- A KEY's id
 module _ (book : Book) (name : List ℕ) where
-  pub key_unknown : (z : Flaw) → key_of book name ≡ Unknown z → key_id book name ≡ None
+  pub key_unknown : (z : Flaw) → key_of book name ≡ Err z → key_id book name ≡ None
   unfolding key_id
   key_unknown z h = rw h
 

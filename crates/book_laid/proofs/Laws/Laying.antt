@@ -26,18 +26,6 @@ use Rattle.book.specs.Text.{DIRECTORY, ROWS, WANTED, FRONT, LINKS, number_at, ro
 use Rattle.book_laid.proofs.Laws.Starting.{number_behind, starts_read, starts_length}
 use Rattle.book_laid.proofs.Laws.Demanded.{RowAt, row_behind, rows_read}
 
--- LAYING: s follows p in b. Nothing is copied, one byte more is, and all are
-pub copied_none : (b s : Bytes) (at : ℕ) → take (at + 0) b ≡ take at b ++ take 0 s
-copied_none b s at = let e : at + 0 ≡ at = omega arith in rw e (sym (append-nil (take at b)))
-
-pub copied_all : (b p s : Bytes) (at i : ℕ) → i ≡ length s → take (at + i) b ≡ p ++ take i s → take (at + length s) b ≡ p ++ s
-copied_all b p s at i e h = ap (λ (n : ℕ). take (at + n) b) (sym e) ∙ h ∙ ap (λ (l : Bytes). p ++ l) (ap (λ (n : ℕ). take n s) e ∙ take-length s)
-
-pub copied : (b p s : Bytes) (at i : ℕ) → at + i < length b → i < length s → take (at + i) b ≡ p ++ take i s → take (at + (i + 1)) (set b (at + i) (get_or s i 0)) ≡ p ++ take (i + 1) s
-copied b p s at i hb hs h =
-    let e : at + (i + 1) ≡ suc (at + i) = omega arith in
-    rw (e, take-suc-set b (at + i) (get_or s i 0) hb, h, add-one i, take-suc s i 0 hs) (append_assoc p (take i s) (get_or s i 0 ∷ []))
-
 -- what holds of four numbers holds of each below 4; and of five
 four : (P : ℕ → Type 0) → P 0 → P 1 → P 2 → P 3 → (k : ℕ) → k < 4 → P k
 four P a b c d zero h = a

@@ -17,11 +17,11 @@ fitting t n at m e =
     let w : at + 54 - at ≡ 54 = omega arith in
     sym (e ∙ ap (λ (k : ℕ). fitsIn (pieces (drop 3 (take k (drop at t)))) n 0 0) w)
 
-pub bounds-links-wide : goal.bounds-links-wide
-bounds-links-wide c = omega (arith, c.requires.size)
+pub bounds-links-from : goal.bounds-links-from
+bounds-links-from c = omega (arith, c.requires.size)
 
 pub loop-entry-init : goal.loop-entry-init
-loop-entry-init c = subst⁻¹ (Reached c.args.table.now c.args.name.now Form) c.wide-entry.ensures (reached_first c.args.table.now c.args.name.now c.args.links.now c.requires c.wide.result (omega arith) (c.wide.ensures ∙ c.byte_of-x.ensures))
+loop-entry-init c = subst⁻¹ (Reached c.args.table.now c.args.name.now Form) c.from-entry.ensures (reached_first c.args.table.now c.args.name.now c.args.links.now c.requires c.from.result (omega arith) (c.from.ensures ∙ c.byte_of-x.ensures))
 
 pub returns-in-Fits : goal.returns-in-Fits
 returns-in-Fits c =
@@ -40,7 +40,7 @@ loop-entry-smaller c =
     let table : List ℕ = c.args.table.now in
     let links : List ℕ = c.args.links.now in
     let name : List ℕ = c.args.name.now in
-    omega (arith, c.wide-entry-in-loop-entry.ensures, c.loop-entry-test.true, further table name links c.requires c.loop-entry.flaw c.loop-entry.entry c.loop-entry.invariant c.loop-entry-test.true)
+    omega (arith, c.from-entry-in-loop-entry.ensures, c.loop-entry-test.true, further table name links c.requires c.loop-entry.flaw c.loop-entry.entry c.loop-entry.invariant c.loop-entry-test.true)
 
 pub loop-entry-preserved : goal.loop-entry-preserved
 loop-entry-preserved c =
@@ -49,7 +49,7 @@ loop-entry-preserved c =
     let name : List ℕ = c.args.name.now in
     let row_is : fitsIn (pieces (drop 3 (take 54 (drop (c.loop-entry.entry * 54) table)))) name 0 0 ≡ c.fits_row-row.result = fitting table name (c.loop-entry.entry * 54) _ c.fits_row-row.ensures in
     reached_next table name links c.requires c.loop-entry.flaw c.loop-entry.entry c.loop-entry.invariant c.loop-entry-test.true c.fits_row-row.result row_is c.in_default.not-Fits
-    _ _ c.noted-flaw.ensures c.wide-entry-in-loop-entry.ensures
+    _ _ c.noted-flaw.ensures c.from-entry-in-loop-entry.ensures
 
 pub returns : goal.returns
 returns c =

@@ -8,15 +8,15 @@ use native.Mathlib.Omega.{arith}
 use lib.Dec.{eqb}
 use lib.ListN.{length, get_or, drop}
 use borrow.Author.Tests.{eq-eqb, ne_eqb}
+use Rattle.std.specs.Prelude.{Err}
 use Rattle.text_bytes.proofs.Laws.Tests.{absurd_bool, and_both}
 use Rattle.value_references.specs.declared.index.Flaw.{Flaw}
 use Rattle.value_references.specs.declared.index.Flaw.TheVariants.{Form, Zero, Over}
 use Rattle.value_references.specs.Index.{digits, index_at, flaw_in, sooner}
 use Rattle.value_references.proofs.Laws.Indices.{Bracket, index_unopened}
-use Rattle.book_names.specs.Names.{Piece, byte, place, Entry, kind_of, family_of, form_of, filled, fits, on_match, first_of, lookup_in}
+use Rattle.book_names.specs.Names.{Piece, byte, place, Entry, kind_of, family_of, form_of, filled, fits, on_match, first_of, lookup_in, known_as}
 use Rattle.book_names.specs.Steps.{flawed}
 use Rattle.book_names.specs.declared.Match.TheVariants.{Differs, Fits}
-use Rattle.book_names.specs.declared.Found.TheVariants.{Unknown, Known}
 use Rattle.book_names.proofs.Laws.Flaws.{marked_differs, on_some}
 use Rattle.book_names.proofs.Laws.Turns.{place_fits}
 use Rattle.book_names.proofs.Laws.Alike.{alike}
@@ -98,7 +98,7 @@ from_at p (e ∷ es) zero h k = (and_both (apart p (form_of e)) _ h).0
 from_at p (e ∷ es) (suc m) h k = from_at p es m (and_both (apart p (form_of e)) _ h).1 (omega arith)
 
 -- THE LINE that a name is like decides
-none_like : (p : List Piece) (es : List Entry) (name : List ℕ) (e : ℕ) → apart_from p es ≡ true → (fits p name 0 0 ≡ Differs → ⊥) → first_of e es name ≡ Unknown Form
+none_like : (p : List Piece) (es : List Entry) (name : List ℕ) (e : ℕ) → apart_from p es ≡ true → (fits p name 0 0 ≡ Differs → ⊥) → first_of e es name ≡ Err Form
 unfolding apart_from first_of
 none_like p [] name e h n = refl
 none_like p (x ∷ es) name e h n =
@@ -106,7 +106,7 @@ none_like p (x ∷ es) name e h n =
     rw (apart_alike p (form_of x) name 0 0 0 0 q.0 n) (none_like p es name (e + 1) q.1 n)
 
 pub only_line : (es : List Entry) (name : List ℕ) (e n : ℕ) → all_apart es ≡ true → n < length es → (fits (form_of (nth es n)) name 0 0 ≡ Differs → ⊥)
-    → first_of e es name ≡ on_match (fits (form_of (nth es n)) name 0 0) (Unknown Form) (λ i j. Known (e + n) (kind_of (nth es n)) (family_of (nth es n)) i j)
+    → first_of e es name ≡ on_match (fits (form_of (nth es n)) name 0 0) (Err Form) (λ i j. known_as (e + n) (kind_of (nth es n)) (family_of (nth es n)) i j)
 unfolding all_apart first_of
 only_line [] name e n h l k = absurd (omega arith)
 only_line (x ∷ es) name e zero h l k =
@@ -123,7 +123,7 @@ only_line (x ∷ es) name e (suc n) h l k =
 module _ (es : List Entry) (n : ℕ) (h : all_apart es ≡ true) (inside : n < length es) where
   -- THE LAW: a line's pattern with indices 1 to 64 written out is found at that line
   pub complete : (i j : ℕ) → Shape (holes (form_of (nth es n))) i j
-      → lookup_in es (filled (form_of (nth es n)) i j) ≡ Known n (kind_of (nth es n)) (family_of (nth es n)) i j
+      → lookup_in es (filled (form_of (nth es n)) i j) ≡ known_as n (kind_of (nth es n)) (family_of (nth es n)) i j
   complete i j s =
       let f = filled_fits (form_of (nth es n)) i j s in
       let z : 0 + n ≡ n = omega arith in
@@ -131,7 +131,7 @@ module _ (es : List Entry) (n : ℕ) (h : all_apart es ≡ true) (inside : n < l
 
   -- AND with digits at its places of which some are no index, it is unknown for their first flaw
   pub complete_flaw : (ds : List (List ℕ)) → holes (form_of (nth es n)) ≤ 2 → length ds ≡ holes (form_of (nth es n)) → Digits ds → (first_flaw ds ≡ Form → ⊥)
-      → lookup_in es (spelled (form_of (nth es n)) ds) ≡ Unknown (first_flaw ds)
+      → lookup_in es (spelled (form_of (nth es n)) ds) ≡ Err (first_flaw ds)
   complete_flaw ds few c e k =
       let f = spelled_fits (form_of (nth es n)) ds few c e in
       go (first_flaw ds) k f.0 f.1 f.2
@@ -139,7 +139,7 @@ module _ (es : List Entry) (n : ℕ) (h : all_apart es ≡ true) (inside : n < l
       name : List ℕ
       name = spelled (form_of (nth es n)) ds
 
-      go : (z : Flaw) → (z ≡ Form → ⊥) → (a b : ℕ) → fits (form_of (nth es n)) name 0 0 ≡ flawed z (Fits a b) → lookup_in es name ≡ Unknown z
+      go : (z : Flaw) → (z ≡ Form → ⊥) → (a b : ℕ) → fits (form_of (nth es n)) name 0 0 ≡ flawed z (Fits a b) → lookup_in es name ≡ Err z
       go Form k a b q = absurd (k refl)
       go Zero k a b q = only_line es name 0 n h inside (λ d. absurd (let o : ◌≡◌ {A = ℕ} 0 1 = cc in omega arith)) ∙ rw q
       go Over k a b q = only_line es name 0 n h inside (λ d. absurd (let o : ◌≡◌ {A = ℕ} 0 1 = cc in omega arith)) ∙ rw q

@@ -4,6 +4,7 @@ use mathlib.Core.Path.{◌≡◌, refl, ap, sym, ◌∙◌}
 use mathlib.Core.List.{List}
 use native.Mathlib.Omega.{arith}
 use lib.ListN.{length}
+use Rattle.std.specs.Prelude.{Ok, Err}
 use Rattle.value_references.specs.Index.{index_at, flaw_in, sooner}
 use Rattle.value_references.specs.declared.index.Index.{Index}
 use Rattle.value_references.specs.declared.index.Index.TheVariants.{Not, Bad, Is}
@@ -11,12 +12,10 @@ use Rattle.value_references.specs.declared.index.Flaw.{Flaw}
 use Rattle.value_references.specs.declared.index.Flaw.TheVariants.{Form, Zero, Over}
 use Rattle.value_references.proofs.Laws.Indices.{Holds, index_holds}
 use Rattle.value_references.proofs.Laws.Firsts.{sooner_again}
-use Rattle.book_names.specs.Names.{missing, on_index, misses, on_match}
+use Rattle.book_names.specs.Names.{missing, on_index, misses, on_match, Found}
 use Rattle.book_names.specs.Steps.{width_in, taken_in, Place, flawed, flaw_of}
 use Rattle.book_names.specs.declared.Match.{Match}
 use Rattle.book_names.specs.declared.Match.TheVariants.{Differs, Misses, Fits}
-use Rattle.book_names.specs.declared.Found.{Found}
-use Rattle.book_names.specs.declared.Found.TheVariants.{Unknown, Known}
 
 -- A NAME with a flaw in front of its rest
 pub marked_differs : (z : Flaw) → flawed z Differs ≡ Differs
@@ -83,12 +82,12 @@ place_within s v w z p = rw p.width (go (index_at s) (index_holds s (index_at s)
 
 -- ENTRIES that a name misses
 pub misses_none : (d : Found) → misses Form d ≡ d
-misses_none (Unknown w) = refl
-misses_none (Known e k f i j) = refl
+misses_none (Err w) = refl
+misses_none (Ok k) = refl
 
 pub misses_again : (f z : Flaw) (d : Found) → misses f (misses z d) ≡ misses (sooner f z) d
-misses_again f z (Unknown w) = ap Unknown (sooner_again f z w)
-misses_again f z (Known e k g i j) = refl
+misses_again f z (Err w) = ap Err (sooner_again f z w)
+misses_again f z (Ok k) = refl
 
 -- an entry that the name does not fit
 pub on_miss : (m : Match) (d : Found) (f : ℕ → ℕ → Found) → ((i j : ℕ) → m ≡ Fits i j → ⊥) → on_match m d f ≡ misses (flaw_of m) d

@@ -10,16 +10,16 @@ use lib.Dec.{eqb}
 use lib.ListN.{length, get_or, drop}
 use lib.Seq.{drop-append_seam}
 use borrow.Author.Tests.{eq-eqb, eqb-true, ne_eqb}
+use Rattle.std.specs.Prelude.{Ok, Err}
 use Rattle.value_references.specs.Index.{index_at, written}
 use Rattle.value_references.specs.declared.index.Index.{Index}
 use Rattle.value_references.specs.declared.index.Index.TheVariants.{Not, Bad, Is}
 use Rattle.value_references.specs.declared.index.Flaw.{Flaw}
 use Rattle.value_references.proofs.Laws.Indices.{index_read, index_written}
-use Rattle.book_names.specs.Names.{Piece, byte, place, Entry, entry, kind_of, family_of, form_of, filled, fits, missing, on_index, misses, on_match, first_of, lookup_in, spread, start_of, among, slot_of}
+use Rattle.book_names.specs.declared.Known.{Known}
+use Rattle.book_names.specs.Names.{Piece, byte, place, Entry, entry, kind_of, family_of, form_of, filled, fits, missing, on_index, misses, on_match, first_of, lookup_in, spread, start_of, among, slot_of, Found, known_as}
 use Rattle.book_names.specs.declared.Match.{Match}
 use Rattle.book_names.specs.declared.Match.TheVariants.{Differs, Misses, Fits}
-use Rattle.book_names.specs.declared.Found.{Found}
-use Rattle.book_names.specs.declared.Found.TheVariants.{Unknown, Known}
 
 -- what differs does not fit
 pub never : {A : Type 0} {i j : ℕ} → Differs ≡ Fits i j → A
@@ -186,13 +186,17 @@ pub record At (es : List Entry) (name : List ℕ) (n k f i j : ℕ) : Type 0 whe
   pub text : filled (form_of (nth es n)) i j ≡ name
   pub shape : Shape (holes (form_of (nth es n))) i j
 
--- an entry that is missed lets a known name be known
-missed_known : (z : Flaw) (d : Found) {e k f i j : ℕ} → misses z d ≡ Known e k f i j → d ≡ Known e k f i j
-missed_known z (Unknown w) h = let o : ◌≡◌ {A = ℕ} 0 1 = cc in absurd (omega arith)
-missed_known z (Known e k f i j) h = h
+-- what two answers know is one where they are
+same_known : {a b : Known} → ◌≡◌ {A = Found} (Ok a) (Ok b) → a ≡ b
+same_known h = cc
 
-on_match_lem : (m : Match) (d : Found) (g : ℕ → ℕ → Found) {e k f a b : ℕ} → on_match m d g ≡ Known e k f a b
-    → (d ≡ Known e k f a b) ⊎ ((i : ℕ) × (j : ℕ) × (m ≡ Fits i j) × (g i j ≡ Known e k f a b))
+-- an entry that is missed lets a known name be known
+missed_known : (z : Flaw) (d : Found) {e k f i j : ℕ} → misses z d ≡ known_as e k f i j → d ≡ known_as e k f i j
+missed_known z (Err w) h = let o : ◌≡◌ {A = ℕ} 0 1 = cc in absurd (omega arith)
+missed_known z (Ok k) h = h
+
+on_match_lem : (m : Match) (d : Found) (g : ℕ → ℕ → Found) {e k f a b : ℕ} → on_match m d g ≡ known_as e k f a b
+    → (d ≡ known_as e k f a b) ⊎ ((i : ℕ) × (j : ℕ) × (m ≡ Fits i j) × (g i j ≡ known_as e k f a b))
 on_match_lem Differs d g h = inl h
 on_match_lem (Misses z) d g h = inl (missed_known z d h)
 on_match_lem (Fits i j) d g h = inr (i, j, refl, h)
@@ -202,17 +206,18 @@ Rel : List Entry → List ℕ → ℕ → ℕ → ℕ → ℕ → ℕ → ℕ �
 Rel es name e₀ e k f i j = (n : ℕ) × (e ≡ e₀ + n) × At es name n k f i j
 
 here : (x : Entry) (es : List Entry) (name : List ℕ) (e₀ e k f i j p q : ℕ) → fits (form_of x) name 0 0 ≡ Fits p q
-    → Known e₀ (kind_of x) (family_of x) p q ≡ Known e k f i j → Rel (x ∷ es) name e₀ e k f i j
+    → known_as e₀ (kind_of x) (family_of x) p q ≡ known_as e k f i j → Rel (x ∷ es) name e₀ e k f i j
 unfolding Rel
 here x es name e₀ e k f i j p q h eq =
-    let ee : e₀ ≡ e = cc in
-    let ek : kind_of x ≡ k = cc in
-    let ef : family_of x ≡ f = cc in
-    let ei : p ≡ i = cc in
-    let ej : q ≡ j = cc in
+    let s = same_known eq in
+    let ee : e₀ ≡ e = ap (λ (y : Known). y.entry) s in
+    let ek : kind_of x ≡ k = ap (λ (y : Known). y.kind) s in
+    let ef : family_of x ≡ f = ap (λ (y : Known). y.family) s in
+    let ei : p ≡ i = ap (λ (y : Known). y.i) s in
+    let ej : q ≡ j = ap (λ (y : Known). y.j) s in
     let m : fits (form_of x) name 0 0 ≡ Fits i j = cc in
-    let s = fits_filled (form_of x) name i j m in
-    (0, omega arith, record { inside = omega arith; kind = sym ek; family = sym ef; fit = m; text = s.0; shape = s.1 })
+    let t = fits_filled (form_of x) name i j m in
+    (0, omega arith, record { inside = omega arith; kind = sym ek; family = sym ef; fit = m; text = t.0; shape = t.1 })
 
 below : (x : Entry) (es : List Entry) (name : List ℕ) (e₀ e k f i j : ℕ) → Rel es name (e₀ + 1) e k f i j → Rel (x ∷ es) name e₀ e k f i j
 unfolding Rel
@@ -230,7 +235,7 @@ below x es name e₀ e k f i j r =
       },
     )
 
-found : (es : List Entry) (name : List ℕ) (e₀ e k f i j : ℕ) → first_of e₀ es name ≡ Known e k f i j → Rel es name e₀ e k f i j
+found : (es : List Entry) (name : List ℕ) (e₀ e k f i j : ℕ) → first_of e₀ es name ≡ known_as e k f i j → Rel es name e₀ e k f i j
 unfolding first_of
 found [] name e₀ e k f i j h = let z : ◌≡◌ {A = ℕ} 0 1 = cc in absurd (omega arith)
 found (x ∷ es) name e₀ e k f i j h =
@@ -240,7 +245,7 @@ found (x ∷ es) name e₀ e k f i j h =
     (on_match_lem (fits (form_of x) name 0 0) _ _ h)
 
 -- THE LAW: a known name is its line's pattern with the indices written out
-pub known : (es : List Entry) (name : List ℕ) (e k f i j : ℕ) → lookup_in es name ≡ Known e k f i j → At es name e k f i j
+pub known : (es : List Entry) (name : List ℕ) (e k f i j : ℕ) → lookup_in es name ≡ known_as e k f i j → At es name e k f i j
 unfolding Rel
 known es name e k f i j h =
     let r = found es name 0 e k f i j h in
@@ -331,18 +336,18 @@ slot_apart es e i j e' i' j' o o' s =
     (z, q.0, q.1)
 
 -- a known name is one of its entry
-pub known_of : (es : List Entry) (name : List ℕ) (e k f i j : ℕ) → lookup_in es name ≡ Known e k f i j → Of es e i j
+pub known_of : (es : List Entry) (name : List ℕ) (e k f i j : ℕ) → lookup_in es name ≡ known_as e k f i j → Of es e i j
 known_of es name e k f i j h = let a = known es name e k f i j h in record { inside = a.inside; shape = a.shape }
 
 -- so two known names with the same slot are equal
-pub same_slot : (es : List Entry) (x y : List ℕ) (e k f i j e' k' f' i' j' : ℕ) → lookup_in es x ≡ Known e k f i j
-    → lookup_in es y ≡ Known e' k' f' i' j' → slot_of es e i j ≡ slot_of es e' i' j' → x ≡ y
+pub same_slot : (es : List Entry) (x y : List ℕ) (e k f i j e' k' f' i' j' : ℕ) → lookup_in es x ≡ known_as e k f i j
+    → lookup_in es y ≡ known_as e' k' f' i' j' → slot_of es e i j ≡ slot_of es e' i' j' → x ≡ y
 same_slot es x y e k f i j e' k' f' i' j' h h' s =
     let q = slot_apart es e i j e' i' j' (known_of es x e k f i j h) (known_of es y e' k' f' i' j' h') s in
     sym (known es x e k f i j h).text ∙ ap (λ (n : ℕ). filled (form_of (nth es n)) i j) q.0 ∙ ap (λ (n : ℕ). filled (form_of (nth es e')) n j) q.1
     ∙ ap (λ (n : ℕ). filled (form_of (nth es e')) i' n) q.2 ∙ (known es y e' k' f' i' j' h').text
 
 -- and the slot of a known name is below the end of all
-pub slot_below : (es : List Entry) (name : List ℕ) (e k f i j : ℕ) → lookup_in es name ≡ Known e k f i j
+pub slot_below : (es : List Entry) (name : List ℕ) (e k f i j : ℕ) → lookup_in es name ≡ known_as e k f i j
     → (e < length es) × (slot_of es e i j < start_of es (length es))
 slot_below es name e k f i j h = let o = known_of es name e k f i j h in (o.inside, slot_inside es e i j o)

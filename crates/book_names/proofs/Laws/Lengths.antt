@@ -8,6 +8,7 @@ use lib.Dec.{eqb, leb}
 use lib.ListN.{length, get_or, drop, length-drop, drop_of_length-le}
 use lib.Seq.{drop-drop, get_or-drop}
 use borrow.Author.Tests.{eq-eqb, ne_eqb, eqb-true, eqb-false, leb-true}
+use Rattle.std.specs.Prelude.{Err}
 use Rattle.text_bytes.specs.Bytes.{all}
 use Rattle.text_bytes.specs.Places.{up_to, Ends}
 use Rattle.text_bytes.proofs.Laws.Tests.{and_both}
@@ -19,7 +20,6 @@ use Rattle.book_names.specs.Names.{Piece, byte, place, pieces_from, Entry, form_
 use Rattle.book_names.specs.Steps.{extent, close_at}
 use Rattle.book_names.specs.declared.Match.{Match}
 use Rattle.book_names.specs.declared.Match.TheVariants.{Differs, Misses, Fits}
-use Rattle.book_names.specs.declared.Found.TheVariants.{Unknown}
 use Rattle.book_names.proofs.Laws.Turns.{inside}
 use Rattle.book_names.proofs.Laws.Alike.{alike}
 
@@ -50,7 +50,7 @@ short_text ps name h = differs_or (fits ps name 0 0) (λ n. omega (arith, text_l
 unfoldable pub is_long : Entry → Bool
 is_long x = leb 3 (text_of (form_of x))
 
-pub first_short : (e : ℕ) (xs : List Entry) (name : List ℕ) → all is_long xs ≡ true → length name < 3 → first_of e xs name ≡ Unknown Form
+pub first_short : (e : ℕ) (xs : List Entry) (name : List ℕ) → all is_long xs ≡ true → length name < 3 → first_of e xs name ≡ Err Form
 unfolding first_of all is_long
 first_short e [] name h l = refl
 first_short e (x ∷ xs) name h l =

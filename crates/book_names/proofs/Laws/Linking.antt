@@ -8,16 +8,16 @@ use lib.Dec.{eqb}
 use lib.ListN.{length, get_or, take, drop, set, length-drop, length-take, length-set, drop_of_length-le}
 use lib.Seq.{drop-drop, get_or-take, get_or-drop, get_or-set_same, get_or-set_other, drop-set-add}
 use borrow.Author.Tests.{eqb-true, eqb-false}
+use Rattle.std.specs.Prelude.{Err}
 use Rattle.value_references.specs.declared.index.Flaw.{Flaw}
 use Rattle.value_references.specs.declared.index.Flaw.TheVariants.{Form}
 use Rattle.value_references.specs.Index.{sooner}
-use Rattle.book_names.specs.Names.{Entry, pieces, form_of, entry_of, fits, misses, first_of, lookup_in}
+use Rattle.book_names.specs.Names.{Entry, pieces, form_of, entry_of, fits, misses, first_of, lookup_in, known_as}
 use Rattle.book_names.specs.Steps.{flaw_of}
 use Rattle.book_names.specs.Table.{cut, rows, entries}
 use Rattle.book_names.specs.Links.{head_of, next_head, Linked}
 use Rattle.book_names.specs.declared.Match.{Match}
 use Rattle.book_names.specs.declared.Match.TheVariants.{Fits}
-use Rattle.book_names.specs.declared.Found.TheVariants.{Unknown, Known}
 use Rattle.value_references.proofs.Laws.Firsts.{sooner_none}
 use Rattle.book_names.proofs.Laws.Flaws.{misses_none, misses_again, on_miss}
 use Rattle.book_names.proofs.Laws.Turns.{head_at, head_other}
@@ -116,12 +116,12 @@ module _ (t name : List ℕ) where
         reached_next g q eg eq = rw (eg, eq ∙ next_link) (reached (sooner z (flaw_of m)) (e + 1) _ missed (leads name (drop (e + 1) (entries t)) (e + 1)))
 
   module _ (z : Flaw) (e : ℕ) (a : Reached t name z e) where
-    pub reached_none : length t / 54 ≤ e → lookup_in (entries t) name ≡ Unknown z
+    pub reached_none : length t / 54 ≤ e → lookup_in (entries t) name ≡ Err z
     unfolding first_of
     reached_none h = a.same ∙ rw (drop_of_length-le (entries t) {i = e} (omega (arith, entry_count t)), sooner_none z)
 
     pub reached_hit : (i j : ℕ) → e < length t / 54 → fits (pieces (drop 3 (take 54 (drop (e * 54) t)))) name 0 0 ≡ Fits i j
-        → lookup_in (entries t) name ≡ Known e (get_or t (e * 54) 0) (get_or t (e * 54 + 1) 0) i j
+        → lookup_in (entries t) name ≡ known_as e (get_or t (e * 54) 0) (get_or t (e * 54 + 1) 0) i j
     unfolding first_of entry_of
     reached_hit i j h m =
         let o : e * 54 + 0 ≡ e * 54 = omega arith in
@@ -197,18 +197,6 @@ linked_turn es b at r h x k l d e lh =
     let i : at + 256 + r ≡ at + (256 + r) = omega arith in
     rw (i, ← get_or-drop at b h 0, drop-set-add at (set b (at + (256 + r)) (get_or (drop at b) h 0)) h r, drop-set-add at b (256 + r) (get_or (drop at b) h 0))
     (linked_more es (drop at b) r h x k l d e lh)
-
--- one byte more that is linked to v
-pub heads_next : (b : List ℕ) (at v k : ℕ) → at + k < length b → ((i : ℕ) → i < k → get_or (drop at b) i 0 ≡ v) → (i : ℕ) → i < k + 1 → get_or (drop at (set b (at + k) v)) i 0 ≡ v
-heads_next b at v k h f i l = rw (drop-set-add at b k v) (go (eqb i k) refl)
-  where
-    go : (t : Bool) → eqb i k ≡ t → get_or (set (drop at b) k v) i 0 ≡ v
-    go true e =
-        ap (λ (j : ℕ). get_or (set (drop at b) k v) j 0) (eqb-true i k e) ∙ get_or-set_same (drop at b) k v 0 (omega (arith, length-drop at b))
-    go false e = let other = eqb-false i k e in get_or-set_other (drop at b) k i v 0 other ∙ f i (below other)
-      where
-        below : (i ≡ k → ⊥) → i < k
-        below n = omega arith
 
 -- links that are cut after the last
 pub linked_part : (es : List Entry) (links : List ℕ) (m : ℕ) → Linked 0 es links → 256 + length es ≤ m → Linked 0 es (take m links)

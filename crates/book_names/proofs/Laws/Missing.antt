@@ -9,6 +9,7 @@ use lib.Dec.{eqb, ltb}
 use lib.ListN.{length, get_or, drop, length-append}
 use lib.Seq.{drop-append-add, get_or-append_seam, get_or-drop}
 use borrow.Author.Tests.{eq-eqb, ne_eqb, eqb-true, eqb-false, ltb-true, ltb-false}
+use Rattle.std.specs.Prelude.{Ok, Err}
 use Rattle.text_bytes.specs.Bytes.{all}
 use Rattle.text_bytes.proofs.Laws.Tests.{and_both}
 use Rattle.text_bytes.proofs.Laws.Pieces.{drop_step}
@@ -18,12 +19,10 @@ use Rattle.value_references.specs.declared.index.Index.TheVariants.{Bad, Is}
 use Rattle.value_references.specs.declared.index.Flaw.{Flaw}
 use Rattle.value_references.specs.declared.index.Flaw.TheVariants.{Form, Zero, Over}
 use Rattle.value_references.proofs.Laws.Indices.{Bracket, index_read, index_zero, index_over, index_is}
-use Rattle.book_names.specs.Names.{Piece, byte, place, Entry, kind_of, family_of, form_of, misses, on_match, fits, first_of}
+use Rattle.book_names.specs.Names.{Piece, byte, place, Entry, kind_of, family_of, form_of, misses, on_match, fits, first_of, Found, known_as}
 use Rattle.book_names.specs.Steps.{width_in, taken_in, Place, flawed, flaw_of}
 use Rattle.book_names.specs.declared.Match.{Match}
 use Rattle.book_names.specs.declared.Match.TheVariants.{Differs, Misses, Fits}
-use Rattle.book_names.specs.declared.Found.{Found}
-use Rattle.book_names.specs.declared.Found.TheVariants.{Unknown, Known}
 use Rattle.book_names.proofs.Laws.Flaws.{marked_again, on_some}
 use Rattle.book_names.proofs.Laws.Turns.{on_place, place_fits}
 use Rattle.book_names.proofs.Laws.Alike.{alike}
@@ -244,7 +243,7 @@ pub record Misspelled (es : List Entry) (name : List ℕ) (z : Flaw) : Type 0 wh
   pub inside : line < length es
   pub like : Spelled (form_of (nth es line)) name z
 
-pub unknown_flaw : (es : List Entry) (name : List ℕ) (e : ℕ) (z : Flaw) → first_of e es name ≡ Unknown z → (z ≡ Form → ⊥) → Misspelled es name z
+pub unknown_flaw : (es : List Entry) (name : List ℕ) (e : ℕ) (z : Flaw) → first_of e es name ≡ Err z → (z ≡ Form → ⊥) → Misspelled es name z
 unfolding first_of
 unknown_flaw [] name e z h n = let q : z ≡ Form = cc in absurd (n q)
 unknown_flaw (x ∷ es) name e z h n = go (fits (form_of x) name 0 0) refl h (λ q. below (unknown_flaw es name (e + 1) z q n))
@@ -263,13 +262,13 @@ unknown_flaw (x ∷ es) name e z h n = go (fits (form_of x) name 0 0) refl h (λ
     first Zero w q s rest = here (q ∙ ap Misses s)
     first Over w q s rest = here (q ∙ ap Misses s)
 
-    after : (y : Flaw) (d : Found) → first_of (e + 1) es name ≡ d → fits (form_of x) name 0 0 ≡ Misses y → misses y d ≡ Unknown z
-        → (first_of (e + 1) es name ≡ Unknown z → Misspelled (x ∷ es) name z) → Misspelled (x ∷ es) name z
-    after y (Unknown w) r q h rest = let s : sooner y w ≡ z = cc in first y w q s (λ (k : w ≡ z). rest (r ∙ ap Unknown k))
-    after y (Known f k g i j) r q h rest = absurd (let o : ◌≡◌ {A = ℕ} 0 1 = cc in omega arith)
+    after : (y : Flaw) (d : Found) → first_of (e + 1) es name ≡ d → fits (form_of x) name 0 0 ≡ Misses y → misses y d ≡ Err z
+        → (first_of (e + 1) es name ≡ Err z → Misspelled (x ∷ es) name z) → Misspelled (x ∷ es) name z
+    after y (Err w) r q h rest = let s : sooner y w ≡ z = cc in first y w q s (λ (k : w ≡ z). rest (r ∙ ap Err k))
+    after y (Ok k) r q h rest = absurd (let o : ◌≡◌ {A = ℕ} 0 1 = cc in omega arith)
 
-    go : (m : Match) → fits (form_of x) name 0 0 ≡ m → on_match m (first_of (e + 1) es name) (λ i j. Known e (kind_of x) (family_of x) i j) ≡ Unknown z
-        → (first_of (e + 1) es name ≡ Unknown z → Misspelled (x ∷ es) name z) → Misspelled (x ∷ es) name z
+    go : (m : Match) → fits (form_of x) name 0 0 ≡ m → on_match m (first_of (e + 1) es name) (λ i j. known_as e (kind_of x) (family_of x) i j) ≡ Err z
+        → (first_of (e + 1) es name ≡ Err z → Misspelled (x ∷ es) name z) → Misspelled (x ∷ es) name z
     go Differs q h rest = rest h
     go (Misses y) q h rest = after y (first_of (e + 1) es name) refl q h rest
     go (Fits i j) q h rest = absurd (let o : ◌≡◌ {A = ℕ} 0 1 = cc in omega arith)

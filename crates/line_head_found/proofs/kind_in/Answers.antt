@@ -3,5 +3,5 @@ use mathlib.Core.Path.{sym, ap}
 use Rattle.rules.specs.Rules.{kind_in}
 use Rattle.line_head_found.proofs.kind_in.Goals as goal
 
-pub returns-in-Known : goal.returns-in-Known
-returns-in-Known c = sym (ap kind_in c.in-Known.is)
+pub returns-in-Ok : goal.returns-in-Ok
+returns-in-Ok c = sym (ap kind_in c.in-Ok.is)

@@ -3,8 +3,8 @@ use mathlib.Core.Path.{ap, ◌∙◌}
 use mathlib.Core.Bool.{Bool, cond}
 use Rattle.line_head_found.proofs.name_rule.Goals as goal
 
-pub returns-in-Unknown : goal.returns-in-Unknown
-returns-in-Unknown c = rw c.in-Unknown.is c.flaw_rule.ensures
+pub returns-in-Err : goal.returns-in-Err
+returns-in-Err c = rw c.in-Err.is c.flaw_rule.ensures
 
-pub returns-in-Known : goal.returns-in-Known
-returns-in-Known c = rw c.in-Known.is (c.rule_if.ensures ∙ ap (λ (t : Bool). cond t 15 0) (rw c.in-Known.is at c.undeclared.ensures))
+pub returns-in-Ok : goal.returns-in-Ok
+returns-in-Ok c = rw c.in-Ok.is (c.rule_if.ensures ∙ ap (λ (t : Bool). cond t 15 0) (rw c.in-Ok.is at c.undeclared.ensures))

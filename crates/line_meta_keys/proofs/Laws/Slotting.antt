@@ -8,12 +8,12 @@ use lib.Dec.{eqb}
 use lib.Seq.{get_or-set_same, get_or-set_other}
 use lib.ListN.{length, get_or, set, length-set}
 use borrow.Author.Tests.{eqb-true, eqb-false}
+use Rattle.std.specs.Prelude.{Ok, Err}
 use Rattle.text_bytes.specs.Bytes.{Bytes, first_kept}
 use Rattle.text_bytes.proofs.Laws.Firsts.{kept_none}
-use Rattle.book_names.specs.Names.{slot_of}
+use Rattle.book_names.specs.declared.Known.{Known}
+use Rattle.book_names.specs.Names.{slot_of, Found}
 use Rattle.book.specs.Book.{SLOTS, Book, key_entries, key_of}
-use Rattle.book_names.specs.declared.Found.{Found}
-use Rattle.book_names.specs.declared.Found.TheVariants.{Unknown, Known}
 use Rattle.book_names.proofs.Laws.Known.{slot_below}
 use Rattle.scan.specs.Machine.{is_slot, FIRSTS, header_slot}
 use Rattle.line_meta_keys.specs.Keys.{InSlots, slotted}
@@ -26,18 +26,18 @@ unfolding key_of
 in_slots t x = go (key_of (book_in t) x) refl
   where
     go : (r : Found) → key_of (book_in t) x ≡ r → InSlots (book_in t) r
-    go (Unknown w) q = tt
-    go (Known e k f i j) q =
-        let s = slot_below (key_entries (book_in t)) x e k f i j q in
+    go (Err w) q = tt
+    go (Ok k) q =
+        let s = slot_below (key_entries (book_in t)) x k.entry k.kind k.family k.i k.j q in
         (omega (arith, s.0), omega (arith, s.1, (book_sized t).slots))
 
-pub inside : (b : Book) {r : Found} {e k f i j : ℕ} → r ≡ Known e k f i j → InSlots b r → (e ≤ length (key_entries b)) × (slot_of (key_entries b) e i j < SLOTS)
+pub inside : (b : Book) {r : Found} {k : Known} → r ≡ Ok k → InSlots b r → (k.entry ≤ length (key_entries b)) × (slot_of (key_entries b) k.entry k.i k.j < SLOTS)
 inside b q h = rw q at h
 
 module _ (b : Book) (slots : List ℕ) (whole : length slots ≡ FIRSTS) (n : ℕ) where
   pub marked_length : (r : Found) → length (slotted b slots r n) ≡ FIRSTS
-  marked_length (Unknown w) = whole
-  marked_length (Known e k f i j) = length-set slots (slot_of (key_entries b) e i j) _ ∙ whole
+  marked_length (Err w) = whole
+  marked_length (Ok k) = length-set slots (slot_of (key_entries b) k.entry k.i k.j) _ ∙ whole
 
   set_slot : (s i : ℕ) → i < SLOTS → get_or (set slots s (first_kept (get_or slots s 0) true n)) i 0 ≡ first_kept (get_or slots i 0) (eqb s i) n
   set_slot s i h = go (eqb s i) refl
@@ -47,10 +47,10 @@ module _ (b : Book) (slots : List ℕ) (whole : length slots ≡ FIRSTS) (n : �
       go false e = get_or-set_other slots s i (first_kept (get_or slots s 0) true n) 0 (λ z. eqb-false s i e (sym z)) ∙ kept_none (get_or slots i 0) n
 
   pub marked_slot : (r : Found) (i : ℕ) → i < SLOTS → get_or (slotted b slots r n) i 0 ≡ first_kept (get_or slots i 0) (is_slot b i r) n
-  marked_slot (Unknown w) i h = kept_none (get_or slots i 0) n
-  marked_slot (Known e k f i₁ j) i h = set_slot (slot_of (key_entries b) e i₁ j) i h
+  marked_slot (Err w) i h = kept_none (get_or slots i 0) n
+  marked_slot (Ok k) i h = set_slot (slot_of (key_entries b) k.entry k.i k.j) i h
 
   -- no slot of headers is one of a key's
   pub marked_header : (r : Found) → InSlots b r → (i : ℕ) → get_or (slotted b slots r n) (header_slot i) 0 ≡ get_or slots (header_slot i) 0
-  marked_header (Unknown w) h i = refl
-  marked_header (Known e k f i₁ j) h i = get_or-set_other slots (slot_of (key_entries b) e i₁ j) (header_slot i) _ 0 (λ z. omega (arith, h.1, z))
+  marked_header (Err w) h i = refl
+  marked_header (Ok k) h i = get_or-set_other slots (slot_of (key_entries b) k.entry k.i k.j) (header_slot i) _ 0 (λ z. omega (arith, h.1, z))

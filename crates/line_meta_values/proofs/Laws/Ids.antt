@@ -6,19 +6,18 @@ use mathlib.Core.List.{List, [], ◌∷◌}
 use native.Mathlib.Omega.{arith}
 use lib.Dec.{eqb, ltb}
 use borrow.Author.Tests.{ltb-true, eqb-true, eqb-false}
+use Rattle.std.specs.Prelude.{Ok, Err}
 use Rattle.text_bytes.specs.Bytes.{Bytes, bytes, any, all}
 use Rattle.text.specs.Lines.{lines}
 use Rattle.text_bytes.proofs.Laws.Each.{all_at}
 use Rattle.value_references.specs.References.{ref_to, refs_to}
 use Rattle.book.specs.Letters.{REFERENCE, REFERENCES}
-use Rattle.book_names.specs.Names.{Entry, entry, pieces_from, entry_of, kind_of, family_of}
+use Rattle.book_names.specs.Names.{Entry, entry, pieces_from, entry_of, kind_of, family_of, Found, known_as}
 use Rattle.book.specs.Book.{key_entries, key_of, mz_tab}
 use Rattle.book.specs.Text.{book_in}
 use Rattle.book.specs.Keys.{keys}
 use Rattle.book_ids.specs.Ids.{declares, declared, Declared}
 use Rattle.book_kinds.specs.Kinds.{family_number, word_of, of_kind}
-use Rattle.book_names.specs.declared.Found.{Found}
-use Rattle.book_names.specs.declared.Found.TheVariants.{Unknown, Known}
 use Rattle.book_names.proofs.Laws.Known.{known}
 use Rattle.rules.specs.Rules.{named_in, is_undeclared, names_undeclared}
 use Rattle.scan.specs.Machine.{Ids, ids_of, undeclared_in, Declares}
@@ -38,7 +37,7 @@ keys_name : (t : Bytes) → all key_names (key_entries (book_in t)) ≡ true
 unfolding all key_names family_number entry_of pieces_from bytes book_in mz_tab keys
 keys_name t = refl
 
-module _ (t : Bytes) (x : Bytes) (e k f i j : ℕ) (q : key_of (book_in t) x ≡ Known e k f i j) where
+module _ (t : Bytes) (x : Bytes) (e k f i j : ℕ) (q : key_of (book_in t) x ≡ known_as e k f i j) where
   key_family : is_naming k ≡ true → family_number f < 4
   unfolding key_of key_names
   key_family h =
@@ -54,7 +53,7 @@ module _ (t : Bytes) (x : Bytes) (e k f i j : ℕ) (q : key_of (book_in t) x ≡
 
 -- THE LAWS
 module _ (t : Bytes) (file : List Bytes) (ids : Ids) (d : Declares (book_in t) file ids) where
-  module _ (x v : Bytes) (e k f i j : ℕ) (q : key_of (book_in t) x ≡ Known e k f i j) (good : of_kind k f v ≡ true) where
+  module _ (x v : Bytes) (e k f i j : ℕ) (q : key_of (book_in t) x ≡ known_as e k f i j) (good : of_kind k f v ≡ true) where
     abbrev Alike : List ℕ → Type 0
     Alike is = any (is_undeclared (book_in t) file (family_number f)) is ≡ any (λ n. not (ids (family_number f) n)) is
 
@@ -79,12 +78,12 @@ module _ (t : Bytes) (file : List Bytes) (ids : Ids) (d : Declares (book_in t) f
   value_ids x v = go (key_of (book_in t) x) refl
     where
       go : (r : Found) → key_of (book_in t) x ≡ r → names_undeclared (book_in t) file r v ≡ undeclared_in ids r v
-      go (Unknown w) q = refl
-      go (Known e k f i j) q = by (of_kind k f v) refl
+      go (Err w) q = refl
+      go (Ok k) q = by (of_kind k.kind k.family v) refl
         where
-          by : (y : Bool) → of_kind k f v ≡ y
-              → (y && any (is_undeclared (book_in t) file (family_number f)) (named_in k f v)) ≡ (y && any (λ n. not (ids (family_number f) n)) (named_in k f v))
-          by true g = named_ids x v e k f i j q g
+          by : (y : Bool) → of_kind k.kind k.family v ≡ y
+              → (y && any (is_undeclared (book_in t) file (family_number k.family)) (named_in k.kind k.family v)) ≡ (y && any (λ n. not (ids (family_number k.family) n)) (named_in k.kind k.family v))
+          by true g = named_ids x v k.entry k.kind k.family k.i k.j q g
           by false g = refl
 
 -- the flags of a file are its ids

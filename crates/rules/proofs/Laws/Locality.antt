@@ -9,6 +9,8 @@ use lib.Dec.{eqb, ltb}
 use lib.ListN.{length, get_or, take, set, length-set}
 use lib.Seq.{get_or-set_same, get_or-set_other}
 use borrow.Author.Tests.{lt-ltb, le-ltb, eqb-false}
+use Rattle.std.specs.Prelude.{Ok, Err}
+use Rattle.book_names.specs.Names.{Found}
 use Rattle.text_bytes.specs.Bytes.{Bytes, bytes, any, all, is_empty, same, split_on, on_first}
 use Rattle.text_bytes.proofs.Laws.Tests.{absurd_bool}
 use Rattle.text.specs.Lines.{lines, cells, cell}
@@ -17,8 +19,6 @@ use Rattle.text.proofs.Laws.Splicing.{edited_cells, edited_some, edited_lines}
 use Rattle.value_references.specs.Index.{MOST}
 use Rattle.book.specs.Letters.{ASSAYS}
 use Rattle.book.specs.Book.{Book, Demand, Want, want, section_of, up_from, book_of, mz_tab, coded_from}
-use Rattle.book_names.specs.declared.Found.{Found}
-use Rattle.book_names.specs.declared.Found.TheVariants.{Unknown as NotFound, Known}
 use Rattle.book_kinds.specs.Kinds.{family_number}
 use Rattle.book_ids.specs.Ids.{declares}
 use Rattle.book_facts.specs.Facts.{mode_in, type_in, mode_of, type_of}
@@ -51,12 +51,12 @@ module _ (b : Book) {file file' : List Bytes} (f : Alikes b file file') where
   undeclared_alike k i = rw (any_blind b (declares_blind b k i) f)
 
   names_alike : (o : Found) (v : Bytes) → names_undeclared b file o v ≡ names_undeclared b file' o v
-  names_alike (NotFound w) v = refl
-  names_alike (Known e k n i j) v = rw (any_same (is_undeclared b file (family_number n)) (is_undeclared b file' (family_number n)) (undeclared_alike (family_number n)) (named_in k n v))
+  names_alike (Err w) v = refl
+  names_alike (Ok k) v = rw (any_same (is_undeclared b file (family_number k.family)) (is_undeclared b file' (family_number k.family)) (undeclared_alike (family_number k.family)) (named_in k.kind k.family v))
 
   column_alike : (o : Found) → column_undeclared b file o ≡ column_undeclared b file' o
-  column_alike (NotFound w) = refl
-  column_alike (Known e k n i j) = rw (undeclared_alike (family_number n) (last_index i j))
+  column_alike (Err w) = refl
+  column_alike (Ok k) = rw (undeclared_alike (family_number k.family) (last_index k.i k.j))
 
   declared_alike : (n : ℕ) → is_declared b file n ≡ is_declared b file' n
   declared_alike n = any_same (λ i. any (declares b n i) file) (λ i. any (declares b n i) file') (λ i. any_blind b (declares_blind b n i) f) (up_from MOST 1)

@@ -9,17 +9,16 @@ use native.Mathlib.Omega.{arith, by_contra}
 use lib.Dec.{eqb, leb, ltb}
 use lib.ListN.{length, get_or, drop, length-map, get_or-map}
 use borrow.Author.Tests.{eq-eqb, ne_eqb, eqb-true, eqb-false, le-leb, lt-ltb, leb-true, ltb-true}
+use Rattle.std.specs.Prelude.{Ok, Err}
 use Rattle.text_bytes.specs.Bytes.{Bytes, bytes, any, all, count}
 use Rattle.text_bytes.proofs.Laws.Same.{same_equal}
 use Rattle.text_bytes.proofs.Laws.Tests.{and_both}
 use Rattle.text.specs.Lines.{cell, is_field}
-use Rattle.book_names.specs.Names.{Entry, entry_of, form_of, pieces_from, pieces, start_of, slot_of}
+use Rattle.book_names.specs.Names.{Entry, entry_of, form_of, pieces_from, pieces, start_of, slot_of, Found, known_as}
 use Rattle.book.specs.Letters.{ASSAYS}
 use Rattle.book_ids.specs.Ids.{declares, is_marked}
 use Rattle.book_facts.specs.Asked.{is_declared, asked_of}
 use Rattle.value_references.specs.Index.{MOST}
-use Rattle.book_names.specs.declared.Found.{Found}
-use Rattle.book_names.specs.declared.Found.TheVariants.{Unknown, Known}
 use Rattle.book_names.proofs.Laws.Known.{Of, known_of, holes, nth, among_one, start_rise, start_mono, slot_before, slot_inside, slot_apart}
 use Rattle.book.specs.Book.{SECTIONS, SLOTS, Demand, ONCE, Want, want, cell_of, up_from, wants_of, wants_in, wants, Book, has_form, key_of, key_entries}
 use Rattle.book.specs.Text.{entry_for}
@@ -228,7 +227,7 @@ module _ (b : Book) (sized : Sized b) (w : Want) (sound : is_sound b.keys w.dema
   span = end_slot b w - first_slot b w
 
   -- for any line with such a key
-  any_slot : w.index ≡ 0 → (e k f i j : ℕ) → Of es e i j → any (λ s. is_slot b s (Known e k f i j)) (up_from span begin) ≡ is_wanted b w (Known e k f i j)
+  any_slot : w.index ≡ 0 → (e k f i j : ℕ) → Of es e i j → any (λ s. is_slot b s (known_as e k f i j)) (up_from span begin) ≡ is_wanted b w (known_as e k f i j)
   any_slot z e k f i j o =
       let a : start_of es E + (w.index - 1) ≡ start_of es E = omega arith in
       rw (eq-eqb w.index 0 z, a, and-true (has_form w.demand.form (get_or b.keys e "")))
@@ -242,7 +241,7 @@ module _ (b : Book) (sized : Sized b) (w : Want) (sound : is_sound b.keys w.dema
     its_shape : Of es E w.index 0
     its_shape = record { inside = inside; shape = record { few = omega (arith, its_one); i_high = high; i_most = omega (arith, its_one); i_least = omega (arith, its_one); j_most = omega arith; j_least = omega (arith, its_one) } }
 
-    id_slot : (e k f i j : ℕ) → Of es e i j → any (λ s. is_slot b s (Known e k f i j)) (up_from span begin) ≡ is_wanted b w (Known e k f i j)
+    id_slot : (e k f i j : ℕ) → Of es e i j → any (λ s. is_slot b s (known_as e k f i j)) (up_from span begin) ≡ is_wanted b w (known_as e k f i j)
     unfolding any up_from
     id_slot e k f i j o =
         let n : w.index ≡ 0 → ⊥ = λ (q : w.index ≡ 0). omega arith in
@@ -268,10 +267,10 @@ module _ (b : Book) (sized : Sized b) (w : Want) (sound : is_sound b.keys w.dema
   module _ (ways : (w.index ≡ 0) ⊎ ((is_each w.demand ≡ true) × (1 ≤ w.index) × (w.index ≤ MOST))) where
     form_slot : (m : Bytes) (r : Found) → key_found b m ≡ r → any (λ s. is_slot b s r) (up_from span begin) ≡ is_wanted b w r
     unfolding key_of
-    form_slot m (Unknown u) q = any_false (up_from span begin)
-    form_slot m (Known e k f i j) q =
-        let o = known_of es (cell 2 m) e k f i j q in
-        ⊎_elim (λ z. any_slot z e k f i j o) (λ z. id_slot z.0 z.1 z.2 e k f i j o) ways
+    form_slot m (Err u) q = any_false (up_from span begin)
+    form_slot m (Ok k) q =
+        let o = known_of es (cell 2 m) k.entry k.kind k.family k.i k.j q in
+        ⊎_elim (λ z. any_slot z k.entry k.kind k.family k.i k.j o) (λ z. id_slot z.0 z.1 z.2 k.entry k.kind k.family k.i k.j o) ways
 
     line_slot : (m : Bytes) → any (λ s. has_slot b s m) (up_from span begin) ≡ has_key b w m
     unfolding has_slot has_key

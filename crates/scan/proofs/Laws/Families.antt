@@ -7,15 +7,15 @@ use native.Mathlib.Omega.{arith}
 use lib.Dec.{eqb, ltb}
 use lib.ListN.{length}
 use borrow.Author.Tests.{ltb-true, eqb-false, ne_eqb}
+use Rattle.std.specs.Prelude.{Ok, Err}
 use Rattle.text_bytes.specs.Bytes.{Bytes, bytes, all}
 use Rattle.text_bytes.proofs.Laws.Tests.{and_both}
 use Rattle.text_bytes.proofs.Laws.Each.{all_at}
 use Rattle.book.specs.Letters.{NONE}
-use Rattle.book_names.specs.Names.{Entry, entry, entry_of, family_of, form_of, pieces_from, lookup_in}
+use Rattle.book_names.specs.declared.Known.{Known}
+use Rattle.book_names.specs.Names.{Entry, entry, entry_of, family_of, form_of, pieces_from, lookup_in, Found, known_as}
 use Rattle.book_kinds.specs.Kinds.{family_number}
 use Rattle.value_references.specs.declared.index.Flaw.TheVariants.{Form}
-use Rattle.book_names.specs.declared.Found.{Found}
-use Rattle.book_names.specs.declared.Found.TheVariants.{Unknown, Known}
 use Rattle.book_names.proofs.Laws.Known.{holes, nth, Shape, known}
 use Rattle.rules.specs.Rules.{last_index, is_undeclared, column_undeclared}
 use Rattle.scan.specs.Machine.{Ids, column_in, Within, Declares}
@@ -40,15 +40,15 @@ last_within h i j l s = go (eqb j 0) refl
     go false e = let n = eqb-false j 0 e in (omega arith, omega (arith, s.j_most, s.few))
 
 found_within : (t : Bytes) (section : ℕ) (name : Bytes) (r : Found) → lookup_in (column_entries (book_in t) section) name ≡ r → Within r
-found_within t section name (Unknown w) h = tt
-found_within t section name (Known e k f i j) h =
+found_within t section name (Err w) h = tt
+found_within t section name (Ok k) h =
     λ none.
-    let a = known (column_entries (book_in t) section) name e k f i j h in
-    let x = nth (column_entries (book_in t) section) e in
+    let a = known (column_entries (book_in t) section) name k.entry k.kind k.family k.i k.j h in
+    let x = nth (column_entries (book_in t) section) k.entry in
     let named : eqb (family_of x) NONE ≡ false = rw a.family at none in
-    let u : (ltb (family_number (family_of x)) 4 && ltb 0 (holes (form_of x))) ≡ true = rw named at (all_at has_place (column_entries (book_in t) section) (entry 0 0 []) e (tables_have t section) a.inside) in
+    let u : (ltb (family_number (family_of x)) 4 && ltb 0 (holes (form_of x))) ≡ true = rw named at (all_at has_place (column_entries (book_in t) section) (entry 0 0 []) k.entry (tables_have t section) a.inside) in
     let q = and_both (ltb (family_number (family_of x)) 4) (ltb 0 (holes (form_of x))) u in
-    let w = last_within (holes (form_of x)) i j (ltb-true 0 (holes (form_of x)) q.1) a.shape in
+    let w = last_within (holes (form_of x)) k.i k.j (ltb-true 0 (holes (form_of x)) q.1) a.shape in
     (rw a.family (ltb-true (family_number (family_of x)) 4 q.0), w.0, w.1)
 
 -- THE LAW, over any name
@@ -56,21 +56,21 @@ pub column_within : (t : Bytes) (section : ℕ) (name : Bytes) → Within (colum
 unfolding column_of opt_of
 column_within t section name = go (is_opt name) (ltb 4 (length name)) (found_within t section name (lookup_in (column_entries (book_in t) section) name) refl)
   where
-    go : (v u : Bool) → Within (lookup_in (column_entries (book_in t) section) name) → Within (cond v (cond u (Known 255 84 45 0 0) (Unknown Form)) (lookup_in (column_entries (book_in t) section) name))
+    go : (v u : Bool) → Within (lookup_in (column_entries (book_in t) section) name) → Within (cond v (cond u (known_as 255 84 45 0 0) (Err Form)) (lookup_in (column_entries (book_in t) section) name))
     go true true w = λ h. absurd (let z : ◌≡◌ {A = ℕ} 0 1 = cc in omega arith)
     go true false w = tt
     go false u w = w
 
 -- what a found column says of ids
-module _ {e k f i j : ℕ} (r : Found) (q : r ≡ Known e k f i j) where
-  pub within_named : Within r → (f ≡ NONE → ⊥) → (family_number f < 4) × (1 ≤ last_index i j) × (last_index i j ≤ 64)
-  within_named w ne = subst Within q w (ne_eqb f NONE ne)
+module _ {k : Known} (r : Found) (q : r ≡ Ok k) where
+  pub within_named : Within r → (k.family ≡ NONE → ⊥) → (family_number k.family < 4) × (1 ≤ last_index k.i k.j) × (last_index k.i k.j ≤ 64)
+  within_named w ne = subst Within q w (ne_eqb k.family NONE ne)
 
-  pub column_none : (ids : Ids) → f ≡ NONE → column_in ids r ≡ false
+  pub column_none : (ids : Ids) → k.family ≡ NONE → column_in ids r ≡ false
   column_none ids n = rw (q, n)
 
-  pub column_named_lem : (ids : Ids) → (f ≡ NONE → ⊥) → column_in ids r ≡ not (ids (family_number f) (last_index i j))
-  column_named_lem ids ne = rw (q, ne_eqb f NONE ne)
+  pub column_named_lem : (ids : Ids) → (k.family ≡ NONE → ⊥) → column_in ids r ≡ not (ids (family_number k.family) (last_index k.i k.j))
+  column_named_lem ids ne = rw (q, ne_eqb k.family NONE ne)
 
 -- RULE 15, by the ids that are carried
 module _ (t : Bytes) (file : List Bytes) (ids : Ids) (d : Declares (book_in t) file ids) where
@@ -82,9 +82,9 @@ module _ (t : Bytes) (file : List Bytes) (ids : Ids) (d : Declares (book_in t) f
   column_ids section x = go (column_of (book_in t) section x) (column_within t section x)
     where
       go : (r : Found) → Within r → column_undeclared (book_in t) file r ≡ column_in ids r
-      go (Unknown z) w = refl
-      go (Known e k f i j) w = none (eqb f 45) refl
+      go (Err z) w = refl
+      go (Ok k) w = none (eqb k.family 45) refl
         where
-          none : (v : Bool) → eqb f 45 ≡ v → (not v && is_undeclared (book_in t) file (family_number f) (last_index i j)) ≡ (not v && not (ids (family_number f) (last_index i j)))
+          none : (v : Bool) → eqb k.family 45 ≡ v → (not v && is_undeclared (book_in t) file (family_number k.family) (last_index k.i k.j)) ≡ (not v && not (ids (family_number k.family) (last_index k.i k.j)))
           none true n = refl
-          none false n = let r = w n in undeclared_is (family_number f) (last_index i j) r.0 r.1 r.2
+          none false n = let r = w n in undeclared_is (family_number k.family) (last_index k.i k.j) r.0 r.1 r.2

@@ -7,14 +7,13 @@ use native.Mathlib.Omega.{arith}
 use borrow.Author.Tests.{eq-eqb, eqb-true}
 use lib.ListN.{get_or, get_or-map}
 use lib.Dec.{eqb}
+use Rattle.std.specs.Prelude.{Ok, Err}
 use Rattle.text_bytes.specs.Bytes.{Bytes, same, any, first_from}
 use Rattle.text_bytes.proofs.Laws.Tests.{absurd_bool}
 use Rattle.text_bytes.proofs.Laws.Firsts.{first_any, first_alike}
 use Rattle.text_bytes.proofs.Laws.Same.{same_equal, same_self}
-use Rattle.book_names.specs.Names.{slot_of, is_known}
+use Rattle.book_names.specs.Names.{slot_of, is_known, Found, known_as}
 use Rattle.book.specs.Keys.{is_colunit}
-use Rattle.book_names.specs.declared.Found.{Found}
-use Rattle.book_names.specs.declared.Found.TheVariants.{Unknown, Known}
 use Rattle.book_names.proofs.Laws.Known.{same_slot, slot_below}
 use Rattle.text.specs.Lines.{cell}
 use Rattle.rules.specs.Rules.{key_found, same_key}
@@ -46,9 +45,9 @@ module _ (book : Book) (sized : Sized book) where
   abbrev slot : ℕ → ℕ → ℕ → ℕ
   slot e i j = slot_of (key_entries book) e i j
 
-  module _ (x : Bytes) (e k f i j : ℕ) (q : key_of book x ≡ Known e k f i j) where
+  module _ (x : Bytes) (e k f i j : ℕ) (q : key_of book x ≡ known_as e k f i j) where
     -- a key with the same slot is the same
-    slot_equal : (y : Bytes) (e' k' f' i' j' : ℕ) → key_of book y ≡ Known e' k' f' i' j' → slot e' i' j' ≡ slot e i j → x ≡ y
+    slot_equal : (y : Bytes) (e' k' f' i' j' : ℕ) → key_of book y ≡ known_as e' k' f' i' j' → slot e' i' j' ≡ slot e i j → x ≡ y
     unfolding key_of
     slot_equal y e' k' f' i' j' u s = same_slot (key_entries book) x y e k f i j e' k' f' i' j' q u (sym s)
 
@@ -56,11 +55,11 @@ module _ (book : Book) (sized : Sized book) where
     slot_key y = test_eq (same x y) (is_slot book (slot e i j) (key_of book y)) there (back (key_of book y) refl)
       where
         there : same x y ≡ true → is_slot book (slot e i j) (key_of book y) ≡ true
-        there t = let z : key_of book y ≡ Known e k f i j = subst (λ (b : Bytes). key_of book b ≡ Known e k f i j) (same_equal x y t) q in rw z (eq-eqb (slot e i j) (slot e i j) refl)
+        there t = let z : key_of book y ≡ known_as e k f i j = subst (λ (b : Bytes). key_of book b ≡ known_as e k f i j) (same_equal x y t) q in rw z (eq-eqb (slot e i j) (slot e i j) refl)
 
         back : (r : Found) → key_of book y ≡ r → is_slot book (slot e i j) r ≡ true → same x y ≡ true
-        back (Unknown w) u t = absurd (let z : ◌≡◌ {A = ℕ} 0 1 = cc in omega arith)
-        back (Known e' k' f' i' j') u t = subst (λ (b : Bytes). same x b ≡ true) (slot_equal y e' k' f' i' j' u (eqb-true (slot e' i' j') (slot e i j) t)) (same_self x)
+        back (Err w) u t = absurd (let z : ◌≡◌ {A = ℕ} 0 1 = cc in omega arith)
+        back (Ok k) u t = subst (λ (b : Bytes). same x b ≡ true) (slot_equal y k.entry k.kind k.family k.i k.j u (eqb-true (slot k.entry k.i k.j) (slot e i j) t)) (same_self x)
 
     slot_in : slot e i j < SLOTS
     unfolding key_of
@@ -68,7 +67,7 @@ module _ (book : Book) (sized : Sized book) where
 
   -- a line has the key of l exactly where it has its slot
   module _ (l : Bytes) (above : List Bytes) (slots : List ℕ) (h : Slots book above slots) where
-    slot_first : (e k f i j : ℕ) → key_found book l ≡ Known e k f i j → get_or slots (slot e i j) 0 ≡ first_from 1 (same_key l) above
+    slot_first : (e k f i j : ℕ) → key_found book l ≡ known_as e k f i j → get_or slots (slot e i j) 0 ≡ first_from 1 (same_key l) above
     unfolding same_key has_slot
     slot_first e k f i j q =
         h (slot e i j) (slot_in (cell 2 l) e k f i j q) ∙ sym (first_alike (same_key l) (has_slot book (slot e i j)) (λ m. rw (slot_key (cell 2 l) e k f i j q (cell 2 m))) 1 above)
@@ -78,9 +77,9 @@ module _ (book : Book) (sized : Sized book) where
     repeats = go (key_found book l) refl
       where
         go : (r : Found) → key_found book l ≡ r → RepeatsAs book above slots l r
-        go (Unknown w) q = record { comes = refl; first = λ t. absurd_bool t }
-        go (Known e k f i j) q = by (is_colunit (cell 2 l)) refl
+        go (Err w) q = record { comes = refl; first = λ t. absurd_bool t }
+        go (Ok k) q = by (is_colunit (cell 2 l)) refl
           where
-            by : (t : Bool) → is_colunit (cell 2 l) ≡ t → RepeatsAs book above slots l (Known e k f i j)
+            by : (t : Bool) → is_colunit (cell 2 l) ≡ t → RepeatsAs book above slots l (Ok k)
             by true c = record { comes = rw c; first = λ t. absurd_bool (rw c at t) }
-            by false c = record { comes = rw (c, slot_first e k f i j q) (sym (first_any (same_key l) 1 above (omega arith))); first = λ t. rw (c, slot_first e k f i j q) }
+            by false c = record { comes = rw (c, slot_first k.entry k.kind k.family k.i k.j q) (sym (first_any (same_key l) 1 above (omega arith))); first = λ t. rw (c, slot_first k.entry k.kind k.family k.i k.j q) }

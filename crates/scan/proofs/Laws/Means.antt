@@ -8,6 +8,7 @@ use lib.Dec.{eqb, ltb, leb}
 use lib.Seq.{get_or-drop}
 use lib.ListN.{length, take, drop, get_or, length-drop}
 use borrow.Author.Tests.{ne_eqb, le-leb, lt-ltb, le-ltb, leb-true, leb-false, eqb-true}
+use Rattle.std.specs.Prelude.{Ok, Err}
 use Rattle.text_bytes.specs.Bytes.{Bytes, same, any, first_from}
 use Rattle.text.specs.Lines.{cells, cell, width, is_three, is_field}
 use Rattle.text_bytes.proofs.Laws.Tests.{and_both}
@@ -16,9 +17,7 @@ use Rattle.book.specs.Keys.{is_colunit}
 use Rattle.value_references.specs.Index.{is_form, is_zero, is_over}
 use Rattle.value_references.specs.declared.index.Flaw.{Flaw}
 use Rattle.value_references.specs.declared.index.Flaw.TheVariants.{Form, Zero, Over}
-use Rattle.book_names.specs.Names.{is_known, is_strange, why_not}
-use Rattle.book_names.specs.declared.Found.{Found}
-use Rattle.book_names.specs.declared.Found.TheVariants.{Unknown, Known}
+use Rattle.book_names.specs.Names.{is_known, is_strange, why_not, Found}
 use Rattle.book_kinds.specs.Kinds.{family_number, of_kind, kind_flaw}
 use Rattle.book_kinds.proofs.Laws.Letters.{good_none}
 use Rattle.book_facts.specs.Asked.{asked_of}
@@ -105,14 +104,14 @@ module _ (book : Book) (sized : Sized book) where
     of_value false undeclared Over h = refl
 
     of_key : (found : Found) → when (is_strange found) (break_at n c 5) (again_at 6 n c (first_in book slots key found) (bad n c rest (why_not found))) ≡ rule_at (key_rule (first_in book slots key found) found) n c (first_in book slots key found) rest
-    of_key (Unknown Form) = refl
-    of_key (Unknown Zero) = refl
-    of_key (Unknown Over) = refl
-    of_key (Known e k f i j) = rule_when 6 n c (first_in book slots key (Known e k f i j)) rest refl (not (eqb (first_in book slots key (Known e k f i j)) 0))
+    of_key (Err Form) = refl
+    of_key (Err Zero) = refl
+    of_key (Err Over) = refl
+    of_key (Ok k) = rule_when 6 n c (first_in book slots key (Ok k)) rest refl (not (eqb (first_in book slots key (Ok k)) 0))
 
     at_value : (found : Found) → when (is_wrong found value) (break_at n c 7) (when (undeclared_in ids found value) (break_at n c 8) (bad n c rest (value_flaw found value))) ≡ rule_at (value_rule ids found value) n c 0 rest
-    at_value (Unknown w) = refl
-    at_value (Known e k f i j) = of_value (of_kind k f value) (any (λ i. not (ids (family_number f) i)) (named_in k f value)) (kind_flaw k f value) (good_none k f value)
+    at_value (Err w) = refl
+    at_value (Ok k) = of_value (of_kind k.kind k.family value) (any (λ a. not (ids (family_number k.family) a)) (named_in k.kind k.family value)) (kind_flaw k.kind k.family value) (good_none k.kind k.family value)
 
     abbrev found : Found
     found = key_of book key
@@ -141,10 +140,10 @@ module _ (book : Book) (sized : Sized book) where
   -- of a column name: 15, 23 and 24
   name_rules : (ids : Ids) (found : Found) (n c : ℕ) (rest : List Break)
       → when (column_in ids found) (break_at n c 15) (bad n c rest (why_not found)) ≡ rule_at (name_rule ids found) n c 0 rest
-  name_rules ids (Unknown Form) n c rest = refl
-  name_rules ids (Unknown Zero) n c rest = refl
-  name_rules ids (Unknown Over) n c rest = refl
-  name_rules ids (Known e k f i j) n c rest = rule_when 15 n c 0 rest refl (column_in ids (Known e k f i j))
+  name_rules ids (Err Form) n c rest = refl
+  name_rules ids (Err Zero) n c rest = refl
+  name_rules ids (Err Over) n c rest = refl
+  name_rules ids (Ok k) n c rest = rule_when 15 n c 0 rest refl (column_in ids (Ok k))
 
   -- THE CELLS OF A LINE, BY ITS SORT
 

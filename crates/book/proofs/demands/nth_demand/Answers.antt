@@ -1,126 +1,31 @@
 -- `book::demands::nth_demand` meets its contract: the demands stand behind the directory, seven bytes each. Assumes nothing.
-use borrow.Author.Rules.{rules}
 use native.Mathlib.Omega.{arith}
 use mathlib.Core.Path.{◌≡◌, ap, ◌∙◌}
-use Prim.Native.Nat.{ℕ, ◌+◌, ◌*◌, ◌≤◌}
-use lib.ListN.{length, get_or}
-use Rattle.book.specs.Text.{demand_at, number_at}
+use mathlib.Core.List.{List}
+use Prim.Native.Nat.{ℕ, ◌+◌, ◌*◌, ◌-◌, ◌<◌}
+use lib.ListN.{get_or, take, drop}
+use lib.Seq.{get_or-take, get_or-drop}
+use Rattle.book.specs.Text.{demand_at}
 use Rattle.book.proofs.demands.nth_demand.Goals as goal
 
-pub bounds-book-1 : goal.bounds-book-1
-bounds-book-1 c = omega (arith, c.requires.book.directory.size)
-
-pub overflow_add-at : goal.overflow_add-at
-overflow_add-at c =
-    let room : 14 + 12 * (c.wide.result + 1) + 7 * c.args.k + 7 ≤ length c.args.book.now = omega (arith, c.wide.ensures, c.requires.book.demands.within, c.requires.k_in_bounds) in
-    omega (arith, room)
-
-pub overflow_mul-at : goal.overflow_mul-at
-overflow_mul-at c =
-    let room : 14 + 12 * (c.wide.result + 1) + 7 * c.args.k + 7 ≤ length c.args.book.now = omega (arith, c.wide.ensures, c.requires.book.demands.within, c.requires.k_in_bounds) in
-    omega (arith, room)
-
-pub overflow_add-at-2 : goal.overflow_add-at-2
-overflow_add-at-2 c =
-    let room : 14 + 12 * (c.wide.result + 1) + 7 * c.args.k + 7 ≤ length c.args.book.now = omega (arith, c.wide.ensures, c.requires.book.demands.within, c.requires.k_in_bounds) in
-    omega (arith, room)
-
-pub overflow_mul-at-2 : goal.overflow_mul-at-2
-overflow_mul-at-2 c =
-    let room : 14 + 12 * (c.wide.result + 1) + 7 * c.args.k + 7 ≤ length c.args.book.now = omega (arith, c.wide.ensures, c.requires.book.demands.within, c.requires.k_in_bounds) in
-    omega (arith, room)
-
-pub overflow_add-at-3 : goal.overflow_add-at-3
-overflow_add-at-3 c =
-    let room : 14 + 12 * (c.wide.result + 1) + 7 * c.args.k + 7 ≤ length c.args.book.now = omega (arith, c.wide.ensures, c.requires.book.demands.within, c.requires.k_in_bounds) in
-    omega (arith, room)
-
-pub bounds-book-at : goal.bounds-book-at
-bounds-book-at c =
-    let room : 14 + 12 * (c.wide.result + 1) + 7 * c.args.k + 7 ≤ length c.args.book.now = omega (arith, c.wide.ensures, c.requires.book.demands.within, c.requires.k_in_bounds) in
-    omega (arith, room)
-
-pub overflow_add-at-4 : goal.overflow_add-at-4
-overflow_add-at-4 c =
-    let room : 14 + 12 * (c.wide.result + 1) + 7 * c.args.k + 7 ≤ length c.args.book.now = omega (arith, c.wide.ensures, c.requires.book.demands.within, c.requires.k_in_bounds) in
-    omega (arith, room)
-
-pub bounds-book-at-2 : goal.bounds-book-at-2
-bounds-book-at-2 c =
-    let room : 14 + 12 * (c.wide.result + 1) + 7 * c.args.k + 7 ≤ length c.args.book.now = omega (arith, c.wide.ensures, c.requires.book.demands.within, c.requires.k_in_bounds) in
-    omega (arith, room)
-
-pub overflow_mul-cell : goal.overflow_mul-cell
-overflow_mul-cell c =
-    let place : ℕ = 14 + 12 * (c.wide.result + 1) + 7 * c.args.k in
-    omega (arith, c.narrow-high.ensures, c.shared_slice_known-4-1.given (place + 1))
-
-pub overflow_add-cell : goal.overflow_add-cell
-overflow_add-cell c =
-    let place : ℕ = 14 + 12 * (c.wide.result + 1) + 7 * c.args.k in
-    omega (arith, c.narrow-high.ensures, c.shared_slice_known-4-1.given (place + 1), c.narrow-low.ensures, c.shared_slice_known-3-1.given place)
-
-pub overflow_add-at-5 : goal.overflow_add-at-5
-overflow_add-at-5 c =
-    let room : 14 + 12 * (c.wide.result + 1) + 7 * c.args.k + 7 ≤ length c.args.book.now = omega (arith, c.wide.ensures, c.requires.book.demands.within, c.requires.k_in_bounds) in
-    omega (arith, room)
-
-pub bounds-book-at-3 : goal.bounds-book-at-3
-bounds-book-at-3 c =
-    let room : 14 + 12 * (c.wide.result + 1) + 7 * c.args.k + 7 ≤ length c.args.book.now = omega (arith, c.wide.ensures, c.requires.book.demands.within, c.requires.k_in_bounds) in
-    omega (arith, room)
-
-pub overflow_add-at-6 : goal.overflow_add-at-6
-overflow_add-at-6 c =
-    let room : 14 + 12 * (c.wide.result + 1) + 7 * c.args.k + 7 ≤ length c.args.book.now = omega (arith, c.wide.ensures, c.requires.book.demands.within, c.requires.k_in_bounds) in
-    omega (arith, room)
-
-pub bounds-book-at-4 : goal.bounds-book-at-4
-bounds-book-at-4 c =
-    let room : 14 + 12 * (c.wide.result + 1) + 7 * c.args.k + 7 ≤ length c.args.book.now = omega (arith, c.wide.ensures, c.requires.book.demands.within, c.requires.k_in_bounds) in
-    omega (arith, room)
-
-pub overflow_add-at-7 : goal.overflow_add-at-7
-overflow_add-at-7 c =
-    let room : 14 + 12 * (c.wide.result + 1) + 7 * c.args.k + 7 ≤ length c.args.book.now = omega (arith, c.wide.ensures, c.requires.book.demands.within, c.requires.k_in_bounds) in
-    omega (arith, room)
-
-pub bounds-book-at-5 : goal.bounds-book-at-5
-bounds-book-at-5 c =
-    let room : 14 + 12 * (c.wide.result + 1) + 7 * c.args.k + 7 ≤ length c.args.book.now = omega (arith, c.wide.ensures, c.requires.book.demands.within, c.requires.k_in_bounds) in
-    omega (arith, room)
-
-pub overflow_add-at-8 : goal.overflow_add-at-8
-overflow_add-at-8 c =
-    let room : 14 + 12 * (c.wide.result + 1) + 7 * c.args.k + 7 ≤ length c.args.book.now = omega (arith, c.wide.ensures, c.requires.book.demands.within, c.requires.k_in_bounds) in
-    omega (arith, room)
-
-pub bounds-book-at-6 : goal.bounds-book-at-6
-bounds-book-at-6 c =
-    let room : 14 + 12 * (c.wide.result + 1) + 7 * c.args.k + 7 ≤ length c.args.book.now = omega (arith, c.wide.ensures, c.requires.book.demands.within, c.requires.k_in_bounds) in
-    omega (arith, room)
-
-pub overflow_add-result : goal.overflow_add-result
-overflow_add-result c =
-    let room : 14 + 12 * (c.wide.result + 1) + 7 * c.args.k + 7 ≤ length c.args.book.now = omega (arith, c.wide.ensures, c.requires.book.demands.within, c.requires.k_in_bounds) in
-    omega (arith, room)
-
-pub bounds-book-at-7 : goal.bounds-book-at-7
-bounds-book-at-7 c =
-    let room : 14 + 12 * (c.wide.result + 1) + 7 * c.args.k + 7 ≤ length c.args.book.now = omega (arith, c.wide.ensures, c.requires.book.demands.within, c.requires.k_in_bounds) in
-    omega (arith, room)
+-- byte m of the seven that stand at p
+byte : (t : List ℕ) (p m : ℕ) → m < 7 → get_or (take (p + 7 - p) (drop p t)) m 0 ≡ get_or t (p + m) 0
+byte t p m h =
+    let w : p + 7 - p ≡ 7 = omega arith in
+    rw w (get_or-take 7 (drop p t) m 0 h ∙ get_or-drop p t m 0)
 
 pub returns : goal.returns
 returns c =
-    let place : ℕ = 14 + 12 * (c.wide.result + 1) + 7 * c.args.k in
-    let place_is : place ≡ demand_at c.args.book.now c.args.k = omega (arith, c.wide.ensures) in
-    let at : (m : ℕ) → get_or c.args.book.now (place + m) 0 ≡ get_or c.args.book.now (demand_at c.args.book.now c.args.k + m) 0 = λ m. ap (λ (i : ℕ). get_or c.args.book.now (i + m) 0) place_is in
+    let book : List ℕ = c.args.book.now in
+    let place : ℕ = 14 + 12 * (c.from.result + 1) + 7 * c.args.k in
+    let from : ℕ = demand_at book c.args.k in
+    let at : (m i : ℕ) → m < 7 → place + m ≡ i → get_or (take (place + 7 - place) (drop place book)) m 0 ≡ get_or book i 0 = λ m i h e. byte book place m h ∙ ap (λ (j : ℕ). get_or book j 0) e in
     record {
-      entry = c.wide-entry.ensures ∙ at 2 ∙ c.requires.book.demands.entries c.args.k c.requires.k_in_bounds;
-      cell = omega (arith, c.narrow-low.ensures, c.narrow-high.ensures) ∙ ap (number_at c.args.book.now) place_is ∙ c.requires.book.demands.cells c.args.k c.requires.k_in_bounds;
-      asked = at 3 ∙ c.requires.book.demands.asked c.args.k c.requires.k_in_bounds;
-      section = c.wide-section.ensures ∙ at 4 ∙ c.requires.book.demands.sections c.args.k c.requires.k_in_bounds;
-      each = c.wide-each.ensures ∙ at 5 ∙ c.requires.book.demands.families c.args.k c.requires.k_in_bounds;
-      rule = c.narrow-rule.ensures ∙ at 6 ∙ c.requires.book.demands.rules c.args.k c.requires.k_in_bounds;
-      fits = omega (arith, c.narrow-low.ensures, c.shared_slice_known-3-1.given place, c.narrow-high.ensures, c.shared_slice_known-4-1.given (place + 1));
+      entry = c.from-2.ensures ∙ at 2 (from + 2) (omega arith) (omega (arith, c.from.ensures)) ∙ c.requires.book.demands.entries c.args.k c.requires.k_in_bounds;
+      cell = omega (arith, c.from-4.ensures, c.from_le_bytes.ensures, at 0 from (omega arith) (omega (arith, c.from.ensures)), at 1 (from + 1) (omega arith) (omega (arith, c.from.ensures)), c.requires.book.demands.cells c.args.k c.requires.k_in_bounds);
+      asked = at 3 (from + 3) (omega arith) (omega (arith, c.from.ensures)) ∙ c.requires.book.demands.asked c.args.k c.requires.k_in_bounds;
+      section = c.from-5.ensures ∙ at 4 (from + 4) (omega arith) (omega (arith, c.from.ensures)) ∙ c.requires.book.demands.sections c.args.k c.requires.k_in_bounds;
+      each = c.from-6.ensures ∙ at 5 (from + 5) (omega arith) (omega (arith, c.from.ensures)) ∙ c.requires.book.demands.families c.args.k c.requires.k_in_bounds;
+      rule = c.from-3.ensures ∙ at 6 (from + 6) (omega arith) (omega (arith, c.from.ensures)) ∙ c.requires.book.demands.rules c.args.k c.requires.k_in_bounds;
+      fits = omega (arith, c.from-4.ensures, c.from_le_bytes.type_inv);
     }

@@ -5,18 +5,14 @@ use Prim.Native.Nat.{◌+◌}
 use lib.Dec.{ltb}
 use lib.ListN.{length}
 use Rattle.book.specs.Text.{book_in}
-use Rattle.book.proofs.Laws.Sized.{book_sized}
 use Rattle.book.proofs.Laws.Directing.{section_below, section_from}
 use Rattle.book.proofs.directory.is_section.Goals as goal
 
 pub returns-then-section-first : goal.returns-then-section-first
 returns-then-section-first c = sym (section_below (book_in c.args.text.now) c.args.section (omega arith))
 
-pub overflow_add-result : goal.overflow_add-result
-overflow_add-result c = omega (arith, (book_sized c.args.text.now).high)
-
 pub returns : goal.returns
 returns c =
     let b = book_in c.args.text.now in
-    let e : c.narrow-first.result + c.narrow-count.result ≡ b.first + length b.sections = omega arith in
+    let e : c.from-first.result + c.from-count.result ≡ b.first + length b.sections = omega arith in
     ap (ltb c.args.section) e ∙ sym (section_from b c.args.section (omega arith))

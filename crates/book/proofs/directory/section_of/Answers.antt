@@ -2,7 +2,7 @@
 use borrow.Author.Rules.{rules}
 use native.Mathlib.Omega.{arith}
 use mathlib.Core.Path.{ap, sym, ◌∙◌}
-use Prim.Native.Nat.{ℕ, ◌+◌, ◌*◌, ◌-◌, ◌≤◌}
+use Prim.Native.Nat.{ℕ, ◌+◌, ◌*◌, ◌≤◌}
 use lib.ListN.{length}
 use Rattle.book.specs.Text.{book_in}
 use Rattle.book.proofs.Laws.Sized.{book_sized}
@@ -32,7 +32,7 @@ overflow_add-result c = omega (arith, (book_sized c.args.text.now).high, c.requi
 pub returns-then-same_bytes : goal.returns-then-same_bytes
 returns-then-same_bytes c =
     let here = coded_here c.requires c.args.row c.code_place-from.result c.loop-j.j c.args.code.now c.code_place-from.ensures (omega (arith, c.requires.count)) (sym c.same_bytes.ensures ∙ c.if-same_bytes.true) in
-    ap (λ (f : ℕ). f + c.loop-j.j) (c.narrow-first.ensures ∙ c.requires.first) ∙ sym (c.loop-j.invariant.1 ∙ here)
+    ap (λ (f : ℕ). f + c.loop-j.j) (c.from-first.ensures ∙ c.requires.first) ∙ sym (c.loop-j.invariant.1 ∙ here)
 
 pub loop-j-preserved : goal.loop-j-preserved
 loop-j-preserved c = (search rules, c.loop-j.invariant.1 ∙ coded_next c.requires c.args.row c.code_place-from.result c.loop-j.j c.args.code.now c.code_place-from.ensures (omega (arith, c.requires.count)) (sym c.same_bytes.ensures ∙ c.if-same_bytes.false))
