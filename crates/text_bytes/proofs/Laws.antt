@@ -4,6 +4,7 @@ pub mod Parts
 pub mod Starts
 pub mod Pieces
 pub mod Each
+pub mod Every
 pub mod Same
 pub mod Begins
 pub mod Blocks

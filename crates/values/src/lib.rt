@@ -4,7 +4,7 @@
 ghost use Rattle.std.specs.Prelude.{◌≡◌};
 ghost use Rattle.values.specs.Values.{are_digits, unsigned, unmarked, is_e, is_exponent, CutAt, is_text, is_whole, is_decimal, is_decimals, is_window, is_null};
 
-use text_bytes::{BAR, same_bytes, seek};
+use text_bytes::{BAR, cut_at, same_bytes, seek};
 use value_references::index::{byte_at, digits_end, is_digit};
 
 pub const MINUS: u8 = b'-';
@@ -161,21 +161,10 @@ pub fn is_decimal(s: &[u8]) -> bool
 }
 
 // Whether every piece between bars is a decimal. An empty piece is none.
-// Kept: from piece to piece by `seek`; `split` looks at one byte to a turn, the form that `seek` is faster than.
 pub fn is_decimals(s: &[u8]) -> bool
     ensures { result ≡ is_decimals s.now }
 {
-    let mut at = 0;
-    loop {
-        let e = seek(s, at, BAR);
-        if !is_decimal(&s[at..e]) {
-            return false;
-        }
-        if e == s.len() {
-            return true;
-        }
-        at = e + 1;
-    }
+    cut_at(s, BAR).all(|piece| is_decimal(piece))
 }
 
 // Whether it is two decimals with one bar between them.

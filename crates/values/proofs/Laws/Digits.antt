@@ -10,7 +10,6 @@ use borrow.Author.Tests.{eq-eqb, ne_eqb, eqb-true, lt-ltb, lt-leb, le-leb}
 use lib.Dec.{eqb, ltb}
 use lib.ListN.{length, take, drop, get_or}
 use lib.Seq.{take_all}
-use Rattle.std.specs.List.{list_all}
 use Rattle.text_bytes.specs.Bytes.{is_empty, all, split_on}
 use Rattle.text_bytes.specs.Places.{up_to}
 use Rattle.text_bytes.proofs.Laws.Pieces.{up_to_le, split_cut, split_last}
@@ -34,12 +33,6 @@ pub digits_some : (l : List ℕ) → (length l ≡ 0 → ⊥) → are_digits l �
 unfolding are_digits is_empty
 digits_some [] h = absurd (h refl)
 digits_some (x ∷ xs) h = refl
-
--- std's test of all bytes
-pub digits_all : (l : List ℕ) → list_all is_digit l ≡ all is_digit l
-unfolding all
-digits_all [] = refl
-digits_all (x ∷ xs) = rw (digits_all xs)
 
 -- a minus in front
 pub unsigned_none : (l : List ℕ) → length l ≡ 0 → l ≡ unsigned l

@@ -1,21 +1,18 @@
--- `values::is_decimals` meets its contract. The invariant: all pieces are decimals just where those from `at` on are. Assumes nothing.
-use mathlib.Core.Path.{refl, sym, ◌∙◌}
-use Prim.Native.Nat.{◌-◌}
-use native.Mathlib.Omega.{arith}
-use borrow.Author.Tests.{not-true, not-false}
+-- `values::is_decimals` meets its contract: the pieces between bars, each asked. Assumes nothing.
+use mathlib.Core.Path.{◌∙◌}
+use borrow.Author.Rules.{rules}
+use borrow.Author.Tests.{tests}
+use Rattle.std.proofs.lemmas.Iterator.Consumers.{YieldsList-from_first}
+use Rattle.std.proofs.lemmas.Iterator.Search.{all_from_yields_List}
+use Rattle.text_bytes.specs.Bytes.{BAR, split_on}
+use Rattle.text_bytes.specs.Pieces.{pieces_left}
+use Rattle.text_bytes.proofs.Laws.Every.{every_all}
 use Rattle.values.specs.Values.{is_decimal, is_decimals}
-use Rattle.text_bytes.proofs.Laws.Each.{each_good, each_bad, each_last}
 use Rattle.values.proofs.is_decimals.Goals as goal
 
-pub loop-at-init : goal.loop-at-init
+pub returns : goal.returns
 unfolding is_decimals
-loop-at-init c = (omega arith, refl)
-
-pub returns-then-not-is_decimal : goal.returns-then-not-is_decimal
-returns-then-not-is_decimal c = sym (c.loop-at.invariant.1 ∙ each_bad is_decimal c.seek-e.ensures (sym c.is_decimal.ensures ∙ not-true _ c.if-not-is_decimal.true-raw))
-
-pub returns-then-e-s : goal.returns-then-e-s
-returns-then-e-s c = sym (c.loop-at.invariant.1 ∙ each_last is_decimal c.seek-e.ensures c.if-e-s.true (sym c.is_decimal.ensures ∙ not-false _ c.if-not-is_decimal.false-raw))
-
-pub loop-at-preserved : goal.loop-at-preserved
-loop-at-preserved c = (omega arith, c.loop-at.invariant.1 ∙ each_good is_decimal c.seek-e.ensures (omega arith) (sym c.is_decimal.ensures ∙ not-false _ c.if-not-is_decimal.false-raw))
+returns c =
+    all_from_yields_List is_decimal _ _ c.all.result c.all.ensures.ran
+    (YieldsList-from_first (λ x. x.now) pieces_left (split_on BAR c.args.s.now) c.cut_at.ensures) (λ x b q k. search (rules, tests))
+    ∙ every_all is_decimal (split_on BAR c.args.s.now)
