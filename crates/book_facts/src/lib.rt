@@ -19,6 +19,7 @@ use text_bytes::{begins_with, same_bytes};
 use value_references::{FAMILIES, INDICES};
 
 // The first valid mode, C or S, the first valid type, I or Q, and the number of the first version line; 0 where there is none.
+// Kept: `FactsOf` says what the fields are by `mode_of`, `type_of` and `version_of`, which have 0 for none.
 #[derive(Clone, Copy)]
 pub struct Facts {
     pub mode: u8,
@@ -27,6 +28,7 @@ pub struct Facts {
 }
 
 // What decides whether something is asked of a file: the letters of its mode and type, 0 for none, and whether it declares an assay.
+// Kept: the definitions `asks` and `AskingOf` have 0 for none.
 #[derive(Clone, Copy)]
 pub struct Asking {
     pub mode: u8,

@@ -20,6 +20,7 @@ pub struct Id {
 }
 
 // The index that stands after the word at the front of the name, 0 for none.
+// Kept: the definition `index_after` has 0 for none, as `index_in` has.
 fn index_after(word: &[u8], name: &[u8]) -> usize
     ensures { result ≡ index_after word.now name.now }
 {

@@ -14,6 +14,7 @@ use value_references::{Named, read_reference, references};
 use values::{is_decimal, is_decimals, is_null, is_text, is_whole, is_window};
 
 // The number of the family that a letter stands for: 0 sample, 1 assay, 2 study variable, 3 run; 4 for none.
+// Kept: the definition `family_number` has 4 for none, and `word_of` and `ids_of` read past their lists there.
 pub fn family_number(family: u8) -> usize
     ensures { result ≡ family_number family }
 {

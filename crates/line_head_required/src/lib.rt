@@ -53,6 +53,7 @@ fn lacks_one(line: &[u8], from: usize, wanted: &[u8], asking: Asking) -> bool
 }
 
 // Whether one of the wanted columns, a line each with tabs between them, is asked and none of the cells from `from` on.
+// Kept: the loop goes from cell to cell by where each ends and counts nothing, so that a range is no plainer.
 fn lacks_any(line: &[u8], from: usize, wanted: &[u8], asking: Asking) -> bool
     requires from_in_bounds { from ≤ length line.now }
     requires wanted_value { all is_line (cells wanted.now) ≡ true }

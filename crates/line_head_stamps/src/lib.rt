@@ -4,7 +4,7 @@
 // it, and the processor need not wait for the name's bits before it looks there.
 #![tactic(auto)]
 
-ghost use Rattle.std.specs.Prelude.{◌≡◌, true, false, ◌+◌, ◌*◌, ◌/◌, ◌%◌, ◌^◌, ◌≤◌, ◌<◌, length, get_or};
+ghost use Rattle.std.specs.Prelude.{◌≡◌, true, false, ◌+◌, ◌*◌, ◌/◌, ◌%◌, ◌^◌, ◌≤◌, ◌<◌, length, get_or, MatchOption};
 ghost use Rattle.text_bytes.specs.Places.{part};
 ghost use Rattle.text.specs.Lines.{LIMIT};
 ghost use Rattle.line_head_stamps.specs.Stamps.{ROOM as room, SAME as same, IsDoor, BRANCHES as branches, hash_of, byte_code, side_of, covered, entered, forked};
@@ -109,6 +109,7 @@ fn nearby(stamps: &[u32], count: u32, from: usize, name: &[u8]) -> usize
 
 // A door further on the way of the name, from one that leads to a fork of the first `count` names: it ends the way, or holds something else than was guessed,
 // which is guessed from then on. While the guesses are right, what comes next is read from them, and the name's bits are only compared with it.
+// Kept: the loop follows what doors hold and counts nothing, so that a `for` has nothing to go over.
 fn further(stamps: &mut [u32], count: u32, from: usize, name: &[u8]) -> usize
     requires stamps_len { length stamps.old ≡ room }
     requires count_bound { (count ≤ 254) × (from < 12288) }
@@ -134,23 +135,24 @@ fn further(stamps: &mut [u32], count: u32, from: usize, name: &[u8]) -> usize
     }
 }
 
-// The door where the way of the name ends, which holds the number of an earlier name; 0 where there is none with its stamp, which stands at h.
-fn last_door(stamps: &mut [u32], line_no: u32, count: u32, h: usize, name: &[u8]) -> usize
+// The door where the way of the name ends, which holds the number of an earlier name, if there is one with its stamp, which stands at h.
+// Kept: the loop follows what doors hold and counts nothing, so that a `for` has nothing to go over.
+fn last_door(stamps: &mut [u32], line_no: u32, count: u32, h: usize, name: &[u8]) -> Option<usize>
     requires stamps_len { length stamps.old ≡ room }
     requires count_bound { (count ≤ 254) × (h < 4096) }
     requires doors { Doors stamps.old count }
     ensures guessed { Guessed stamps.old stamps.new }
-    ensures finds_door { FindsDoor stamps.new line_no count h name.now result }
+    ensures finds_door { MatchOption result (FindsDoor stamps.new line_no count h name.now 0) (λ door. (0 < door) × FindsDoor stamps.new line_no count h name.now door) }
 {
     let root = DOORS + h;
     if !is_live(stamps[h], line_no, stamps[root], count) {
-        return 0;
+        return None;
     }
     let mut door = nearby(stamps, count, root, name);
     while FORK <= stamps[door] {
         door = further(stamps, count, door, name);
     }
-    door
+    Some(door)
 }
 
 // The first place where the two differ, or the end of the shorter.
@@ -240,6 +242,7 @@ fn is_astray(stamps: &[u32], door: usize, other: &[u8]) -> bool
 }
 
 // The cell of the first name that is equal to the one from `at` up to `end`, of the first `count` of the line, which are noted; 0 for none. It is noted too.
+// Kept: the definitions `Adds` and `first_named` have 0 for none.
 pub fn came_before(
     stamps: &mut [u32],
     line_no: u32,
@@ -255,13 +258,12 @@ pub fn came_before(
 {
     let name = &line[at..end];
     let h = hash(name);
-    let door = last_door(stamps, line_no, count as u32, h, name);
-    if door == 0 {
+    let Some(door) = last_door(stamps, line_no, count as u32, h, name) else {
         enter(stamps, count, at, end);
         stamps[h] = line_no;
         stamps[DOORS + h] = count as u32;
         return 0;
-    }
+    };
     let held = stamps[door];
     let k = held as usize;
     let start = stamps[STARTS + k] as usize;

@@ -25,6 +25,7 @@ const UNKNOWN: u32 = 5;
 const AGAIN: u32 = 6;
 
 // The rule that a key breaks, the line where the key stands first if it comes again, and the rule that its value breaks; 0 for none.
+// Kept: `Judged` says what the fields are by definitions that have 0 for none.
 #[derive(Clone, Copy)]
 pub struct Judgement {
     pub key: u32,

@@ -1,4 +1,5 @@
 // The number of the rule that something breaks, 0 for none.
+// Kept: the definitions `flaw_rule`, `kind_rule` and `name_rule` have 0 for none, and `rule_at` puts nothing for 0, so that `Some(0)` would be none too.
 ghost use Rattle.std.specs.Prelude.{◌≡◌, cond};
 ghost use Rattle.scan.specs.Machine.{flaw_rule};
 

@@ -5,6 +5,7 @@ ghost use Rattle.scan.specs.Places.{CEILING, lent, Puts};
 ghost use Rattle.scan.specs.Machine.{again_at, rule_at};
 
 // What a judging function is told of a line beside its bytes: its number, and the cell of its first control byte, 0 for none.
+// Kept: the definitions `control_cell` and `control_at` have 0 for none, as a break has of its first place, which C reads.
 #[derive(Clone, Copy)]
 pub struct Tag {
     pub line: u32,

@@ -53,6 +53,7 @@ pub fn header_slot(section: u32) -> usize
 }
 
 // The line of the first: the one that was found, and this one where none was.
+// Kept: 0 is none in the lent list of first lines, by the definition `first_kept`.
 pub fn first_kept(first: u32, line: u32) -> u32
     ensures { result ≡ first_kept first true line }
 {

@@ -61,10 +61,13 @@ pub returns : goal.returns
 returns c =
     record {
       guessed = c.loop-stamps.invariant.0;
-      finds_door = record {
-        none = λ z. absurd (omega (arith, z, c.loop-stamps.invariant.3));
-        stamped = λ some. c.loop-stamps.invariant.0.kept _ (omega (arith, c.requires.count_bound.1)) ∙ (c.is_live.ensures.stamp_value (not-false c.is_live.result c.if-not-is_live.false-raw)).0;
-        way = λ some. c.loop-stamps.invariant.6 c.loop-stamps.door here;
-        ends = λ some. omega (arith, c.loop-stamps.invariant.5, c.loop-stamps-test.false);
-      };
+      finds_door = (
+        omega (arith, c.loop-stamps.invariant.3),
+        record {
+          none = λ z. absurd (omega (arith, z, c.loop-stamps.invariant.3));
+          stamped = λ some. c.loop-stamps.invariant.0.kept _ (omega (arith, c.requires.count_bound.1)) ∙ (c.is_live.ensures.stamp_value (not-false c.is_live.result c.if-not-is_live.false-raw)).0;
+          way = λ some. c.loop-stamps.invariant.6 c.loop-stamps.door here;
+          ends = λ some. omega (arith, c.loop-stamps.invariant.5, c.loop-stamps-test.false);
+        },
+      );
     }
