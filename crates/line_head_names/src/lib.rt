@@ -96,7 +96,8 @@ fn head_cell(
     name_cell(places, count, name, found, at, flags)
 }
 
-// The column names, from cell 2 on: their breaks are put, and their kinds kept for the rows, cell c's at place c - 1.
+// The column names, from cell 2 on: their breaks are put, and their kinds kept for the rows, cell c's at place c - 1, and there are no more
+// names than kinds.
 pub fn head_cells(
     places: &mut [u32],
     count: u32,
@@ -120,16 +121,14 @@ pub fn head_cells(
 {
     let tag = names.tag;
     let mut at = names.from;
-    let mut c: u32 = 2;
     let mut k = count;
     let mut opt = false;
-    // Kept: walks by the ends of cells, and the line ends it: a range over the cells would need their number, which is found by this walk alone.
-    loop {
+    for c in 2..MOST_CELLS + 1 {
         let e = cell_end(line, at);
-        let first = came_before(stamps, tag.line, line, (c - 2) as usize, at, e);
+        let first = came_before(stamps, tag.line, line, c - 2, at, e);
         let naming = Naming {
             tag,
-            cell: c,
+            cell: c as u32,
             first,
             opt,
         };
@@ -148,6 +147,6 @@ pub fn head_cells(
             return k;
         }
         at = e + 1;
-        c += 1;
     }
+    k
 }
