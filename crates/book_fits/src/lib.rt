@@ -1,16 +1,17 @@
 // Whether a name fits a row's pattern.
 #![tactic(auto)]
 
-ghost use Rattle.std.specs.Prelude.{◌≡◌, [], ◌≤◌, length, get_or, drop};
+ghost use Rattle.std.specs.Prelude.{◌≡◌, [], ◌≤◌, length, get_or, drop, MatchOption};
 ghost use Rattle.text_bytes.specs.Bytes.{SPACE as space};
 ghost use Rattle.book_names.specs.Names.{pieces, fits as fitsIn};
 ghost use Rattle.book_names.specs.Steps.{Place, flawed};
+ghost use Rattle.value_references.specs.declared.index.Flaw.TheVariants.{Form};
 
 use book_names::{Match, PLACE};
 use text_bytes::SPACE;
 use value_references::index::{Flaw, Index, read_index, sooner};
 
-// What stands where a pattern has a place: its bytes, 0 for no index; the index that is taken for it, 1 for a bad one; and its flaw, `Form` for none.
+// What stands where a pattern has a place: its bytes, the index that is taken for it, 1 for a bad one, and its flaw, `Form` for none.
 #[derive(Clone, Copy)]
 struct Bracket {
     width: usize,
@@ -18,28 +19,23 @@ struct Bracket {
     flaw: Flaw,
 }
 
-// What stands in the name from `b` on, where the pattern has a place.
-fn read_place(s: &[u8], b: usize) -> Bracket
+// What stands in the name from `b` on, where the pattern has a place; nothing where no index stands there.
+fn read_place(s: &[u8], b: usize) -> Option<Bracket>
     requires { b ≤ length s.now }
-    ensures { Place (drop b s.now) result.taken result.width result.flaw }
+    ensures { MatchOption result (Place (drop b s.now) 0 0 Form) (λ r. (1 ≤ r.width) × Place (drop b s.now) r.taken r.width r.flaw) }
 {
-    let found = read_index(&s[b..]);
-    match found {
-        Index::Not => Bracket {
-            width: 0,
-            taken: 0,
-            flaw: Flaw::Form,
-        },
-        Index::Bad(flaw, width) => Bracket {
+    match read_index(&s[b..]) {
+        Index::Not => None,
+        Index::Bad(flaw, width) => Some(Bracket {
             width,
             taken: 1,
             flaw,
-        },
-        Index::Is(taken, width) => Bracket {
+        }),
+        Index::Is(taken, width) => Some(Bracket {
             width,
             taken,
             flaw: Flaw::Form,
-        },
+        }),
     }
 }
 
@@ -73,15 +69,12 @@ pub fn fits(p: &[u8], from: usize, s: &[u8]) -> Match
             return ended(s, b, i, j, flaw);
         }
         if x == b'[' {
-            let read = read_place(s, b);
-            let width = read.width;
-            let bad = read.flaw;
-            if width == 0 {
+            let Some(read) = read_place(s, b) else {
                 return Match::Differs;
-            }
+            };
             a += PLACE;
-            b += width;
-            flaw = sooner(flaw, bad);
+            b += read.width;
+            flaw = sooner(flaw, read.flaw);
             if i == 0 {
                 i = read.taken;
             } else if j == 0 {

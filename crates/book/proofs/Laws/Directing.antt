@@ -14,7 +14,7 @@ use Rattle.text_bytes.proofs.Laws.Tests.{and_both}
 use Rattle.book_names.specs.Names.{lookup_in}
 use Rattle.book_names.specs.Table.{entries}
 use Rattle.book_names.specs.Links.{Linked}
-use Rattle.book.specs.Book.{Section, Book, no_section, is_section, section_of, code_for, code_in, coded_from, section_by, entries_of, column_entries}
+use Rattle.book.specs.Book.{Section, Book, no_section, is_section, section_of, code_for, code_in, coded_from, entries_of, column_entries}
 use Rattle.book.specs.Text.{rows_at, links_at, rows_of, code_at, IsDirectory, IsTable, IsText}
 
 -- A SECTION'S NUMBER
@@ -87,9 +87,6 @@ module _ {b : Book} {t : Bytes} (d : IsDirectory b t) (row : Bool) (from j : ℕ
   pub coded_next : same code (part (from + 12 * j) (from + 12 * j + 3) t) ≡ false
       → coded_from row (b.first + j) (drop j b.sections) code ≡ coded_from row (b.first + (j + 1)) (drop (j + 1) b.sections) code
   coded_next e = let n : b.first + j + 1 ≡ b.first + (j + 1) = omega arith in coded_split ∙ rw (e, n, add-one)
-
-pub coded_start : (b : Book) (row : Bool) (code : Bytes) → section_by b row code ≡ coded_from row (b.first + 0) (drop 0 b.sections) code
-coded_start b row code = let e : b.first ≡ b.first + 0 = omega arith in ap (λ (n : ℕ). coded_from row n b.sections code) e
 
 pub coded_none : (b : Book) (row : Bool) (j : ℕ) (code : Bytes) → length b.sections ≤ j → coded_from row (b.first + j) (drop j b.sections) code ≡ 0
 unfolding coded_from

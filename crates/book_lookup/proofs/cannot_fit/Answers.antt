@@ -2,15 +2,8 @@
 use borrow.Author.Rules.{rules}
 use mathlib.Core.Path.{sym, ◌∙◌}
 use borrow.Author.Tests.{not-true}
-use Rattle.text_bytes.proofs.Laws.Tests.{absurd_bool}
 use Rattle.book_names.proofs.Laws.Lasts.{no_end_differs}
 use Rattle.book_lookup.proofs.cannot_fit.Goals as goal
-
-pub returns-then-n-eq0 : goal.returns-then-n-eq0
-returns-then-n-eq0 c = λ h. absurd_bool h
-
-pub returns-then-extent : goal.returns-then-extent
-returns-then-extent c = λ h. absurd_bool h
 
 pub returns : goal.returns
 returns c = λ h. no_end_differs c.args.row.now c.args.name.now c.args.extent c.requires.extent_value (search rules) (search rules) (sym c.may_end.ensures ∙ not-true _ h)

@@ -9,6 +9,3 @@ pub returns-then-not-may_fit : goal.returns-then-not-may_fit
 returns-then-not-may_fit c =
     sym (may_other c.args.row.now 3 (search rules) c.args.name.now
     (rw (← c.requires.x_value, ← c.requires.y_value) (sym c.may_fit.ensures ∙ not-true _ c.if-not-may_fit.true-raw)))
-
-pub returns-then-cannot_fit : goal.returns-then-cannot_fit
-returns-then-cannot_fit c = sym (c.cannot_fit.ensures c.if-cannot_fit.true)

@@ -17,9 +17,6 @@ fitting t n at m e =
     let w : at + 54 - at ≡ 54 = omega arith in
     sym (e ∙ ap (λ (k : ℕ). fitsIn (pieces (drop 3 (take k (drop at t)))) n 0 0) w)
 
-pub bounds-links-from : goal.bounds-links-from
-bounds-links-from c = omega (arith, c.requires.size)
-
 pub loop-entry-init : goal.loop-entry-init
 loop-entry-init c = subst⁻¹ (Reached c.args.table.now c.args.name.now Form) c.from-entry.ensures (reached_first c.args.table.now c.args.name.now c.args.links.now c.requires c.from.result (omega arith) (c.from.ensures ∙ c.byte_of-x.ensures))
 
