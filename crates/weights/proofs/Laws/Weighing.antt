@@ -26,7 +26,7 @@ use Rattle.weight_counts.specs.Variables.{PROTEIN, WORD, abundance}
 use Rattle.weights.specs.Weights.{is_given, has_in, weight_of}
 use Rattle.weight_counts.specs.Counts.{adds, marks, lines_add}
 use Rattle.weight_marks.specs.Marks.{variable_of, Marked}
-use Rattle.weight_marks.specs.declared.Marks.{Marks}
+use Rattle.column_marks.specs.declared.Marks.{Marks}
 use Rattle.weight_marks.proofs.Laws.Columning.{none_named}
 use Rattle.weight_counts.proofs.Laws.Raising.{adds_none, adds_alike}
 
