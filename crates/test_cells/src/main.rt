@@ -45,7 +45,8 @@ fn ask(question: &[u8], file: &[u8]) {
     let row = short_at(question, second);
     let column = short_at(question, third);
     let view = cell(file, section, row, column);
-    io::print_decimal(1, view.err().map_or(0, |refusal| u64::from(refusal.number())));
+    let number = view.err().map_or(0, |refusal| refusal.number());
+    io::print_decimal(1, u64::from(number));
     show(view.unwrap_or(b""));
     show(cell_or(file, section, row, column, b"-").unwrap_or(b""));
     tell_reading(file, section, row, column);
