@@ -44,6 +44,9 @@ const NOWHERE: Place = Place {
     end: 0,
 };
 
+// A copy that is refused.
+const UNCOPIED: Copied = Copied { to: 0, count: 0 };
+
 // A reading that is refused.
 const UNREAD: Reading = Reading {
     line: 0,
@@ -83,7 +86,7 @@ pub extern "C" fn mztab_mend(
 ) -> usize
     ensures { mendedAs number.new result count.new copy.new changes.new ≡ mended file.now copy.old changes.old }
 {
-    let done = told(mend(file, copy, changes), Copied { to: 0, count: 0 }, number);
+    let done = told(mend(file, copy, changes), UNCOPIED, number);
     *count = done.count;
     done.to
 }

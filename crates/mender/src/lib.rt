@@ -103,6 +103,7 @@ fn mend_line(
 }
 
 // All lines, each with what ends it.
+// Kept: the new form is no plainer: a line and what ends it are two parts by the places that `line_at` tells, and the pieces that LF ends would be cut once more.
 fn mend_lines(copy: &mut [u8], changes: &mut [u32], book: &[u8], file: &[u8]) -> Copied
     requires book { IsBook book.now }
     requires file_len_bound { length file.now ≤ limit }

@@ -58,6 +58,7 @@ fn fill_cell(
 }
 
 // The cells of the row on line n from cell 2 on, which begins at `from`, with tabs between.
+// Kept: the new form is no plainer: a tab is laid behind every cell but the last, and an iterator over cells would have to be asked for the next one to tell it.
 fn fill_cells(
     copy: &mut [u8],
     changes: &mut [u32],

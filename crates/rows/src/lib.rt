@@ -24,6 +24,7 @@ pub struct Row {
 }
 
 // Of the lines whose cell 1 is the code, the one that has n before it.
+// Kept: the new form is no plainer: a row is told by its place, which over an iterator of the pieces that LF ends would be counted by hand as well.
 fn nth_coded(file: &[u8], code: &[u8], n: usize) -> Option<Row>
     requires { length file.now ≤ limit }
     ensures { FindsRow file.now (get_elem? (having code.now (numbered 1 (lines file.now))) n) result }
@@ -75,6 +76,7 @@ pub fn column_of(line: &[u8], column: u32) -> Option<Part>
 }
 
 // How many lines have the code as their cell 1.
+// Kept: the new form is no plainer: where a line ends, with the CR before its LF or without, is told by `line_at`, and the pieces that LF ends would be cut once more.
 fn count_coded(file: &[u8], code: &[u8]) -> u32
     requires { length file.now ≤ limit }
     ensures { result ≡ count (coded code.now) (lines file.now) }

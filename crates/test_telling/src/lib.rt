@@ -36,7 +36,9 @@ pub fn tell(value: Value) {
         Value::Missing => word(b"missing"),
         Value::Whole(n) => whole(n),
         Value::Decimal {
-            numerals, power, ..
+            numerals,
+            power,
+            ..
         } => decimal(numerals, power),
         Value::Infinite => word(b"infinite"),
         Value::NotANumber => word(b"nan"),
