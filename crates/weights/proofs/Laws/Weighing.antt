@@ -27,7 +27,6 @@ use Rattle.weights.specs.Weights.{is_given, has_in, weight_of}
 use Rattle.weight_counts.specs.Counts.{adds, marks, lines_add}
 use Rattle.weight_marks.specs.Marks.{variable_of, Marked}
 use Rattle.column_marks.specs.declared.Marks.{Marks}
-use Rattle.weight_marks.proofs.Laws.Columning.{none_named}
 use Rattle.weight_counts.proofs.Laws.Raising.{adds_none, adds_alike}
 
 -- a header that an accepted file has: at most 256 cells, no two columns of one name, and its first cell is the name of none
@@ -39,6 +38,10 @@ record Sound (header : Bytes) : Type 0 where
 sound_none : Sound []
 unfolding split_on
 sound_none = record { narrow = omega arith; apart = λ a b la ab bw e. omega arith; first = none_named }
+
+none_named : variable_of [] ≡ 0
+unfolding variable_of ref_to ref_in begins bytes
+none_named = refl
 
 code_unnamed : variable_of (header_code mz_tab PROTEIN) ≡ 0
 unfolding variable_of ref_to ref_in begins bytes mz_tab is_section section_of
