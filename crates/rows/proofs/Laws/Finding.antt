@@ -58,21 +58,13 @@ pub start_first : (f : Bytes) → 0 ≡ after LF (1 - 1) f
 unfolding after
 start_first f = refl
 
--- a row that a function answered is the one that is meant, and no row is none
+-- where a function answered no row there is none
 module _ (s : Bytes) (o : Option Line) where
-  pub row_found_lem : (a : Answer Row) (r : Row) → a ≡ Some r → FindsRow s o a
-      → (r.start ≤ r.end) × (r.end ≤ length s) × (r.start ≡ after LF (r.line - 1) s) × (o ≡ some (line_of r.line (part r.start r.end s)))
-  row_found_lem a r q h = subst (λ (x : Answer Row). FindsRow s o x) q h
-
   pub row_missing : (a : Answer Row) → a ≡ None → FindsRow s o a → o ≡ none
   row_missing a q h = subst (λ (x : Answer Row). FindsRow s o x) q h
 
 -- and so of a column
 module _ (line : Bytes) (column : ℕ) where
-  pub column_found_lem : (a : Answer Part) (p : Part) → a ≡ Some p → FindsColumn line column a
-      → (p.start ≤ p.end) × (p.end ≤ length line) × (p.start ≡ after TAB column line) × (cell_at line column ≡ some (part p.start p.end line))
-  column_found_lem a p q h = subst (λ (x : Answer Part). FindsColumn line column x) q h
-
   pub column_missing : (a : Answer Part) → a ≡ None → FindsColumn line column a → cell_at line column ≡ none
   column_missing a q h = subst (λ (x : Answer Part). FindsColumn line column x) q h
 
