@@ -35,13 +35,13 @@ record Sound (header : Bytes) : Type 0 where
   apart : (a b : ℕ) → 1 ≤ a → a < b → b < length (cells header) → get_or (cells header) b [] ≡ get_or (cells header) a [] → ⊥
   first : variable_of (get_or (cells header) 0 []) ≡ 0
 
-sound_none : Sound []
-unfolding split_on
-sound_none = record { narrow = omega arith; apart = λ a b la ab bw e. omega arith; first = none_named }
-
 none_named : variable_of [] ≡ 0
 unfolding variable_of ref_to ref_in begins bytes
 none_named = refl
+
+sound_none : Sound []
+unfolding split_on
+sound_none = record { narrow = omega arith; apart = λ a b la ab bw e. omega arith; first = none_named }
 
 code_unnamed : variable_of (header_code mz_tab PROTEIN) ≡ 0
 unfolding variable_of ref_to ref_in begins bytes mz_tab is_section section_of
