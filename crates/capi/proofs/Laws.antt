@@ -19,8 +19,8 @@ use Rattle.mztab.specs.declared.records.Reading.{Reading}
 use Rattle.capi.specs.Answers.{CellAt, CellOrAt, ReadAs}
 
 -- what a host is told of a place
-pub told_placed : {file : Bytes} {s : Sought} {r : Result Place Refusal} {n : ℕ} {p : Place} → Placed file s (number_in r) (answer_or nowhere r) → n ≡ number_in r → p ≡ answer_or nowhere r → Placed file s n p
-told_placed h e d = rw (e, d) h
+pub told_placed : {file : Bytes} {s : Sought} {n : ℕ} {p : Place} (r : Result Place Refusal) → Placed file s (number_in r) (answer_or nowhere r) → n ≡ number_in r → p ≡ answer_or nowhere r → Placed file s n p
+told_placed r h e d = rw (e, d) h
 
 pub placed_at : {file : Bytes} {s : Sought} {n : ℕ} {p : Place} → Placed file s n p → CellAt file s n p.start (p.end - p.start)
 placed_at {file} {s} {n} {p} h = record {

@@ -7,11 +7,11 @@ use Rattle.capi.proofs.mztab_cell_or.Goals as goal
 pub returns-then-same_bytes : goal.returns-then-same_bytes
 unfolding bytes
 returns-then-same_bytes c =
-    let placed = told_placed c.locate.ensures c.told-place.ensures.number_value c.told-place.ensures.answer_value in
+    let placed = told_placed c.locate.result c.locate.ensures c.told-place.ensures.number_value c.told-place.ensures.answer_value in
     stood_in placed placed.views (sym c.same_bytes.ensures ∙ c.if-same_bytes.true)
 
 pub returns : goal.returns
 unfolding bytes
 returns c =
-    let placed = told_placed c.locate.ensures c.told-place.ensures.number_value c.told-place.ensures.answer_value in
+    let placed = told_placed c.locate.result c.locate.ensures c.told-place.ensures.number_value c.told-place.ensures.answer_value in
     stood_out placed placed.views (sym c.same_bytes.ensures ∙ c.if-same_bytes.false)
