@@ -16,6 +16,7 @@ use value_references::reference;
 const PROTEIN: u32 = 1;
 
 // What a column is marked with: its study variable, or its counter.
+// Kept: `marks_of` over an `impl Fn(&[u8]) -> u8` was tried and proves, but at a call of it the check stops at a bug of its own.
 #[derive(Clone, Copy)]
 pub enum Asked {
     Variables,
@@ -23,6 +24,7 @@ pub enum Asked {
 }
 
 // The counters, as marks.
+// Kept: a header's marks are one byte each, 0 for none, and the definitions say them as numbers (`column_marks/specs/Marks.antt: counter_of, IsMarks`).
 pub const PSMS: u8 = 1;
 
 pub const DISTINCT: u8 = 2;

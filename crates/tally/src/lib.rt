@@ -9,6 +9,7 @@ ghost use Rattle.tally.specs.Steps.{Summed};
 use numbers::Refusal;
 
 // How many PSMs.
+// Kept: three types, so that no counter is added to another; one type over a kind would need a marker and a field for each.
 #[derive(Clone, Copy)]
 pub struct Psms(pub u64);
 

@@ -18,6 +18,7 @@ struct Digits {
 }
 
 // What a cell counts, whether it is missing and whether it is below zero, 1 for yes; and where it ends.
+// Kept: numbers, since each is added to a sum as it is.
 #[derive(Clone, Copy)]
 pub struct Counted {
     pub end: usize,

@@ -15,6 +15,7 @@ use text::lines::line_at;
 use text_bytes::same_bytes;
 
 // The sections of rows, as numbers; 0 for a line that is no row.
+// Kept: what a row adds is said by these numbers (`tally_rows/specs/Counts.antt: row_section, section_adds`).
 const PROTEIN: u8 = 1;
 
 const PEPTIDE: u8 = 2;
@@ -153,6 +154,7 @@ pub fn found_in(file: &[u8], marks: &[u8; MOST_CELLS], width: usize) -> Found
     let tally = nothing();
     let mut found = Found { tally, below: 0 };
     let mut at = 0;
+    // Kept: goes from line to line by where the next begins, and counts nothing.
     while at < file.len() {
         let line = line_at(file, at);
         let end = line.end;

@@ -60,6 +60,7 @@ pub fn count_lines(weights: &mut [u32], file: &[u8], marks: &[u8; MOST_CELLS], w
     ensures { Raises (λ i. lines_add marks.now i (lines file.now)) weights.old weights.new }
 {
     let mut at = 0;
+    // Kept: goes from line to line by where the next begins, and counts nothing.
     while at < file.len() {
         let line = line_at(file, at);
         let end = line.end;

@@ -5,7 +5,7 @@ use Rattle.text.specs.Lines.{cells}
 use Rattle.value_references.specs.References.{ref_to}
 use Rattle.weight_counts.specs.Variables.{WORD}
 use Rattle.weight_counts.specs.Counts.{COLUMNS, IsMarks}
-use Rattle.weight_marks.specs.declared.Marks.{Marks}
+use Rattle.column_marks.specs.declared.Marks.{Marks}
 
 -- the study variable of a column name; 0 where it has none
 unfoldable pub variable_of : Bytes → ℕ

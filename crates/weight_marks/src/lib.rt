@@ -1,70 +1,18 @@
-// The study variable of each column of a file's first protein header.
+// The study variable of each column of a file's first protein header, as the walk for weights asks for it.
 #![tactic(auto)]
 
-ghost use Rattle.std.specs.Prelude.{◌≡◌, cond, ◌+◌, ◌≤◌, ◌<◌, eqb, length};
+ghost use Rattle.std.specs.Prelude.{◌≤◌, length};
 ghost use Rattle.text.specs.Lines.{LIMIT as limit};
 ghost use Rattle.rows.specs.Rows.{header_of};
 ghost use Rattle.weight_counts.specs.Variables.{PROTEIN as protein};
-ghost use Rattle.weight_marks.specs.Marks.{variable_of, Marked};
+ghost use Rattle.weight_marks.specs.Marks.{Marked};
 
-use rows::row_of;
-use scan::state::MOST_CELLS;
-use text::cells::cell_end;
-use value_references::reference;
+use column_marks::{Asked, Marks};
 
-// The section of the rows that are counted.
-const PROTEIN: u32 = 1;
-
-// The study variable of each cell of a header, 0 for none, and after which cell there is none more.
-#[derive(Clone, Copy)]
-pub struct Marks {
-    pub of: [u8; MOST_CELLS],
-    pub width: usize,
-}
-
-// The study variable whose abundance a column has, by its name; 0 for any other column.
-fn variable_of(name: &[u8]) -> u8
-    ensures { result ≡ variable_of name.now }
-{
-    let i = reference(b"protein_abundance_study_variable", name);
-    i as u8
-}
-
-// How many cells hold all marks, where cell k has this one and those before it need `width`.
-fn widened(width: usize, k: usize, mark: u8) -> usize
-    requires { k < 256 }
-    ensures { result ≡ cond (eqb mark 0) width (k + 1) }
-{
-    if mark == 0 { width } else { k + 1 }
-}
-
-// The marks of a header's cells; cells past the 256th have none.
-fn marks_in(header: &[u8]) -> Marks
-    ensures { Marked header.now result }
-{
-    let mut of = [0u8; MOST_CELLS];
-    let mut width = 0;
-    let mut at = 0;
-    for k in 0..MOST_CELLS {
-        let e = cell_end(header, at);
-        let mark = variable_of(&header[at..e]);
-        of[k] = mark;
-        width = widened(width, k, mark);
-        if e == header.len() {
-            return Marks { of, width };
-        }
-        at = e + 1;
-    }
-    Marks { of, width }
-}
-
-// The marks of the first protein header; none where there is no header.
+// The marks of the first protein header, each column's its study variable; none where there is no header.
 pub fn marks_of(file: &[u8]) -> Marks
     requires { length file.now ≤ limit }
     ensures { Marked (header_of file.now protein) result }
 {
-    let Some(header) = row_of(file, PROTEIN, 0) else {
-        return marks_in(b"");
-    };
-    marks_in(&file[header.start..header.end])
+    column_marks::marks_of(file, Asked::Variables)
 }

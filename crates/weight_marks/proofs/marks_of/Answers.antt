@@ -1,3 +1,4 @@
+<<<<<<< HEAD
 -- `weight_marks::marks_of` meets its contract: the first protein header, or the empty text where there is none. Assumes nothing.
 use mathlib.Core.Path.{◌≡◌, sym, ap, subst}
 use mathlib.Core.Option.{some}
@@ -23,3 +24,17 @@ returns-in_default c = subst (λ (x : Bytes). Marked x c.marks_in.result) (sym (
 
 pub returns : goal.returns
 returns c = subst (λ (x : Bytes). Marked x c.marks_in-2.result) (sym (ap text_of c.in-Some.ensures.3)) c.marks_in-2.ensures
+=======
+-- `weight_marks::marks_of` meets its contract: the study variable of a column is the same here as there. Assumes nothing.
+use Rattle.column_marks.specs.Marks.{variable_of as column_variable}
+use Rattle.weight_marks.specs.Marks.{variable_of}
+use Rattle.weight_marks.proofs.marks_of.Goals as goal
+
+pub returns : goal.returns
+unfolding variable_of column_variable
+returns c =
+    record {
+      good = record { long = c.marks_of.ensures.good.long; inside = c.marks_of.ensures.good.inside; low = c.marks_of.ensures.good.low; none = c.marks_of.ensures.good.none };
+      says = c.marks_of.ensures.says;
+    }
+>>>>>>> aed5b398c2fffa7f7ab8c23e6e57f1843e4c5d22

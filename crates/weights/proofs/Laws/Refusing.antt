@@ -21,7 +21,7 @@ use Rattle.weight_counts.specs.Variables.{PROTEIN, VARIABLES}
 use Rattle.weights.specs.Weights.{weight_of, weights_of, refusal, outcome, weighed}
 use Rattle.weight_counts.specs.Counts.{lines_add, Room, Raises}
 use Rattle.weight_marks.specs.Marks.{Marked}
-use Rattle.weight_marks.specs.declared.Marks.{Marks}
+use Rattle.column_marks.specs.declared.Marks.{Marks}
 use Rattle.weights.proofs.Laws.Weighing.{weighed_lines, weight_most}
 
 -- what the number of a judging call says of the file's length

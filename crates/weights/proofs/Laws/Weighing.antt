@@ -26,8 +26,7 @@ use Rattle.weight_counts.specs.Variables.{PROTEIN, WORD, abundance}
 use Rattle.weights.specs.Weights.{is_given, has_in, weight_of}
 use Rattle.weight_counts.specs.Counts.{adds, marks, lines_add}
 use Rattle.weight_marks.specs.Marks.{variable_of, Marked}
-use Rattle.weight_marks.specs.declared.Marks.{Marks}
-use Rattle.weight_marks.proofs.Laws.Columning.{none_named}
+use Rattle.column_marks.specs.declared.Marks.{Marks}
 use Rattle.weight_counts.proofs.Laws.Raising.{adds_none, adds_alike}
 
 -- a header that an accepted file has: at most 256 cells, no two columns of one name, and its first cell is the name of none
@@ -35,6 +34,10 @@ record Sound (header : Bytes) : Type 0 where
   narrow : length (cells header) ≤ 256
   apart : (a b : ℕ) → 1 ≤ a → a < b → b < length (cells header) → get_or (cells header) b [] ≡ get_or (cells header) a [] → ⊥
   first : variable_of (get_or (cells header) 0 []) ≡ 0
+
+none_named : variable_of [] ≡ 0
+unfolding variable_of ref_to ref_in begins bytes
+none_named = refl
 
 sound_none : Sound []
 unfolding split_on

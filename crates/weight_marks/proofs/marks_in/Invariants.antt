@@ -1,8 +1,0 @@
--- `weight_marks::marks_in` meets its contract. The invariant: the cells before k are marked, and the cells from `at` on are left. Assumes nothing.
-use Prim.Native.Nat.{◌≤◌}
-use lib.ListN.{length}
-use Rattle.weight_marks.proofs.Laws.Columning.{SoFar}
-use Rattle.weight_marks.proofs.marks_in.Given as goal
-
-abbrev pub invariant-loop-k : goal.invariant-loop-k
-invariant-loop-k l = (l.at ≤ length l.header) × SoFar l.header l.at l.k l.width l.of
