@@ -3,6 +3,8 @@
 // Then the copy and one byte behind it, of the small buffer all bytes: each was `#` before. A line '.' ends the file.
 #![tactic(auto)]
 
+ghost use Rattle.std.specs.Prelude.{◌≤◌};
+
 use mender::mend;
 use mender_places::Copied;
 use test_places::{print_next, print_places};
@@ -19,7 +21,9 @@ fn print_front(buffer: &[u8], n: usize) {
 }
 
 // Mends a file into a buffer of so many bytes, and prints what the call says and lists, and of the buffer the copy, or all.
-fn run<const ROOM: usize>(file: &[u8], all: bool) {
+fn run<const ROOM: usize>(file: &[u8], all: bool)
+    requires { ROOM ≤ 4096 }
+{
     let mut copy = [b'#'; ROOM];
     let mut places = [9u32; PLACES];
     let answer = mend(file, &mut copy, &mut places);
