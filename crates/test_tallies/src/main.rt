@@ -6,7 +6,6 @@ use numbers::told;
 use tally::{Tally, add, nothing, to_places};
 use tally_files::tally;
 use tally_records::{RECORD, read, write};
-use text_bytes::seek;
 
 const FILE_END: u8 = 30;
 
@@ -54,15 +53,8 @@ fn run(file: &[u8]) {
 
 // Runs all files of a table, in order.
 fn run_all(table: &[u8]) {
-    let mut at = 0;
-    // Kept: goes from file to file by where the last one ends, and counts nothing.
-    while at < table.len() {
-        let e = seek(table, at, FILE_END);
-        run(&table[at..e]);
-        if e == table.len() {
-            return;
-        }
-        at = e + 1;
+    for part in table.split_inclusive(|b| *b == FILE_END) {
+        run(part.strip_suffix(&[FILE_END]).unwrap_or(part));
     }
 }
 

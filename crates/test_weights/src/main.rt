@@ -8,7 +8,6 @@ ghost use Rattle.std.specs.Prelude.{◌≤◌};
 use numbers::told;
 use rows::rows;
 use test_places::{print_next, print_places};
-use text_bytes::seek;
 use weights::weights;
 
 const FILE_END: u8 = 30;
@@ -21,7 +20,7 @@ fn run_rows(file: &[u8]) {
     io::write_all(1, b"rows");
     for section in 0..6 {
         let mut number: u32 = 9;
-        let n = rows(file, section, &mut number);
+        let n = told(rows(file, section), 0, &mut number);
         print_next(number);
         print_next(n);
     }
@@ -47,20 +46,13 @@ fn run_weights(file: &[u8], n: usize)
 
 // Runs all files of a table, in order.
 fn run_all(table: &[u8]) {
-    let mut at = 0;
-    // Kept: goes from file to file by where the last one ends, and counts nothing.
-    while at < table.len() {
-        let e = seek(table, at, FILE_END);
-        let file = &table[at..e];
+    for part in table.split_inclusive(|b| *b == FILE_END) {
+        let file = part.strip_suffix(&[FILE_END]).unwrap_or(part);
         run_rows(file);
         run_weights(file, 64);
         run_weights(file, 63);
         run_weights(file, 65);
         io::write_all(1, b".\n");
-        if e == table.len() {
-            return;
-        }
-        at = e + 1;
     }
 }
 
