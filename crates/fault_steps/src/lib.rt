@@ -3,7 +3,7 @@
 
 ghost use Rattle.std.specs.Prelude.{◌≡◌, true, length, replicate, IfOk};
 ghost use Rattle.numbers.specs.Refusals.{number_in};
-ghost use Rattle.scan.specs.Machine.{FIRSTS as All-firsts};
+ghost use Rattle.scan.specs.Machine.{FIRSTS as all_firsts};
 ghost use Rattle.book.specs.Text.{IsBook};
 ghost use Rattle.judging.specs.Calls.{length_number};
 ghost use Rattle.fault_steps.specs.Steps.{PLACES, Between, Moves};
@@ -45,7 +45,7 @@ pub struct Progress {
 pub fn begin(book: &[u8], file: &[u8], cap: usize) -> Result<Progress, Refusal>
     requires { IsBook book.now }
     ensures number { number_in result ≡ length_number file.now }
-    ensures between { IfOk result (λ s. Between file.now s (replicate All-firsts 0)) }
+    ensures between { IfOk result (λ s. Between file.now s (replicate all_firsts 0)) }
     ensures cap_value { IfOk result (λ s. (s.cap ≡ cap) × (s.count ≡ 0)) }
 {
     let carried = judging::calls::begin(book, file)?;

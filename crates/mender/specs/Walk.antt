@@ -44,7 +44,7 @@ width_after (Row s) w v = w
 
 -- what is carried of the lines above: the section, the number of cells and the kinds of the nearest header
 pub record Heads (b : Book) (above : List Bytes) (section w : ℕ) (kinds : List ℕ) : Type 0 where
-  pub section_of_lem : section ≡ header b (nearest b above)
+  pub its_section : section ≡ header b (nearest b above)
   pub width_of : w ≡ width (nearest b above)
   pub columns : Kinds b (nearest b above) kinds
 

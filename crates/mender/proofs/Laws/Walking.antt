@@ -49,7 +49,7 @@ module _ (b : Book) (sized : Sized b) (above : List Bytes) (l : Bytes) (file : L
 
   module _ (s : ℕ) (e : sort_of b l ≡ Row s) where
     even : (is_under b p && is_as_wide b p) ≡ is_even h w s (cells l)
-    even = rw (e, lt-ltb 0 s (row_section_lem b sized l s e).0, not_over b sized (width (nearest b above)), ← hd.section_of_lem, ← hd.width_of)
+    even = rw (e, lt-ltb 0 s (row_section_lem b sized l s e).0, not_over b sized (width (nearest b above)), ← hd.its_section, ← hd.width_of)
 
     -- a row that is not judged by its cells
     uneven_fills : is_even h w s (cells l) ≡ false → (c : ℕ) (x : Bytes) → fills_at b p c x ≡ false
@@ -64,7 +64,7 @@ module _ (b : Book) (sized : Sized b) (above : List Bytes) (l : Bytes) (file : L
         let r = and_both (eqb h s) (leb w 256) q.0 in
         let j : suc (c - 1) ≡ c = omega arith in
         let z : suc (c - 1) - 1 ≡ c - 1 = omega arith in
-        let section : s ≡ header b (nearest b above) = sym (eqb-true h s r.0) ∙ hd.section_of_lem in
+        let section : s ≡ header b (nearest b above) = sym (eqb-true h s r.0) ∙ hd.its_section in
         let at : cell c (nearest b above) ≡ get_or (cells (nearest b above)) (c - 1) [] = rw j at (cell_suc b sized (c - 1) (nearest b above)) in
         let kind : column_kind b p c ≡ get_or kinds (c - 1) 0 =
         rw (e, at, section) (rw z at (kind_at b sized (nearest b above) kinds (c - 1) (omega arith) (omega (arith, hd.width_of)) (omega (arith, hd.width_of, leb-true w 256 r.1)) hd.columns)) in
@@ -149,17 +149,17 @@ module _ (b : Book) (sized : Sized b) (above : List Bytes) (l : Bytes) (file : L
   heads_next {h'} {w'} {kinds'} q =
       let e = nearest_append b above l [] in
       record {
-        section_of_lem = q.section_next ∙ section (sort_of b l) refl ∙ ap (header b) (sym e);
+        its_section = q.section_next ∙ section (sort_of b l) refl ∙ ap (header b) (sym e);
         width_of = q.width_next ∙ cells_of (sort_of b l) refl ∙ ap width (sym e);
         columns = subst (λ (x : Bytes). Kinds b x kinds') (sym e) (q.columns_after (nearest b above) hd.columns);
       }
     where
       section : (σ : Sort) → sort_of b l ≡ σ → section_after σ h ≡ header b (nearer b l (nearest b above))
-      section Silent e = rw e hd.section_of_lem
-      section Unknown e = rw e hd.section_of_lem
-      section Meta e = rw e hd.section_of_lem
+      section Silent e = rw e hd.its_section
+      section Unknown e = rw e hd.its_section
+      section Meta e = rw e hd.its_section
       section (Header s) e = rw (e, lt-ltb 0 s (header_section b sized l s e).0, e)
-      section (Row s) e = rw e hd.section_of_lem
+      section (Row s) e = rw e hd.its_section
 
       cells_of : (σ : Sort) → sort_of b l ≡ σ → width_after σ w (length (cells l)) ≡ width (nearer b l (nearest b above))
       cells_of Silent e = rw e hd.width_of
@@ -171,7 +171,7 @@ module _ (b : Book) (sized : Sized b) (above : List Bytes) (l : Bytes) (file : L
 -- before the first line there is none
 pub heads_start : (b : Book) (kinds : List ℕ) → Heads b [] 0 1 kinds
 unfolding nearest_in sort_of is_empty split_on
-heads_start b kinds = record { section_of_lem = refl; width_of = refl; columns = λ w i lt. absurd (not-suc-le-zero lt) }
+heads_start b kinds = record { its_section = refl; width_of = refl; columns = λ w i lt. absurd (not-suc-le-zero lt) }
 
 -- FROM LINE TO LINE
 
