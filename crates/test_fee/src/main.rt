@@ -59,14 +59,15 @@ fn print_places(places: &[u64]) {
     }
 }
 
-// A list of 64 amounts, each 7 before, as the split over `Cents` leaves it, and the number that it writes.
-fn listed(fee: Cents, weights: &[u32], number: &mut u32) -> [Cents; 64]
-    ensures value { result ≡ (split_of cents fee.0 weights.now (replicate 64 (record { 0 = 7 }))).shares }
-    ensures number_after { number.new ≡ (split_of cents fee.0 weights.now (replicate 64 (record { 0 = 7 }))).number }
+// A list of 64 amounts, each 7 before, as the split over `Cents` leaves it, and the number that a host is told.
+fn listed(fee: Cents, weights: &[u32]) -> ([Cents; 64], u32)
+    ensures value { result.0 ≡ (split_of cents fee.0 weights.now (replicate 64 (record { 0 = 7 }))).shares }
+    ensures number_value { result.1 ≡ (split_of cents fee.0 weights.now (replicate 64 (record { 0 = 7 }))).number }
 {
     let mut list = [Cents(7); 64];
-    told(fee.split(weights, &mut list), (), number);
-    list
+    let mut number: u32 = 9;
+    told(fee.split(weights, &mut list), (), &mut number);
+    (list, number)
 }
 
 // Whether the places hold the amounts of the list.
@@ -78,8 +79,7 @@ fn same_amounts(list: &[Cents; 64], places: &[u64]) -> bool {
 
 // Says so where the split over `Cents` gives another number, or leaves another amount.
 fn compare(fee: u64, weights: &[u32], places: &[u64], number: u32) {
-    let mut other: u32 = 9;
-    let list = listed(Cents(fee), weights, &mut other);
+    let (list, other) = listed(Cents(fee), weights);
     if (other != number) | !same_amounts(&list, places) {
         io::write_all(1, b" DIFFERENT");
     }
