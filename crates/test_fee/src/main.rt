@@ -130,7 +130,6 @@ fn run_line(line: &[u8]) {
 // Runs all lines of a table, in order.
 fn run_all(table: &[u8]) {
     let mut at = 0;
-    // Kept: goes from line to line by where the next begins, and counts nothing.
     while at < table.len() {
         let line = line_at(table, at);
         let end = line.end;
