@@ -1,6 +1,6 @@
 -- A tally and the sum of two: paper 02, request 2026-09. Assumes nothing.
-use Rattle.std.specs.Prelude.{ℕ, ◌+◌, ◌^◌, ◌≡◌, Bool, false, cond, ◌||◌, List, [], ◌∷◌, get_or, eqb, leb}
-use Rattle.std.proofs.Common.{sym, ap, ◌∙◌}
+use Rattle.std.specs.Prelude.{ℕ, ◌+◌, ◌^◌, ◌≡◌, Bool, false, cond, ◌||◌, List, [], ◌∷◌, get_or, eqb, leb, refl, Option, Some, None, MatchOption, is_none, option_map}
+use Rattle.std.proofs.Common.{sym, ap, ◌∙◌, true≢false}
 use Rattle.numbers.specs.Numbers.{PAST_64_BITS}
 use Rattle.text_bytes.specs.Bytes.{any}
 use Rattle.tally.specs.declared.Tally.{Tally}
@@ -77,6 +77,14 @@ added a b =
 -- NO SECOND OUTCOME FITS: of a counter's sum, of any call that answers a tally, in places too, of the sum of two
 pub counter_once : (a b : ℕ) (past : Bool) {n m : ℕ} {p q : Bool} → (n ≡ sum_of a b) × (p ≡ (past || is_past (a + b))) → (m ≡ sum_of a b) × (q ≡ (past || is_past (a + b))) → (n ≡ m) × (p ≡ q)
 counter_once a b past x y = (x.0 ∙ sym y.0, x.1 ∙ sym y.1)
+
+-- the same of a counter's sum as the calls answer it, none where it is past: both are none, or both hold one number
+pub counter_told : {A : Type 0} (held : A → ℕ) (a b : ℕ) (r s : Option A) → MatchOption r (sum_of a b ≡ 0) (λ x. held x ≡ sum_of a b) × (is_none r ≡ is_past (a + b))
+    → MatchOption s (sum_of a b ≡ 0) (λ x. held x ≡ sum_of a b) × (is_none s ≡ is_past (a + b)) → option_map held r ≡ option_map held s
+counter_told held a b None None p q = refl
+counter_told held a b None (Some y) p q = absurd (true≢false (p.1 ∙ sym q.1))
+counter_told held a b (Some x) None p q = absurd (true≢false (q.1 ∙ sym p.1))
+counter_told held a b (Some x) (Some y) p q = ap Some (p.0 ∙ sym q.0)
 
 pub outcome_once : {o : Outcome} {n m : ℕ} {s t : Tally} → outcome n s ≡ o → outcome m t ≡ o → (n ≡ m) × (s ≡ t)
 outcome_once p q = (ap (λ (x : Outcome). x.number) (p ∙ sym q), ap (λ (x : Outcome). x.tally) (p ∙ sym q))

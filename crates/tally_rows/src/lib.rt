@@ -154,7 +154,6 @@ pub fn found_in(file: &[u8], marks: &[u8; MOST_CELLS], width: usize) -> Found
     let tally = nothing();
     let mut found = Found { tally, below: 0 };
     let mut at = 0;
-    // Kept: goes from line to line by where the next begins, and counts nothing.
     while at < file.len() {
         let line = line_at(file, at);
         let end = line.end;

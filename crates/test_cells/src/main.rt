@@ -54,7 +54,6 @@ fn ask(question: &[u8], file: &[u8]) {
 }
 
 // Where the file of a case begins: after the line '.', or at the end where there is none.
-// Kept: the new form is no plainer: the answer is a place, which over the pieces that LF ends would be counted by hand as well.
 fn file_start(case: &[u8]) -> usize
     ensures { result ≤ length case.now }
 {
