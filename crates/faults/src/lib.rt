@@ -49,9 +49,9 @@ pub fn judge(file: &[u8], faults: &mut [Fault]) -> Result<u32, Refusal>
     ensures { outcome (number_in result) (answer_or 0 result) faults.new ≡ judged file.now faults.old }
 {
     let rows = book();
+    let mut s = begin(&rows, file, faults.len())?;
     let mut slots = [0u32; FIRSTS];
     let mut places = [0u32; PLACES];
-    let mut s = begin(&rows, file, faults.len())?;
     while s.more {
         s = next(&rows, file, s, &mut slots, &mut places);
         copy_out(&places, faults, s.from, s.fit);
